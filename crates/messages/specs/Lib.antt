@@ -1,0 +1,8 @@
+-- What document 01 says of a message. A reader has to believe these files; they are in the order in which one needs the other.
+pub mod Reading
+pub mod Objects
+pub mod Fields
+pub mod Message
+pub mod Writing
+pub mod Shortest
+pub mod Grammar

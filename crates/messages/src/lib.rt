@@ -1,0 +1,29 @@
+// The types that the definitions of a message and the code that reads one both name. The definitions stand in specs/, their laws
+// in proofs/; the code stands in crate zvt.
+
+// A byte of the message, counted from 0 at its start. A refusal of a header names none.
+pub enum Place {
+    Nowhere,
+    At(usize),
+}
+
+// Why bytes are refused: document 01's number, and the place.
+pub struct Fault {
+    pub number: u8,
+    pub place: Place,
+}
+
+// How a field's value follows its id: so many bytes, that many length digits, a container's length, or no such field.
+pub enum Format {
+    Unknown,
+    Fixed(usize),
+    Digits(usize),
+    Container,
+}
+
+// What a body is: plain bytes, a field list, or a field list after a password.
+pub enum Layout {
+    Plain,
+    List,
+    Secured,
+}
