@@ -1,0 +1,3 @@
+-- What each function of the reader answers.
+pub mod Objects
+pub mod Fields
