@@ -5,3 +5,4 @@ pub mod Fields
 pub mod Header
 pub mod Body
 pub mod Answers
+pub mod Writing

@@ -5,11 +5,14 @@ mod fields;
 mod format;
 mod headers;
 mod objects;
+mod writing;
 
 use headers::HeaderRead;
 use objects::PartRead;
 ghost use mathlib.Core.Path.{_≡_};
+ghost use lib.ListN.{length};
 ghost use Rattle.zvt.specs.Answers.{headerAnswer, readAnswer, firstAnswer};
+ghost use Rattle.zvt.specs.Writing.{shortenAnswer, shortenLeaves};
 
 // Document 01's number of refusal.
 pub struct Refusal {
@@ -50,6 +53,12 @@ pub enum FirstAnswer {
     Refused(Refusal),
 }
 
+// How many bytes were written.
+pub enum ShortenAnswer {
+    Written(usize),
+    Refused(Refusal),
+}
+
 // The header of the message that s is.
 pub fn read_header(s: &[u8]) -> HeaderAnswer
     ensures { λ r. ⌜ r ≡ headerAnswer (now (s .entry)) ⌝ }
@@ -84,6 +93,27 @@ pub fn read_first(s: &[u8]) -> FirstAnswer
             PartRead::Part(t) => {
                 let next = h.start + h.length;
                 FirstAnswer::Accepted(body::message_of(h, t), next)
+            }
+        },
+    }
+}
+
+// Writes the message that s is with every length shortest.
+pub fn shorten(s: &[u8], out: &mut [u8]) -> ShortenAnswer
+    ensures answer { λ r. ⌜ r ≡ shortenAnswer (length (now (out .entry))) (now (s .entry)) ⌝ }
+    ensures lent { λ _. ⌜ now (out .exit) ≡ shortenLeaves (now (s .entry)) (now (out .entry)) ⌝ }
+{
+    match headers::whole_header(s) {
+        HeaderRead::Refused(f) => ShortenAnswer::Refused(Refusal { number: f.number }),
+        HeaderRead::Header(h) => match body::body_in(s, h) {
+            PartRead::Refused(f) => ShortenAnswer::Refused(Refusal { number: f.number }),
+            PartRead::Part(t) => {
+                let size = writing::message_size(h.length - t.spare);
+                if out.len() < size {
+                    return ShortenAnswer::Refused(Refusal { number: 11 });
+                }
+                writing::put_message(s, h, &mut out[..size]);
+                ShortenAnswer::Written(size)
             }
         },
     }
