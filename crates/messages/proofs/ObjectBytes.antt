@@ -8,15 +8,15 @@ use native.Mathlib.Nat.{add-sub-cancel-left}
 use native.Mathlib.Omega.{arith}
 use lib.ListN.{length, getD, take, drop, length-append, length-drop, take-append-drop}
 use lib.Seq.{getD-drop, take-add, take-append-seam, drop-append-seam, drop-append-add, drop-at}
-use lib.Dec.{leb, eqb}
 use borrow.Author.Tests.{lt-leb, ne-eqb, le-ltb}
-use Rattle.messages.specs.Reading.{Reading, got, no, unless, andThen, part}
-use Rattle.messages.specs.Objects.{longTag, topBit, nested, secondTag, tagSize, Form, formSize, Len, lenOf, Head, from, to, headWith, headOf}
-use Rattle.messages.specs.Objects.{Obj, leaf, branch, Objs, none, more, OneRead, RunRead, insideOf, oneBy, runOf, oneOf, countObj, countObjs}
+use Rattle.messages.specs.Reading.{Reading, got, no, unless, part}
+use Rattle.messages.specs.Objects.{longTag, topBit, nested, secondTag, tagSize, Form, formSize, lenOf, Head, from, to, headWith}
+use Rattle.messages.specs.Objects.{headOf, Obj, leaf, branch, Objs, none, more, OneRead, RunRead, insideOf, oneBy, runOf, oneOf}
+use Rattle.messages.specs.Objects.{countObj, countObjs}
 use Rattle.messages.specs.Writing.{lenBytes, sized, objBytes, runBytes}
 use Rattle.messages.specs.Grammar.{Bytes, TagOk, FormOk, ObjOk, RunOk}
-use Rattle.messages.proofs.Readings.{got-same, got-not-refused, unless-got, then-got, then-on, pick-test, pick-true, pick-false}
-use Rattle.messages.proofs.ObjectSteps.{part-length, tag-in, HeadRead, head-got, head-in, branchOf, leafOf, ObjRead, one-got, one-in, run-none, run-step, MoreRead, run-got}
+use Rattle.messages.proofs.Readings.{got-same, got-not-refused, unless-got, then-on, pick-test, pick-true, pick-false}
+use Rattle.messages.proofs.ObjectSteps.{part-length, head-got, head-in, one-got, one-in, run-none, run-step, run-got}
 use Rattle.messages.proofs.Lengths.{lenBytes-size, sized-size, len-written, len-sound}
 
 -- ---- bytes
@@ -69,7 +69,8 @@ head-sound at s h b e =
     let size : length (part (from h) (to h) s) ≡ h .value = part-length s (from h) (to h) (omega arith) (w .within) ∙ span in (
       tag-sound at s (h .tag) (w .tag),
       rw size (l .1),
-      rw (size, l .0, span, ← (append-assoc (take (h .tag) s)), ← (take-add (h .tag) (formSize (h .form)) s), ← (take-add (from h) (h .value) s)),
+      rw (size, l .0, span, ← (append-assoc (take (h .tag) s)), ← (take-add (h .tag) (formSize (h .form)) s))
+          (sym (take-add (from h) (h .value) s)),
     )
 
 -- ---- what is read was written: its bytes, its limits, its count
@@ -93,9 +94,9 @@ one-from left n at s o run b e =
     let room = w .room in
     ⊎-elim
     (λ x.
-    let r = x .1 .0 in
-    let f = run (left - 1) (n + 1) (at + from h) (part (from h) (to h) s) r (omega (arith, part-length s (from h) (to h) (omega arith) (i .2)))
-    (bytes-part (from h) (to h) s b) (x .1 .1) in
+    let inner = part (from h) (to h) s in
+    let l : length inner < length s = omega (arith, part-length s (from h) (to h) (omega arith) (i .2)) in
+    let f = run (left - 1) (n + 1) (at + from h) inner (x .1 .0) l (bytes-part (from h) (to h) s b) (x .1 .1) in
     subst (OneSound left n s) (x .1 .2)
     (rw (f .0) (g .2), (rw (x .0) at (g .0), rw (f .0) (g .1), w .deep, f .1), omega (arith, f .2), f .3 (omega arith)))
     (λ x. subst (OneSound left n s) (x .1) (g .2, (rw (x .0) at (g .0), g .1, w .deep), refl, omega arith)) (w .inside)
@@ -109,8 +110,8 @@ run-from left n at s r run b l e =
     let o = w .first in
     let i = one-in left n at s o (w .read) in
     let g = one-from left n at s o run b (w .read) in
-    let f = run left (o .count) (at + o .size) (drop (o .size) s) (w .rest) (omega (arith, length-drop (o .size) s)) (bytes-drop (o .size) s b)
-    (w .then) in
+    let l : length (drop (o .size) s) < length s = omega (arith, length-drop (o .size) s) in
+    let f = run left (o .count) (at + o .size) (drop (o .size) s) (w .rest) l (bytes-drop (o .size) s b) (w .then) in
     subst (RunSound left n s) (w .all)
     (rw (g .0, f .0) (take-append-drop (o .size) s), (g .1, f .1), omega (arith, g .2, f .2), λ m. f .3 (g .3))
 
@@ -134,7 +135,7 @@ pub one-sound : (left n at : ℕ) (s : List ℕ) (o : OneRead) → Bytes s → o
 one-sound left n at s o = one-from left n at s o (λ l m a t r h. run-sound l m a t r)
 
 -- ---- what is written is read
-module _ (tag : List ℕ) (form : Form) (v rest : List ℕ) (run : Bool) (ok : TagOk tag run) (fits : FormOk form (length v)) where
+module _ (tag : List ℕ) (form : Form) (v rest : List ℕ) where
   abbrev whole : List ℕ
   whole = (tag ++ sized form v) ++ rest
 
@@ -150,25 +151,28 @@ module _ (tag : List ℕ) (form : Form) (v rest : List ℕ) (run : Bool) (ok : T
 
   value-part : part (from written) (to written) whole ≡ v
   value-part =
-      rw (regroup, add-sub-cancel-left (from written) (length v), drop-append-add tag, drop-at (lenBytes form (length v)) (v ++ rest) (formSize form) (lenBytes-size form (length v)))
-      (take-append-seam v rest)
+      let behind = drop-at (lenBytes form (length v)) (v ++ rest) (formSize form) (lenBytes-size form (length v)) in
+      rw (regroup, add-sub-cancel-left (from written) (length v), drop-append-add tag, behind) (take-append-seam v rest)
 
   end : length (tag ++ sized form v) ≡ to written
   end = omega (arith, length-append tag (sized form v), sized-size form v)
 
-  first : nested (getD whole 0 0) ≡ run
-  first = rw regroup (tag-written 0 tag _ run ok .1)
+  module _ (run : Bool) (ok : TagOk tag run) (fits : FormOk form (length v)) where
+    first : nested (getD whole 0 0) ≡ run
+    first = rw regroup (tag-written 0 tag _ run ok .1)
 
-  head-written : (at : ℕ) → headOf at whole ≡ got written
-  unfolding headOf headWith unless
-  head-written at =
-      then-on _ (length tag) (rw regroup (tag-written at tag _ run ok .0))
-      ∙ then-on _ (record { form = form; value = length v }) (rw (regroup, drop-append-seam tag) (len-written (at + length tag) form (length v) (v ++ rest) fits))
-      ∙ rw (le-ltb (length whole) (to written) (omega (arith, end, length-append (tag ++ sized form v) rest)))
+    at-len : (at : ℕ) → lenOf at (drop (length tag) whole) ≡ got (record { form = form; value = length v })
+    at-len at = rw (regroup, drop-append-seam tag) (len-written at form (length v) (v ++ rest) fits)
 
-  at-object : (left n at : ℕ) → n < 64 → 0 < left → oneOf left n at whole ≡ insideOf runOf left n at whole written
-  unfolding oneOf oneBy unless
-  at-object left n at room deep = rw (lt-leb 64 n room, ne-eqb left 0 (λ e. omega arith)) (then-on _ written (head-written at))
+    head-written : (at : ℕ) → headOf at whole ≡ got written
+    unfolding headOf headWith unless
+    head-written at =
+        then-on _ (length tag) (rw regroup (tag-written at tag _ run ok .0)) ∙ then-on _ _ (at-len (at + length tag))
+        ∙ rw (le-ltb (length whole) (to written) (omega (arith, end, length-append (tag ++ sized form v) rest)))
+
+    at-object : (left n at : ℕ) → n < 64 → 0 < left → oneOf left n at whole ≡ insideOf runOf left n at whole written
+    unfolding oneOf oneBy unless
+    at-object left n at room deep = rw (lt-leb 64 n room, ne-eqb left 0 (λ e. omega arith)) (then-on _ written (head-written at))
 
 leaf-written : (tag : List ℕ) (form : Form) (v rest : List ℕ) (left n at : ℕ) → TagOk tag false → FormOk form (length v) → n < 64 → 0 < left
     → oneOf left n at ((tag ++ sized form v) ++ rest)
@@ -176,7 +180,7 @@ leaf-written : (tag : List ℕ) (form : Form) (v rest : List ℕ) (left n at : �
 unfolding insideOf
 leaf-written tag form v rest left n at ok fits room deep =
     at-object tag form v rest false ok fits left n at room deep ∙ pick-false _ _ (first tag form v rest false ok fits)
-    ∙ cc (taken tag form v rest false ok fits, value-part tag form v rest false ok fits, end tag form v rest false ok fits)
+    ∙ cc (taken tag form v rest, value-part tag form v rest, end tag form v rest)
 
 branch-written : (tag : List ℕ) (form : Form) (os : Objs) (rest : List ℕ) (left n at c : ℕ)
     → TagOk tag true → FormOk form (length (runBytes os)) → n < 64 → 0 < left
@@ -187,8 +191,8 @@ unfolding insideOf
 branch-written tag form os rest left n at c ok fits room deep inner =
     let v = runBytes os in
     at-object tag form v rest true ok fits left n at room deep ∙ pick-true _ _ (first tag form v rest true ok fits)
-    ∙ then-on _ (record { objs = os; count = c }) (rw (value-part tag form v rest true ok fits) (inner _))
-    ∙ cc (taken tag form v rest true ok fits, end tag form v rest true ok fits)
+    ∙ then-on _ (record { objs = os; count = c }) (rw (value-part tag form v rest) (inner _))
+    ∙ cc (taken tag form v rest, end tag form v rest)
 
 more-written : (w t : List ℕ) (o : Obj) (os : Objs) (left n at c d : ℕ)
     → oneOf left n at (w ++ t) ≡ got (record { obj = o; size = length w; count = c })
@@ -198,6 +202,10 @@ more-written w t o os left n at c d e inner =
     let i = one-in left n at (w ++ t) _ e in
     run-step left n at (w ++ t) (omega arith) ∙ then-on _ _ e ∙ then-on _ _ (rw (drop-append-seam w t) (inner _))
 
+-- a run and its count, as a reading
+abbrev counted : Objs → ℕ → Reading RunRead
+counted os c = got (record { objs = os; count = c })
+
 mutual
   unfolding objBytes runBytes ObjOk RunOk countObj countObjs
 
@@ -206,12 +214,12 @@ mutual
   one-complete (leaf tag form value) left n at rest ok fits = leaf-written tag form value rest left n at (ok .0) (ok .1) (omega arith) (ok .2)
   one-complete (branch tag form os) left n at rest ok fits =
       branch-written tag form os rest left n at (n + suc (countObjs os)) (ok .0) (ok .1) (omega arith) (ok .2)
-      (λ a. run-complete os (left - 1) (n + 1) a (ok .3) (omega arith) ∙ ap (λ (c : ℕ). got (record { objs = os; count = c })) (omega arith))
+      (λ a. run-complete os (left - 1) (n + 1) a (ok .3) (omega arith) ∙ ap (counted os) (omega arith))
 
   pub run-complete : (os : Objs) (left n at : ℕ) → RunOk os left → n + countObjs os ≤ 64
       → runOf left n at (runBytes os) ≡ got (record { objs = os; count = n + countObjs os })
-  run-complete none left n at ok fits = run-none left n at [] refl ∙ ap (λ (c : ℕ). got (record { objs = none; count = c })) (omega arith)
+  run-complete none left n at ok fits = run-none left n at [] refl ∙ ap (counted none) (omega arith)
   run-complete (more o os) left n at ok fits =
       more-written (objBytes o) (runBytes os) o os left n at (n + countObj o) (n + (countObj o + countObjs os))
       (one-complete o left n at (runBytes os) (ok .0) (omega arith))
-      (λ a. run-complete os left (n + countObj o) a (ok .1) (omega arith) ∙ ap (λ (c : ℕ). got (record { objs = os; count = c })) (omega arith))
+      (λ a. run-complete os left (n + countObj o) a (ok .1) (omega arith) ∙ ap (counted os) (omega arith))
