@@ -31,13 +31,13 @@ headerAnswer s = asHeaderAnswer (wholeHeader s)
 -- "The reader reports the number of objects, and it is the number that the definition counts."
 unfoldable pub messageAnswer : MessageTree → Message
 messageAnswer m =
-    record
-    { class = m .class
-    ; instruction = m .instruction
-    ; start = headerSize (m .long)
-    ; length = length (bodyBytes (m .body))
-    ; objects = countOf m
-    ; shortest = isShort m
+    record {
+      class = m .class;
+      instruction = m .instruction;
+      start = headerSize (m .long);
+      length = length (bodyBytes (m .body));
+      objects = countOf m;
+      shortest = isShort m;
     }
 
 unfoldable pub asReadAnswer : Reading MessageTree → ReadAnswer

@@ -34,11 +34,11 @@ bodyIn h s = bodyAnswer (h .start) (part (h .start) (h .start + h .length) s) (l
 -- a message by its header and the tally of its body
 unfoldable pub described : Header → Tally → Message
 described h t =
-    record
-    { class = h .class
-    ; instruction = h .instruction
-    ; start = h .start
-    ; length = h .length
-    ; objects = t .objects
-    ; shortest = eqb (t .spare) 0 && (eqb (h .start) 3 || leb 255 (h .length))
+    record {
+      class = h .class;
+      instruction = h .instruction;
+      start = h .start;
+      length = h .length;
+      objects = t .objects;
+      shortest = eqb (t .spare) 0 && (eqb (h .start) 3 || leb 255 (h .length));
     }

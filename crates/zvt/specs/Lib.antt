@@ -6,3 +6,7 @@ pub mod Header
 pub mod Body
 pub mod Answers
 pub mod Writing
+pub mod List
+pub mod Digits
+pub mod Values
+pub mod Name

@@ -1,17 +1,26 @@
 // The reader of ZVT messages: what the bytes of a terminal say, the same message with every length shortest, and the digits that
 // a till writes. Each function says in its contract which definition gives its answer.
 mod body;
+mod digits;
 mod fields;
 mod format;
 mod headers;
+mod list;
+mod name;
 mod objects;
+mod values;
 mod writing;
 
 use headers::HeaderRead;
+use list::ListPlace;
 use objects::PartRead;
 ghost use mathlib.Core.Path.{_≡_};
 ghost use lib.ListN.{length};
 ghost use Rattle.zvt.specs.Answers.{headerAnswer, readAnswer, firstAnswer};
+ghost use Rattle.zvt.specs.Digits.{digitBytesOf};
+ghost use Rattle.zvt.specs.List.{fieldAnswer};
+ghost use Rattle.zvt.specs.Name.{cardName};
+ghost use Rattle.zvt.specs.Values.{statusOf};
 ghost use Rattle.zvt.specs.Writing.{shortenAnswer, shortenLeaves};
 
 // Document 01's number of refusal.
@@ -57,6 +66,40 @@ pub enum FirstAnswer {
 pub enum ShortenAnswer {
     Written(usize),
     Refused(Refusal),
+}
+
+// A field of a list: its id, and where its value lies in the message, from and to.
+pub struct Listed {
+    pub id: u8,
+    pub from: usize,
+    pub to: usize,
+}
+
+pub enum FieldAnswer {
+    End,
+    Field(Listed),
+}
+
+// What a status information tells: field 27, field 04, field 87.
+pub enum ToldCode {
+    Missing,
+    Code(u8),
+}
+
+pub enum ToldAmount {
+    Missing,
+    Amount(u64),
+}
+
+pub enum ToldReceipt {
+    Missing,
+    Receipt(u16),
+}
+
+pub struct Status {
+    pub code: ToldCode,
+    pub amount: ToldAmount,
+    pub receipt: ToldReceipt,
 }
 
 // The header of the message that s is.
@@ -117,4 +160,81 @@ pub fn shorten(s: &[u8], out: &mut [u8]) -> ShortenAnswer
             }
         },
     }
+}
+
+// Field number k, from 0, of the list of the message that s is.
+pub fn field_at(s: &[u8], k: usize) -> FieldAnswer
+    ensures { λ r. ⌜ r ≡ fieldAnswer k (now (s .entry)) ⌝ }
+{
+    match list::list_place(s) {
+        ListPlace::Nowhere => FieldAnswer::End,
+        ListPlace::Between(from, end) => list::nth(s, from, end, k),
+    }
+}
+
+// What the status information that s is tells; nothing of any other bytes.
+pub fn read_status(s: &[u8]) -> Status
+    ensures { λ r. ⌜ r ≡ statusOf (now (s .entry)) ⌝ }
+{
+    match list::status_place(s) {
+        ListPlace::Nowhere => Status {
+            code: ToldCode::Missing,
+            amount: ToldAmount::Missing,
+            receipt: ToldReceipt::Missing,
+        },
+        ListPlace::Between(from, end) => Status {
+            code: values::code_in(s, from, end),
+            amount: values::amount_in(s, from, end),
+            receipt: values::receipt_in(s, from, end),
+        },
+    }
+}
+
+// The card name of the status information that s is, or the till's own name.
+pub fn card_name<'a>(s: &'a [u8], own: &'a [u8]) -> &'a [u8]
+    ensures bytes { λ r. ⌜ now r ≡ cardName (now (s .entry)) (now (own .entry)) ⌝ }
+{
+    match list::status_place(s) {
+        ListPlace::Nowhere => own,
+        ListPlace::Between(from, end) => match list::named(s, from, end, 0x8B) {
+            FieldAnswer::End => own,
+            FieldAnswer::Field(f) => {
+                let a = f.from;
+                let e = f.to;
+                let size = name::name_size(&s[a..e]);
+                if size == 0 {
+                    return own;
+                }
+                let to = a + size;
+                &s[a..to]
+            }
+        },
+    }
+}
+
+// The last twelve digits of an amount.
+pub fn amount_bytes(n: u64) -> [u8; 6]
+    ensures { λ r. ⌜ r ≡ digitBytesOf 6 n ⌝ }
+{
+    let mut b = [0u8; 6];
+    digits::put_digits(n, &mut b);
+    b
+}
+
+// The last six digits of a password.
+pub fn password_bytes(n: u32) -> [u8; 3]
+    ensures { λ r. ⌜ r ≡ digitBytesOf 3 n ⌝ }
+{
+    let mut b = [0u8; 3];
+    digits::put_digits(n as u64, &mut b);
+    b
+}
+
+// The last four digits of a receipt number.
+pub fn receipt_bytes(n: u16) -> [u8; 2]
+    ensures { λ r. ⌜ r ≡ digitBytesOf 2 n ⌝ }
+{
+    let mut b = [0u8; 2];
+    digits::put_digits(n as u64, &mut b);
+    b
 }
