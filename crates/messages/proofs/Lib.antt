@@ -1,2 +1,3 @@
 -- The laws of the definitions, by subject.
 pub mod Readings
+pub mod FieldSteps
