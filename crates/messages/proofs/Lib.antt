@@ -1,3 +1,4 @@
 -- The laws of the definitions, by subject.
 pub mod Readings
 pub mod FieldSteps
+pub mod ObjectSteps
