@@ -1,4 +1,5 @@
 -- The laws of the definitions, by subject.
 pub mod Readings
 pub mod FieldSteps
+pub mod FieldBytes
 pub mod ObjectSteps
