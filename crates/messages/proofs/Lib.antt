@@ -3,3 +3,5 @@ pub mod Readings
 pub mod FieldSteps
 pub mod FieldBytes
 pub mod ObjectSteps
+pub mod Lengths
+pub mod ObjectShort
