@@ -17,7 +17,7 @@ use Rattle.messages.specs.Writing.{lenBytes, sized, objBytes, runBytes}
 use Rattle.messages.specs.Grammar.{Bytes, TagOk, FormOk, ObjOk, RunOk}
 use Rattle.messages.proofs.Readings.{got-same, got-not-refused, unless-got, then-on, pick-test, pick-true, pick-false}
 use Rattle.messages.proofs.ObjectSteps.{part-length, head-got, head-in, one-got, one-in, run-none, run-step, run-got}
-use Rattle.messages.proofs.Lengths.{lenBytes-size, sized-size, len-written, len-sound}
+use Rattle.messages.proofs.Lengths.{lenBytes-size, object-size, len-written, len-sound}
 
 -- ---- bytes
 pub bytes-drop : (k : ℕ) (s : List ℕ) → Bytes s → Bytes (drop k s)
@@ -155,7 +155,7 @@ module _ (tag : List ℕ) (form : Form) (v rest : List ℕ) where
       rw (regroup, add-sub-cancel-left (from written) (length v), drop-append-add tag, behind) (take-append-seam v rest)
 
   end : length (tag ++ sized form v) ≡ to written
-  end = omega (arith, length-append tag (sized form v), sized-size form v)
+  end = omega (arith, object-size tag form v)
 
   module _ (run : Bool) (ok : TagOk tag run) (fits : FormOk form (length v)) where
     first : nested (getD whole 0 0) ≡ run

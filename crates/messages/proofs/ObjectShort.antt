@@ -1,21 +1,16 @@
--- The shortest form of a run of data objects: still well formed, the same values, no longer, and strictly shorter unless it was so
--- already. Assumes nothing.
+-- A run of data objects with every length shortest: well formed, of the same values, and shorter unless it was so. Assumes nothing.
 use mathlib.Core.Path.{_≡_, refl, ap, ap₂}
 use mathlib.Core.Bool.{true, and-eq-true-iff}
-use mathlib.Core.List.{List, _++_}
 use Prim.Native.Nat.{ℕ, suc, _+_, _-_, _≤_}
 use native.Mathlib.Omega.{arith}
 use lib.ListN.{length, length-append}
 use Rattle.messages.specs.Objects.{Form, formSize, Obj, leaf, branch, Objs, none, more, countObj, countObjs}
-use Rattle.messages.specs.Writing.{sized, objBytes, runBytes}
+use Rattle.messages.specs.Writing.{objBytes, runBytes}
 use Rattle.messages.specs.Shortest.{formFor, isShortest, shortObj, shortRun, isShortObj, isShortRun, SameObj, SameRun}
 use Rattle.messages.specs.Grammar.{ObjOk, RunOk}
-use Rattle.messages.proofs.Lengths.{sized-size, formFor-ok, form-shorter, form-kept, form-strict, formFor-shortest}
+use Rattle.messages.proofs.Lengths.{object-size, formFor-ok, form-shorter, form-kept, form-strict, formFor-shortest}
 
 -- ---- the sizes
-object-size : (tag : List ℕ) (form : Form) (value : List ℕ) → length (tag ++ sized form value) ≡ length tag + (formSize form + length value)
-object-size tag form value = omega (arith, length-append tag (sized form value), sized-size form value)
-
 mutual
   unfolding objBytes runBytes shortObj shortRun ObjOk RunOk
 
