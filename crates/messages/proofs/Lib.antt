@@ -3,6 +3,7 @@ pub mod Readings
 pub mod FieldSteps
 pub mod FieldBytes
 pub mod MessageBytes
+pub mod FieldShort
 pub mod ObjectSteps
 pub mod Lengths
 pub mod ObjectShort
