@@ -4,6 +4,7 @@ pub mod FieldSteps
 pub mod FieldBytes
 pub mod MessageBytes
 pub mod FieldShort
+pub mod MessageShort
 pub mod ObjectSteps
 pub mod Lengths
 pub mod ObjectShort
