@@ -75,7 +75,8 @@ body-strict l (listed password fs) ok e =
     let b = length-append password (listBytes (shortList fs)) in
     list-strict fs [] (fields l password fs ok) (omega arith)
 
-pub body-exactly : (l : Layout) (b : Body) → LayoutOk l b → (length (bodyBytes (shortBody b)) ≡ length (bodyBytes b)) ↔ (isShortBody b ≡ true)
+pub body-exactly : (l : Layout) (b : Body) → LayoutOk l b
+    → (length (bodyBytes (shortBody b)) ≡ length (bodyBytes b)) ↔ (isShortBody b ≡ true)
 body-exactly l b ok = (body-strict l b ok, λ e. ap (λ (x : Body). length (bodyBytes x)) (body-kept l b ok e))
 
 -- ---- the shortest form of a body's length
