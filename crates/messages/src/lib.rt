@@ -28,3 +28,30 @@ pub enum Layout {
     List,
     Secured,
 }
+
+// Document 01's number of refusal: all that a public answer says of one.
+pub struct Refusal {
+    pub number: u8,
+}
+
+// What a status information tells: field 27, field 04, field 87.
+pub enum ToldCode {
+    Missing,
+    Code(u8),
+}
+
+pub enum ToldAmount {
+    Missing,
+    Amount(u64),
+}
+
+pub enum ToldReceipt {
+    Missing,
+    Receipt(u16),
+}
+
+pub struct Status {
+    pub code: ToldCode,
+    pub amount: ToldAmount,
+    pub receipt: ToldReceipt,
+}
