@@ -39,19 +39,24 @@ places (l ∷ ls) = place l + places ls
 unfoldable pub load : State → ℕ
 load s = length (s .lines) + places (s .lanes)
 
-unfoldable pub numberBy : Moved → ℕ → ℕ
-numberBy (Refused r) other = r .number
-numberBy Stays other = other
-numberBy (Becomes l) other = other
-numberBy (Ends outcome settled code) other = other
+-- refused with document 01's number, or accepted
+pub data Decision : Type 0 where
+  refuse : ℕ → Decision
+  accept : Decision
 
--- "opening 12, 13, 16, 17, 18, 11 .. Terminal message 12, 14, header, 15, body, 11. Link lost 12, 14."; 0 for an accepted call
-unfoldable pub numberOf : State → Call → ℕ → ℕ
-numberOf s c room =
+unfoldable pub unlessRefused : Moved → Decision → Decision
+unlessRefused (Refused r) other = refuse (r .number)
+unlessRefused Stays other = other
+unlessRefused (Becomes l) other = other
+unlessRefused (Ends outcome settled code) other = other
+
+-- "opening 12, 13, 16, 17, 18, 11 .. Terminal message 12, 14, header, 15, body, 11. Link lost 12, 14."
+unfoldable pub decide : State → Call → ℕ → Decision
+decide s c room =
     let l = laneAt (s .lanes) (laneOf c) in
-    pick (leb 8 (laneOf c)) 12
-    (numberBy (moves l (s .lines) c)
-    (pick (opens c && leb 64 (load s)) 18 (pick (ltb room (length (writes l c))) 11 0)))
+    pick (leb 8 (laneOf c)) (refuse 12)
+    (unlessRefused (moves l (s .lines) c)
+    (pick (opens c && leb 64 (load s)) (refuse 18) (pick (ltb room (length (writes l c))) (refuse 11) accept)))
 
 -- "Each end writes one line and makes the lane idle, with nothing remembered."
 unfoldable pub laneAfter : Lane → Moved → Lane
@@ -76,7 +81,7 @@ step s c =
 
 -- accepted, with room enough for what it writes
 unfoldable pub Accepts : State → Call → Type 0
-Accepts s c = numberOf s c (length (writes (laneAt (s .lanes) (laneOf c)) c)) ≡ 0
+Accepts s c = decide s c (length (writes (laneAt (s .lanes) (laneOf c)) c)) ≡ accept
 
 -- a run of accepted calls, what it leaves and what each call wrote
 unfoldable pub Accepted : State → List Call → Type 0
