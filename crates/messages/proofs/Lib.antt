@@ -1,2 +1,5 @@
 -- The laws of the definitions, by subject.
 pub mod Readings
+pub mod ObjectSteps
+pub mod Lengths
+pub mod ObjectShort
