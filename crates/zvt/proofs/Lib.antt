@@ -1,0 +1,3 @@
+-- The laws that the functions are proved by.
+pub mod Masks
+pub mod ObjectLaws
