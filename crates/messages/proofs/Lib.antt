@@ -3,3 +3,4 @@ pub mod Readings
 pub mod ObjectSteps
 pub mod Lengths
 pub mod ObjectShort
+pub mod ObjectBytes
