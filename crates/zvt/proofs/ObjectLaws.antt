@@ -4,15 +4,21 @@ use mathlib.Core.Bool.{Bool, true, false}
 use mathlib.Core.List.{List, [], _∷_}
 use Prim.Native.Nat.{ℕ, _+_, _-_, _*_, _<_, _≤_}
 use native.Mathlib.Omega.{arith}
-use lib.ListN.{length, getD}
+use lib.ListN.{length, getD, take, drop, length-drop}
 use borrow.Author.Tests.{lt-ltb, le-ltb, eq-eqb, ne-eqb}
-use Rattle.messages.specs.Reading.{Reading, got, refused, no, unless}
-use Rattle.messages.specs.Objects.{longTag, topBit, formSize, secondTag, tagSize, oneByte, twoBytes, lenOf}
+use Rattle.messages.specs.declared.Fault.{Fault}
+use Rattle.messages.specs.Reading.{Reading, got, refused, no, unless, andThen}
+use Rattle.messages.specs.Objects.{longTag, topBit, nested, formSize, secondTag, tagSize, Len, oneByte, twoBytes, lenOf, Head, headWith, headOf}
 use Rattle.messages.specs.Shortest.{formFor}
 use Rattle.zvt.specs.declared.objects.TagRead.the-variants.{Size, Refused as tag-refused}
+use Rattle.messages.proofs.Readings.{then-on, then-stop}
+use Rattle.messages.proofs.ObjectSteps.{tail, tag-in, len-in}
+use Rattle.zvt.specs.declared.objects.LenRead.{LenRead}
 use Rattle.zvt.specs.declared.objects.LenRead.the-variants.{Len as len-read, Refused as len-refused}
+use Rattle.zvt.specs.declared.objects.Bounds.{Bounds}
+use Rattle.zvt.specs.declared.objects.BoundsRead.{BoundsRead}
 use Rattle.zvt.specs.declared.objects.BoundsRead.the-variants.{Bounds as bounds-read, Refused as bounds-refused}
-use Rattle.zvt.specs.Objects.{asTag, asLen, asBounds, tagAnswer, lenAnswer, boundsIn, within}
+use Rattle.zvt.specs.Objects.{asTag, asLen, asBounds, tagAnswer, lenAnswer, boundsIn, within, boundsOf, headAnswer, tallyOf}
 
 -- ---- the tag
 pub tag-none : (at : ℕ) (s : List ℕ) → length s ≡ 0 → tagAnswer at s ≡ tag-refused (no 1 at)
@@ -104,6 +110,81 @@ pub value-fits : (at tag a v : ℕ) (run : Bool) (s : List ℕ) → a ≤ length
 unfolding within asBounds boundsIn unless
 value-fits at tag a v run s h l = rw (le-ltb (length s) (a + v) (omega arith))
 
+-- ---- the head
+pub tag-got : (x : Reading ℕ) (k : ℕ) → asTag x ≡ Size k → x ≡ got k
+unfolding asTag
+tag-got (got j) k e = cc
+tag-got (refused r) k e = absurd (let z : _≡_ {A = ℕ} 0 1 = cc in omega arith)
+
+pub tag-stopped : (x : Reading ℕ) (r : Fault) → asTag x ≡ tag-refused r → x ≡ refused r
+unfolding asTag
+tag-stopped (got j) r e = absurd (let z : _≡_ {A = ℕ} 0 1 = cc in omega arith)
+tag-stopped (refused q) r e = cc
+
+pub len-got : (x : Reading Len) (size v : ℕ) → asLen x ≡ len-read size v → (l : Len) × (x ≡ got l) × (formSize (l .form) ≡ size) × (l .value ≡ v)
+unfolding asLen
+len-got (got l) size v e = (l, refl, cc, cc)
+len-got (refused r) size v e = absurd (let z : _≡_ {A = ℕ} 0 1 = cc in omega arith)
+
+pub len-stopped : (x : Reading Len) (r : Fault) → asLen x ≡ len-refused r → x ≡ refused r
+unfolding asLen
+len-stopped (got l) r e = absurd (let z : _≡_ {A = ℕ} 0 1 = cc in omega arith)
+len-stopped (refused q) r e = cc
+
+-- a length that was read in what is left from k on
+rest-len : (at k : ℕ) (s : List ℕ) (x : LenRead) → lenAnswer at (take (length s - k) (drop k s)) ≡ x → asLen (lenOf at (drop k s)) ≡ x
+unfolding lenAnswer
+rest-len at k s x e = ap (λ (t : List ℕ). asLen (lenOf at t)) (sym (tail k s)) ∙ e
+
+pub tag-within : (at k : ℕ) (s : List ℕ) → tagAnswer at s ≡ Size k → (1 ≤ k) × (k ≤ length s)
+unfolding tagAnswer
+tag-within at k s e = tag-in at s k (tag-got _ k e)
+
+pub head-no-tag : (at : ℕ) (s : List ℕ) (r : Fault) → tagAnswer at s ≡ tag-refused r → headAnswer at s ≡ bounds-refused r
+unfolding headAnswer asBounds headOf tagAnswer
+head-no-tag at s r e = ap asBounds (then-stop _ r (then-stop _ r (tag-stopped _ r e)))
+
+unless-then : {A B : Type 0} (t : Bool) (r : Fault) (x : Reading A) (f : A → Reading B) → andThen (unless t r x) f ≡ unless t r (andThen x f)
+unfolding unless andThen
+unless-then true r x f = refl
+unless-then false r x f = refl
+
+with-bounds : (at k : ℕ) (s : List ℕ) (l : Len)
+    → asBounds (andThen (headWith at s k l) λ h. got (boundsOf s h))
+    ≡ within at k (k + formSize (l .form)) (l .value) (nested (getD s 0 0)) s
+unfolding headWith within boundsIn boundsOf andThen
+with-bounds at k s l = ap asBounds (unless-then _ _ _ _)
+
+-- tag and length are there: where the value starts, and that it is all a matter of where it ends
+pub record Started (at k size v : ℕ) (s : List ℕ) : Type 0 where
+  pub first : 1 ≤ k
+  pub start : k + size ≤ length s
+  pub answer : {run : Bool} {x : BoundsRead} → nested (getD s 0 0) ≡ run → x ≡ within at k (k + size) v run s → x ≡ headAnswer at s
+
+module _ (at k : ℕ) (s : List ℕ) (tag : tagAnswer at s ≡ Size k) where
+  past-tag : headOf at s ≡ andThen (lenOf (at + k) (drop k s)) (λ l. headWith at s k l)
+  unfolding headOf tagAnswer
+  past-tag = then-on _ k (tag-got _ k tag)
+
+  pub head-no-length : (r : Fault) → lenAnswer (at + k) (take (length s - k) (drop k s)) ≡ len-refused r → headAnswer at s ≡ bounds-refused r
+  unfolding headAnswer asBounds
+  head-no-length r e = ap asBounds (then-stop _ r (past-tag ∙ then-stop _ r (len-stopped _ r (rest-len (at + k) k s _ e))))
+
+  pub head-starts : (size v : ℕ) → lenAnswer (at + k) (take (length s - k) (drop k s)) ≡ len-read size v → Started at k size v s
+  unfolding headAnswer
+  head-starts size v len =
+      let l = len-got _ size v (rest-len (at + k) k s _ len) in
+      let i = tag-within at k s tag in
+      record {
+        first = i .0;
+        start = omega (arith, len-in (at + k) (drop k s) (l .0) (l .1), l .2, length-drop k s);
+        answer =
+            λ e f.
+            let g = with-bounds at k s (l .0) in
+            let j = ap (λ (x : Reading Head). asBounds (andThen x λ h. got (boundsOf s h))) (past-tag ∙ then-on _ (l .0) (l .1)) in
+            cc;
+      }
+
 -- ---- the shortest length
 pub form-bare : (v : ℕ) → v < 128 → formSize (formFor v) ≡ 1
 unfolding formFor formSize
@@ -116,3 +197,8 @@ form-one v h l = rw (le-ltb v 128 h, lt-ltb v 256 l)
 pub form-two : (v : ℕ) → 256 ≤ v → formSize (formFor v) ≡ 3
 unfolding formFor formSize
 form-two v h = rw (le-ltb v 128 (omega arith), le-ltb v 256 h)
+
+pub tally-short : (b : Bounds) (objects saved f : ℕ) → f ≡ formSize (formFor (b .to - b .from - saved))
+    → record { size = b .to; objects = objects; spare = b .to - (b .tag + f + (b .to - b .from - saved)) } ≡ tallyOf b objects saved
+unfolding tallyOf
+tally-short b objects saved f e = rw e
