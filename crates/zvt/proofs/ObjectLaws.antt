@@ -5,7 +5,7 @@ use mathlib.Core.List.{List, [], _∷_}
 use Prim.Native.Nat.{ℕ, _+_, _-_, _*_, _<_, _≤_}
 use native.Mathlib.Omega.{arith}
 use lib.ListN.{length, getD, take, drop, length-drop}
-use borrow.Author.Tests.{lt-ltb, le-ltb, eq-eqb, ne-eqb}
+use borrow.Author.Tests.{lt-ltb, le-ltb, ne-eqb}
 use Rattle.messages.specs.declared.Fault.{Fault}
 use Rattle.messages.specs.Reading.{Reading, got, refused, no, unless, andThen}
 use Rattle.messages.specs.Objects.{longTag, topBit, nested, formSize, secondTag, tagSize, Len, oneByte, twoBytes, lenOf, Head, headWith, headOf}

@@ -1,19 +1,18 @@
 -- What the readers of objects and runs answer, case by case, with the bytes saved. Assumes nothing.
-use mathlib.Core.Path.{_≡_, refl, sym, ap, _∙_, subst}
-use mathlib.Core.Bool.{Bool, true, false}
+use mathlib.Core.Path.{_≡_, refl, ap, _∙_, subst}
+use mathlib.Core.Bool.{true, false}
 use mathlib.Core.List.{List}
 use Prim.Native.Nat.{ℕ, _+_, _-_, _<_, _≤_}
 use native.Mathlib.Omega.{arith}
-use lib.ListN.{length, getD, take, drop, length-append, length-drop}
+use lib.ListN.{length, getD, take, drop, length-append}
 use lib.Seq.{length-take-le}
-use lib.Dec.{leb, eqb}
 use borrow.Author.Tests.{le-leb, lt-leb, eq-eqb, ne-eqb}
 use Rattle.messages.specs.declared.Fault.{Fault}
-use Rattle.messages.specs.Reading.{Reading, got, refused, no, pick, unless, andThen, part}
-use Rattle.messages.specs.Objects.{nested, formSize, Head, from, to, headOf, Obj, leaf, branch, Objs, none, more, OneRead, RunRead, insideOf, oneBy, oneOf, runOf}
+use Rattle.messages.specs.Reading.{Reading, got, refused, no, unless, andThen, part}
+use Rattle.messages.specs.Objects.{nested, formSize, Head, from, to, headOf, Obj, leaf, branch, Objs, more, OneRead, RunRead, insideOf, oneBy, oneOf, runOf}
 use Rattle.messages.specs.Writing.{objBytes, runBytes}
 use Rattle.messages.specs.Shortest.{formFor, shortObj, shortRun}
-use Rattle.messages.specs.Grammar.{Bytes, FormOk, ObjOk, RunOk}
+use Rattle.messages.specs.Grammar.{Bytes, ObjOk, RunOk}
 use Rattle.messages.proofs.Readings.{then-on, then-stop, pick-true, pick-false}
 use Rattle.messages.proofs.ObjectSteps.{tail, part-length, head-got, head-in, branchOf, leafOf, one-in, run-none, run-step}
 use Rattle.messages.proofs.Lengths.{object-size, len-sound, form-shorter}
@@ -88,7 +87,7 @@ run-empty left n at s h = rw (run-none left n at s h, h)
 abbrev after : ℕ → ℕ → List ℕ → Tally → PartRead
 after left at s o = runAnswer left (o .objects) (at + o .size) (take (length s - o .size) (drop (o .size) s))
 
-abbrev Goes : ℕ → ℕ → ℕ → List ℕ → Tally → Tally → Type 0
+abbrev pub Goes : ℕ → ℕ → ℕ → List ℕ → Tally → Tally → Type 0
 Goes left n at s o r =
     (o .spare + r .spare ≤ length s)
     × (runAnswer left n at s ≡ Part (record { size = length s; objects = r .objects; spare = o .spare + r .spare }))
@@ -148,6 +147,10 @@ inner left n at s b = runAnswer (left - 1) (n + 1) (at + b .from) (part (b .from
 -- what a tally asks, with so many bytes saved
 abbrev Fits : Bounds → ℕ → Type 0
 Fits b saved = (b .tag + formSize (formFor (b .to - b .from - saved)) ≤ b .from) × (b .from + saved ≤ b .to)
+
+-- the object that lies there is answered by its tally
+abbrev pub Answered : ℕ → ℕ → ℕ → List ℕ → Bounds → ℕ → ℕ → Type 0
+Answered left n at s b objects saved = Fits b saved × (oneAnswer left n at s ≡ Part (tallyOf b objects saved))
 
 -- where the value lies
 pub value-in : (at : ℕ) (s : List ℕ) (b : Bounds) → headAnswer at s ≡ bounds-read b → (2 ≤ b .from) × (b .from ≤ b .to) × (b .to ≤ length s)
@@ -213,31 +216,29 @@ module _ (left n at : ℕ) (s : List ℕ) (room : n < 64) (deep : left ≡ 0 →
   unfolding insideOf
   at-branch h e f = at-head ∙ then-on _ h e ∙ pick-true _ _ f
 
-  pub one-leaf : Bytes s → (b : Bounds) → headAnswer at s ≡ bounds-read b → b .nested ≡ false
-      → Fits b 0 × (oneAnswer left n at s ≡ Part (tallyOf b (n + 1) 0))
+  pub one-leaf : Bytes s → (b : Bounds) → headAnswer at s ≡ bounds-read b → b .nested ≡ false → Answered left n at s b (n + 1) 0
   unfolding headAnswer oneAnswer asPart boundsOf
   one-leaf bs =
-      bounds-got s (headOf at s) (λ b. b .nested ≡ false → Fits b 0 × (oneAnswer left n at s ≡ Part (tallyOf b (n + 1) 0)))
+      bounds-got s (headOf at s) (λ b. b .nested ≡ false → Answered left n at s b (n + 1) 0)
       (λ h e f. (fits at s h bs e 0 (omega arith), ap (asPart oneTally) (at-leaf h e f) ∙ ap Part (leaf-tally at s h e n)))
 
   pub one-no-inner : (b : Bounds) → headAnswer at s ≡ bounds-read b → b .nested ≡ true → (r : Fault) → inner left n at s b ≡ part-refused r
       → oneAnswer left n at s ≡ part-refused r
   unfolding headAnswer oneAnswer runAnswer asPart boundsOf
   one-no-inner =
-      bounds-got s (headOf at s) (λ b. b .nested ≡ true → (r : Fault) → inner left n at s b ≡ part-refused r → oneAnswer left n at s ≡ part-refused r)
+      bounds-got s (headOf at s)
+      (λ b. b .nested ≡ true → (r : Fault) → inner left n at s b ≡ part-refused r → oneAnswer left n at s ≡ part-refused r)
       (λ h e f r g. ap (asPart oneTally) (at-branch h e f ∙ then-stop _ r (part-stopped _ _ r g)))
 
-  abbrev Branch : Bounds → Tally → Type 0
-  Branch b r = Fits b (r .spare) × (oneAnswer left n at s ≡ Part (tallyOf b (r .objects) (r .spare)))
-
   pub one-branch : Bytes s → (b : Bounds) → headAnswer at s ≡ bounds-read b → b .nested ≡ true → (r : Tally) → inner left n at s b ≡ Part r
-      → Fits b (r .spare) × (oneAnswer left n at s ≡ Part (tallyOf b (r .objects) (r .spare)))
+      → Answered left n at s b (r .objects) (r .spare)
   unfolding headAnswer oneAnswer runAnswer asPart boundsOf runTally
   one-branch bs =
-      bounds-got s (headOf at s) (λ b. b .nested ≡ true → (r : Tally) → inner left n at s b ≡ Part r → Branch b r)
+      bounds-got s (headOf at s)
+      (λ b. b .nested ≡ true → (r : Tally) → inner left n at s b ≡ Part r → Answered left n at s b (r .objects) (r .spare))
       (λ h e f.
       let t = part (from h) (to h) s in
-      part-got (runTally t) (runOf (left - 1) (n + 1) (at + from h) t) (Branch (boundsOf s h))
+      part-got (runTally t) (runOf (left - 1) (n + 1) (at + from h) t) (λ r. Answered left n at s (boundsOf s h) (r .objects) (r .spare))
       (λ r g.
       let i = branch-tally at s h e bs (left - 1) (n + 1) (at + from h) r g in
       (fits at s h bs e (spareRun (r .objs)) (i .0), ap (asPart oneTally) (at-branch h e f ∙ then-on _ r g) ∙ ap Part (i .1))))
