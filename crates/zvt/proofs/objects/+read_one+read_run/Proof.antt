@@ -249,5 +249,12 @@ module _ (t : ℕ) where
 pub +read-one+read-run-spec : {M : Type 1} → statement M
 +read-one+read-run-spec =
     close μ-one μ-run
-    (λ t. read-one-lts.spec (one-claims t) (one-at t) read-one.Post (one-returns t) (one-returns-2 t) (one-add-count t) (one-head-of-requires t) (one-enum-known-f t) (one-enum-known-b t) (one-tally-of-requires t) (one-returns-3 t) (one-sub-read-run t) (one-part-read-run-start t) (one-part-read-run-end t) (one-add-read-run t) (one-sub-read-run-2 t) (one-read-run-requires t) (one-enum-known-f-2 t) (one-enum-known-r t) (one-tally-of-requires-2 t) (one-returns-4 t) (one-returns-5 t) (one-returns-6 t))
-    (λ t. read-run-lts.spec (run-claims t) (run-at t) read-run.Post (run-returns t) (run-read-one-requires t) (run-enum-known-f t) (run-enum-known-o t) (run-sub-read-run t) (run-part-read-run-start t) (run-part-read-run-end t) (run-add-read-run t) (run-read-run-requires t) (run-enum-known-f-2 t) (run-enum-known-r t) (run-add-spare t) (run-returns-2 t) (run-returns-3 t) (run-returns-4 t))
+    (λ t. read-one-lts.spec (one-claims t) (one-at t) read-one.Post (one-returns t) (one-returns-2 t) (one-add-count t)
+    (one-head-of-requires t) (one-enum-known-f t) (one-enum-known-b t) (one-tally-of-requires t) (one-returns-3 t)
+    (one-sub-read-run t) (one-part-read-run-start t) (one-part-read-run-end t) (one-add-read-run t) (one-sub-read-run-2 t)
+    (one-read-run-requires t) (one-enum-known-f-2 t) (one-enum-known-r t) (one-tally-of-requires-2 t) (one-returns-4 t)
+    (one-returns-5 t) (one-returns-6 t))
+    (λ t. read-run-lts.spec (run-claims t) (run-at t) read-run.Post (run-returns t) (run-read-one-requires t)
+    (run-enum-known-f t) (run-enum-known-o t) (run-sub-read-run t) (run-part-read-run-start t) (run-part-read-run-end t) (run-add-read-run t)
+    (run-read-run-requires t) (run-enum-known-f-2 t) (run-enum-known-r t) (run-add-spare t) (run-returns-2 t) (run-returns-3 t)
+    (run-returns-4 t))
