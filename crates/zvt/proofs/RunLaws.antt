@@ -9,7 +9,8 @@ use lib.Seq.{length-take-le}
 use borrow.Author.Tests.{le-leb, lt-leb, eq-eqb, ne-eqb}
 use Rattle.messages.specs.declared.Fault.{Fault}
 use Rattle.messages.specs.Reading.{Reading, got, refused, no, unless, andThen, part}
-use Rattle.messages.specs.Objects.{nested, Form, formSize, Head, from, to, headOf, Obj, leaf, branch, Objs, more, OneRead, RunRead, insideOf, oneBy, oneOf, runOf}
+use Rattle.messages.specs.Objects.{nested, Form, formSize, Head, from, to, headOf}
+use Rattle.messages.specs.Objects.{Obj, Objs, more, OneRead, RunRead, insideOf, oneBy, oneOf, runOf}
 use Rattle.messages.specs.Writing.{objBytes, runBytes}
 use Rattle.messages.specs.Shortest.{formFor, shortObj, shortRun}
 use Rattle.messages.specs.Grammar.{Bytes, FormOk, ObjOk, RunOk}
@@ -24,7 +25,8 @@ use Rattle.zvt.specs.declared.objects.BoundsRead.the-variants.{Bounds as
 use Rattle.zvt.specs.declared.objects.Tally.{Tally}
 use Rattle.zvt.specs.declared.objects.PartRead.{PartRead}
 use Rattle.zvt.specs.declared.objects.PartRead.the-variants.{Part, Refused as part-refused}
-use Rattle.zvt.specs.Objects.{asBounds, asPart, boundsOf, headAnswer, spareObj, spareRun, tallyOf, oneTally, runTally, oneAnswer, runAnswer}
+use Rattle.zvt.specs.Objects.{asBounds, asPart, boundsOf, headAnswer, spareObj, spareRun}
+use Rattle.zvt.specs.Objects.{tallyOf, oneTally, runTally, oneAnswer, runAnswer}
 
 -- ---- an answer goes back to what was read
 pub part-got : {A : Type 0} (f : A → Tally) (x : Reading A) (P : Tally → Type 0) → ((a : A) → x ≡ got a → P (f a))
@@ -63,10 +65,6 @@ spare-more o os left a b =
       length-append (objBytes o) (runBytes os),
       length-append (objBytes (shortObj o)) (runBytes (shortRun os)),
     )
-
-spare-in : (os : Objs) → spareRun os ≤ length (runBytes os)
-unfolding spareRun
-spare-in os = omega arith
 
 -- a run that was read has as many bytes as it was read from, and shortest so many fewer
 pub spare-read : (left n at : ℕ) (s : List ℕ) (r : RunRead) → Bytes s → runOf left n at s ≡ got r
@@ -123,14 +121,15 @@ module _ (left n at : ℕ) (s : List ℕ) (some : 0 < length s) where
 
   module _ (b : Bytes s) where
     goes : (o : OneRead) → oneOf left n at s ≡ got o
-        → (r : RunRead) → runOf left (o .count) (at + o .size) (drop (o .size) s) ≡ got r → Goes left n at s (oneTally o) (runTally (drop (o .size) s) r)
+        → (r : RunRead) → runOf left (o .count) (at + o .size) (drop (o .size) s) ≡ got r
+        → Goes left n at s (oneTally o) (runTally (drop (o .size) s) r)
     unfolding runAnswer asPart oneTally runTally
     goes o e r f =
         let g = one-sound left n at s o b e in
         let i = run-sound left (o .count) (at + o .size) (drop (o .size) s) r (bytes-drop (o .size) s b) f in
         let whole = run-step left n at s some ∙ then-on _ o e ∙ then-on _ r f in
         let sum = spare-more (o .obj) (r .objs) left (g .1) (i .1) in (
-          omega (arith, spare-in (more (o .obj) (r .objs)), ap length (run-sound left n at s _ b whole .0)),
+          omega (arith, spare-read left n at s _ b whole),
           rw (whole, sum),
         )
 
@@ -204,7 +203,8 @@ module _ (at : ℕ) (s : List ℕ) (h : Head) (b : Bytes s) (read : headOf at s 
       let t = tag-length in
       let v = value-length in (
         omega arith,
-        tally-is (boundsOf s h) (r .count) (spareRun (r .objs)) _ _ (length short) (omega (arith, object-size tag (h .form) (runBytes (r .objs))))
+        tally-is (boundsOf s h) (r .count) (spareRun (r .objs)) _ _ (length short)
+            (omega (arith, object-size tag (h .form) (runBytes (r .objs))))
             (omega arith) (omega (arith, object-size tag (formFor (length short)) short)),
       )
 

@@ -13,7 +13,8 @@ use Rattle.zvt.specs.Objects.{headAnswer, oneAnswer}
 use Rattle.zvt.specs.declared.objects.Bounds.{Bounds}
 use Rattle.zvt.specs.declared.objects.BoundsRead.the-variants.{Bounds as bounds-read}
 use Rattle.zvt.specs.declared.objects.PartRead.the-variants.{Part}
-use Rattle.zvt.proofs.RunLaws.{run-empty, run-no-first, run-no-rest, Goes, run-goes, first-in, one-full, one-deep, value-in, Answered, one-no-head, one-leaf, one-no-inner, one-branch}
+use Rattle.zvt.proofs.RunLaws.{run-empty, run-no-first, run-no-rest, Goes, run-goes, first-in}
+use Rattle.zvt.proofs.RunLaws.{one-full, one-deep, value-in, Answered, one-no-head, one-leaf, one-no-inner, one-branch}
 use Rattle.zvt.proofs.objects.read_one.Reads as read-one
 use Rattle.zvt.proofs.objects.read_one.Kinds as read-one-kinds
 use Rattle.zvt.proofs.objects.+read_one+read_run.Lts-read_one as read-one-lts
@@ -154,7 +155,8 @@ module _ (t : ℕ) where
   one-returns-4 : read-one-lts.Need-returns-4 one-claims one-at read-one.Post
   one-returns-4 c =
       let d = c .before .before .before .before in
-      sym (one-no-head _ _ _ _ (d .before .if1 .left) (d .if2 .left) _ (sym (c .before .before .before .head-of .ensures) ∙ c .before .f .given .1))
+      sym (one-no-head _ _ _ _ (d .before .if1 .left) (d .if2 .left) _
+      (sym (c .before .before .before .head-of .ensures) ∙ c .before .f .given .1))
 
   one-returns-5 : read-one-lts.Need-returns-5 one-claims one-at read-one.Post
   one-returns-5 c =
