@@ -1,0 +1,4 @@
+-- The laws that the functions are proved by.
+pub mod Masks
+pub mod ObjectLaws
+pub mod RunLaws
