@@ -1,5 +1,9 @@
 -- The laws of the definitions, by subject.
 pub mod Readings
+pub mod FieldSteps
+pub mod FieldBytes
+pub mod MessageBytes
+pub mod FieldShort
 pub mod ObjectSteps
 pub mod Lengths
 pub mod ObjectShort
