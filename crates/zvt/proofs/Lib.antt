@@ -1,0 +1,2 @@
+-- The laws that the functions are proved by.
+pub mod HeaderLaws
