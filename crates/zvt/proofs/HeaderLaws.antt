@@ -1,16 +1,16 @@
 -- What the readers of a header answer, case by case. Assumes nothing.
-use mathlib.Core.Path.{_≡_, refl, sym, ap, _∙_}
+use mathlib.Core.Path.{_≡_, refl, ap, _∙_}
 use mathlib.Core.Bool.{Bool, true, false}
 use mathlib.Core.List.{List, [], _∷_}
 use Prim.Native.Nat.{ℕ, _+_, _-_, _*_, _<_, _≤_}
 use native.Mathlib.Omega.{arith}
 use lib.ListN.{length, getD}
 use lib.Dec.{ltb}
-use borrow.Author.Tests.{ltb-false, lt-ltb, le-ltb, ne-eqb}
+use borrow.Author.Tests.{lt-ltb, le-ltb, ne-eqb}
 use Rattle.messages.specs.declared.Fault.{Fault}
 use Rattle.messages.specs.Reading.{Reading, got, refused, noHeader, pick, unless, andThen}
 use Rattle.messages.specs.Message.{BodyLength, longLength, lengthOf, Header as MessageHeader, start, end, headerWith, headerOf, wholeHeader}
-use Rattle.messages.proofs.Readings.{got-same, got-not-refused, unless-got, then-got, then-on, then-stop}
+use Rattle.messages.proofs.Readings.{unless-got, then-got, then-on, then-stop}
 use Rattle.messages.proofs.FieldSteps.{header-in}
 use Rattle.zvt.specs.declared.Header.{Header}
 use Rattle.zvt.specs.declared.headers.HeaderRead.the-variants.{Header as header-read, Refused as header-refused}
@@ -112,6 +112,13 @@ pub whole-stopped : (s : List ℕ) (r : Fault) → wholeAnswer s ≡ header-refu
 unfolding wholeAnswer
 whole-stopped s r e = as-stopped (wholeHeader s) r e
 
+-- a whole header is a header
+pub whole-first : (s : List ℕ) (m : MessageHeader) → wholeHeader s ≡ got m → headerOf s ≡ got m
+unfolding wholeHeader
+whole-first s m e =
+    let k = then-got (headerOf s) _ m e in
+    k .1 ∙ unless-got (ltb (end (k .0)) (length s)) _ _ m (k .2) .1
+
 -- ---- the body lies within the bytes and the limit
 abbrev pub Within : Header → List ℕ → Type 0
 Within h s = (h .start ≤ 5) × (h .length ≤ 4096) × (h .start + h .length ≤ length s)
@@ -126,6 +133,9 @@ got-within s m e = let i = header-in s m e in (starts (m .long), i .0, i .1)
 
 pub first-within : (s : List ℕ) (h : Header) → firstHeader s ≡ header-read h → Within h s
 first-within s h e = let g = first-got s h e in rw (← (g .2)) (got-within s (g .0) (g .1))
+
+pub whole-within : (s : List ℕ) (h : Header) → wholeAnswer s ≡ header-read h → Within h s
+whole-within s h e = let g = whole-got s h e in rw (← (g .2)) (got-within s (g .0) (whole-first s (g .0) (g .1)))
 
 -- ---- nothing behind the body
 pub whole-none : (s : List ℕ) (r : Fault) → firstHeader s ≡ header-refused r → wholeAnswer s ≡ header-refused r
