@@ -1,2 +1,7 @@
 -- The laws of the definitions, by subject.
 pub mod Readings
+pub mod FieldSteps
+pub mod FieldBytes
+pub mod ObjectSteps
+pub mod Lengths
+pub mod ObjectShort
