@@ -20,14 +20,14 @@ unfoldable pub allFrom : (ℕ → Bool) → ℕ → ℕ → Bool
 allFrom p a zero = true
 allFrom p a (suc n) = p a && allFrom p (suc a) n
 
-at-key : (p : ℕ → Bool) (ks : List ℕ) → allIn p ks ≡ true → (x : ℕ) → OneOf ks x → p x ≡ true
+pub at-key : (p : ℕ → Bool) (ks : List ℕ) → allIn p ks ≡ true → (x : ℕ) → OneOf ks x → p x ≡ true
 unfolding allIn
 at-key p [] t x h = absurd h
 at-key p (k ∷ []) t x h = rw h (and-eq-true-iff (p k) true .0 t .0)
 at-key p (k ∷ (j ∷ ks)) t x (inl h) = rw h (and-eq-true-iff (p k) (allIn p (j ∷ ks)) .0 t .0)
 at-key p (k ∷ (j ∷ ks)) t x (inr h) = at-key p (j ∷ ks) (and-eq-true-iff (p k) (allIn p (j ∷ ks)) .0 t .1) x h
 
-at-from : (p : ℕ → Bool) (a n : ℕ) → allFrom p a n ≡ true → (x : ℕ) → a ≤ x → x < a + n → p x ≡ true
+pub at-from : (p : ℕ → Bool) (a n : ℕ) → allFrom p a n ≡ true → (x : ℕ) → a ≤ x → x < a + n → p x ≡ true
 unfolding allFrom
 at-from p a zero t x l h = absurd (omega arith)
 at-from p a (suc n) t x l h =
@@ -43,7 +43,7 @@ unfoldable pub anyOf : List (List ℕ) → ℕ → Bool
 anyOf [] x = false
 anyOf (ks ∷ kss) x = hasKey ks x || anyOf kss x
 
-not-any : (kss : List (List ℕ)) (x : ℕ) → NoneOf kss x → anyOf kss x ≡ false
+pub not-any : (kss : List (List ℕ)) (x : ℕ) → NoneOf kss x → anyOf kss x ≡ false
 unfolding anyOf
 not-any [] x n = refl
 not-any (ks ∷ kss) x n = go (hasKey ks x) refl (not-any kss x (n .0))
