@@ -25,6 +25,10 @@ pub sized-size : (form : Form) (value : List ℕ) → length (sized form value) 
 unfolding sized
 sized-size form value = omega (arith, length-append (lenBytes form (length value)) value, lenBytes-size form (length value))
 
+pub object-size : (tag : List ℕ) (form : Form) (value : List ℕ)
+    → length (tag ++ sized form value) ≡ length tag + (formSize form + length value)
+object-size tag form value = omega (arith, length-append tag (sized form value), sized-size form value)
+
 pub len-written : (at : ℕ) (form : Form) (v : ℕ) (t : List ℕ) → FormOk form v
     → lenOf at (lenBytes form v ++ t) ≡ got (record { form = form; value = v })
 unfolding lenOf lenBytes oneByte twoBytes FormOk

@@ -5,3 +5,4 @@ pub mod FieldBytes
 pub mod ObjectSteps
 pub mod Lengths
 pub mod ObjectShort
+pub mod ObjectBytes

@@ -1,29 +1,16 @@
--- The shortest form of a run of data objects: still well formed, the same values, no longer, and strictly shorter unless it was so
--- already. Assumes nothing.
-use mathlib.Core.Path.{_≡_, refl, sym, ap, ap₂, _∙_}
-use mathlib.Core.Bool.{Bool, true, false, _&&_}
-use mathlib.Core.List.{List, _++_}
+-- A run of data objects with every length shortest: well formed, of the same values, and shorter unless it was so. Assumes nothing.
+use mathlib.Core.Path.{_≡_, refl, ap, ap₂}
+use mathlib.Core.Bool.{true, and-eq-true-iff}
 use Prim.Native.Nat.{ℕ, suc, _+_, _-_, _≤_}
 use native.Mathlib.Omega.{arith}
 use lib.ListN.{length, length-append}
 use Rattle.messages.specs.Objects.{Form, formSize, Obj, leaf, branch, Objs, none, more, countObj, countObjs}
-use Rattle.messages.specs.Writing.{sized, objBytes, runBytes}
+use Rattle.messages.specs.Writing.{objBytes, runBytes}
 use Rattle.messages.specs.Shortest.{formFor, isShortest, shortObj, shortRun, isShortObj, isShortRun, SameObj, SameRun}
 use Rattle.messages.specs.Grammar.{ObjOk, RunOk}
-use Rattle.messages.proofs.Lengths.{sized-size, formFor-ok, form-shorter, form-kept, form-strict, formFor-shortest}
-
--- what a test of two says of each
-pub both : (a b : Bool) → (a && b) ≡ true → (a ≡ true) × (b ≡ true)
-both true b e = (refl, e)
-both false b e = absurd (let z : _≡_ {A = ℕ} 0 1 = cc in omega arith)
-
-pub both-true : {a b : Bool} → a ≡ true → b ≡ true → (a && b) ≡ true
-both-true p q = rw (p, q)
+use Rattle.messages.proofs.Lengths.{object-size, formFor-ok, form-shorter, form-kept, form-strict, formFor-shortest}
 
 -- ---- the sizes
-object-size : (tag : List ℕ) (form : Form) (value : List ℕ) → length (tag ++ sized form value) ≡ length tag + (formSize form + length value)
-object-size tag form value = omega (arith, length-append tag (sized form value), sized-size form value)
-
 mutual
   unfolding objBytes runBytes shortObj shortRun ObjOk RunOk
 
@@ -89,11 +76,11 @@ mutual
 
   pub obj-short : (o : Obj) → isShortObj (shortObj o) ≡ true
   obj-short (leaf tag form value) = formFor-shortest (length value)
-  obj-short (branch tag form os) = both-true (formFor-shortest (length (runBytes (shortRun os)))) (run-short os)
+  obj-short (branch tag form os) = and-eq-true-iff _ _ .1 (formFor-shortest (length (runBytes (shortRun os))), run-short os)
 
   pub run-short : (os : Objs) → isShortRun (shortRun os) ≡ true
   run-short none = refl
-  run-short (more o os) = both-true (obj-short o) (run-short os)
+  run-short (more o os) = and-eq-true-iff _ _ .1 (obj-short o, run-short os)
 
 -- what is shortest stays
 mutual
@@ -102,14 +89,14 @@ mutual
   pub obj-kept : (o : Obj) (left : ℕ) → ObjOk o left → isShortObj o ≡ true → shortObj o ≡ o
   obj-kept (leaf tag form value) left ok e = ap (λ (f : Form). leaf tag f value) (form-kept form (length value) (ok .1) e)
   obj-kept (branch tag form os) left ok e =
-      let b = both (isShortest form (length (runBytes os))) (isShortRun os) e in
+      let b = and-eq-true-iff (isShortest form (length (runBytes os))) (isShortRun os) .0 e in
       let i = run-kept os (left - 1) (ok .3) (b .1) in
       rw i (ap (λ (f : Form). branch tag f os) (form-kept form (length (runBytes os)) (ok .1) (b .0)))
 
   pub run-kept : (os : Objs) (left : ℕ) → RunOk os left → isShortRun os ≡ true → shortRun os ≡ os
   run-kept none left ok e = refl
   run-kept (more o os) left ok e =
-      let b = both (isShortObj o) (isShortRun os) e in
+      let b = and-eq-true-iff (isShortObj o) (isShortRun os) .0 e in
       ap₂ more (obj-kept o left (ok .0) (b .0)) (run-kept os left (ok .1) (b .1))
 
 -- where no byte is saved, every length was shortest
@@ -126,8 +113,8 @@ mutual
       let a = object-size tag form (runBytes os) in
       let b = object-size tag (formFor (length v)) v in
       let w : length v ≡ length (runBytes os) = omega arith in
-      both-true (form-strict form (length (runBytes os)) (ok .1) (ap (λ (x : ℕ). formSize (formFor x)) (sym w) ∙ omega arith))
-      (run-strict os (left - 1) (ok .3) w)
+      let s = ap (λ (x : ℕ). formSize (formFor x)) w in
+      and-eq-true-iff _ _ .1 (form-strict form (length (runBytes os)) (ok .1) (omega arith), run-strict os (left - 1) (ok .3) w)
 
   pub run-strict : (os : Objs) (left : ℕ) → RunOk os left → length (runBytes (shortRun os)) ≡ length (runBytes os) → isShortRun os ≡ true
   run-strict none left ok e = refl
@@ -136,4 +123,4 @@ mutual
       let j = run-shorter os left (ok .1) in
       let a = length-append (objBytes o) (runBytes os) in
       let b = length-append (objBytes (shortObj o)) (runBytes (shortRun os)) in
-      both-true (obj-strict o left (ok .0) (omega arith)) (run-strict os left (ok .1) (omega arith))
+      and-eq-true-iff _ _ .1 (obj-strict o left (ok .0) (omega arith), run-strict os left (ok .1) (omega arith))

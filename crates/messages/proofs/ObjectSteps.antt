@@ -190,3 +190,17 @@ run-step left n at [] h = absurd (omega arith)
 run-step left n at (b ∷ s) h =
     step-cong (λ l m a t. runBy (length s) l m a t) runOf left n at (b ∷ s)
     (λ l m a t k. enough (length s) (length t) l m a t (omega arith) (omega arith))
+
+-- what a run that was read says: its first object, and the rest
+pub record MoreRead (left n at : ℕ) (s : List ℕ) (r : RunRead) : Type 0 where
+  pub first : OneRead
+  pub rest : RunRead
+  pub read : oneOf left n at s ≡ got first
+  pub then : runOf left (first .count) (at + first .size) (drop (first .size) s) ≡ got rest
+  pub all : _≡_ {A = RunRead} (record { objs = more (first .obj) (rest .objs); count = rest .count }) r
+
+pub run-got : (left n at : ℕ) (s : List ℕ) (r : RunRead) → 0 < length s → runOf left n at s ≡ got r → MoreRead left n at s r
+run-got left n at s r l e =
+    let x = then-got (oneOf left n at s) _ r (sym (run-step left n at s l) ∙ e) in
+    let y = then-got (runOf left (x .0 .count) (at + x .0 .size) (drop (x .0 .size) s)) _ r (x .2) in
+    record { first = x .0; rest = y .0; read = x .1; then = y .1; all = got-same (y .2) }

@@ -1,2 +1,5 @@
--- The laws that the proofs of several functions cite.
+-- The laws that the functions are proved by.
+pub mod Masks
+pub mod ObjectLaws
+pub mod RunLaws
 pub mod Tables
