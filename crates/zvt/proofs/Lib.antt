@@ -1,4 +1,8 @@
 -- The laws that the functions are proved by.
+pub mod Masks
+pub mod ObjectLaws
+pub mod RunLaws
+pub mod Tables
 pub mod HeaderLaws
 pub mod BodyLaws
 pub mod MessageLaws
