@@ -1,6 +1,6 @@
 -- What the readers of a body answer, case by case. Assumes nothing.
-use mathlib.Core.Path.{_≡_, refl, ap, _∙_, subst}
-use mathlib.Core.Bool.{Bool, true, false, not}
+use mathlib.Core.Path.{sym, _≡_, refl, ap, _∙_}
+use mathlib.Core.Bool.{not}
 use mathlib.Core.List.{List, [], _∷_}
 use Prim.Native.Nat.{ℕ, _+_, _-_, _<_, _≤_}
 use native.Mathlib.Omega.{arith}
@@ -16,16 +16,17 @@ use Rattle.messages.specs.Message.{listed, bodyOf, securedOf, countBody}
 use Rattle.messages.specs.Writing.{listBytes, bodyBytes}
 use Rattle.messages.specs.Shortest.{shortList, shortBody}
 use Rattle.messages.specs.Grammar.{Bytes}
-use Rattle.messages.proofs.Readings.{got-not-refused, unless-on}
+use Rattle.messages.proofs.Readings.{unless-on, then-on, then-stop}
 use Rattle.messages.proofs.ObjectSteps.{tail}
 use Rattle.messages.proofs.ObjectBytes.{bytes-drop}
-use Rattle.messages.proofs.FieldSteps.{undecimal-got}
-use Rattle.messages.proofs.FieldBytes.{decimals-read, list-sound}
+use Rattle.messages.proofs.FieldBytes.{list-sound}
 use Rattle.zvt.specs.declared.objects.Tally.{Tally}
 use Rattle.zvt.specs.declared.objects.PartRead.the-variants.{Part, Refused as part-refused}
 use Rattle.zvt.specs.declared.fields.Decimals.the-variants.{All, Refused as decimals-refused}
 use Rattle.zvt.specs.Objects.{asPart}
 use Rattle.zvt.specs.Fields.{asDecimals, decimalsAnswer, spareList, listTally, listAnswer}
+use Rattle.zvt.proofs.RunLaws.{part-got, part-stopped}
+use Rattle.zvt.proofs.ObjectLaws.{unless-then}
 use Rattle.zvt.specs.Body.{spareBody, bodyTally, securedAnswer, bodyAnswer}
 
 -- what is known of a slice of bytes
@@ -33,49 +34,21 @@ pub bytes-known : (s : List ℕ) → ((i : ℕ) → Fits w8 (getD s i 0)) → By
 unfolding Bytes
 bytes-known s h i = omega (arith, h i)
 
--- ---- an answer goes back to what was read
-pub part-got : {A : Type 0} (f : A → Tally) (x : Reading A) (P : Tally → Type 0) → ((a : A) → x ≡ got a → P (f a))
-    → (t : Tally) → asPart f x ≡ Part t → P t
-unfolding asPart
-part-got f (got a) P h t e = subst P (let g : f a ≡ t = cc in g) (h a refl)
-part-got f (refused r) P h t e = absurd (let z : _≡_ {A = ℕ} 0 1 = cc in omega arith)
+-- ---- decimal digits, whatever follows them
+decimals-then : {A : Type 0} (at : ℕ) (s t : List ℕ) (x : Reading A) → unlessUndecimal at s x ≡ andThen (unlessUndecimal at s (got t)) (λ u. x)
+unfolding unlessUndecimal andThen
+decimals-then at [] t x = refl
+decimals-then at (b ∷ s) t x = ap (unless (not (decimal b)) (no 6 at)) (decimals-then (at + 1) s t x) ∙ sym (unless-then _ _ _ _)
 
-pub part-stopped : {A : Type 0} (f : A → Tally) (x : Reading A) (r : Fault) → asPart f x ≡ part-refused r → x ≡ refused r
-unfolding asPart
-part-stopped f (got a) r e = absurd (let z : _≡_ {A = ℕ} 0 1 = cc in omega arith)
-part-stopped f (refused q) r e = cc
-
--- ---- decimal digits, whatever follows
-all-got : (x : Reading (List ℕ)) → asDecimals x ≡ All → (s : List ℕ) × (x ≡ got s)
+decimals-got : (x : Reading (List ℕ)) → asDecimals x ≡ All → (t : List ℕ) × (x ≡ got t)
 unfolding asDecimals
-all-got (got s) e = (s, refl)
-all-got (refused r) e = absurd (let z : _≡_ {A = ℕ} 0 1 = cc in omega arith)
+decimals-got (got t) e = (t, refl)
+decimals-got (refused r) e = absurd (let z : _≡_ {A = ℕ} 0 1 = cc in omega arith)
 
-all-stopped : (x : Reading (List ℕ)) (r : Fault) → asDecimals x ≡ decimals-refused r → x ≡ refused r
+decimals-stopped : (x : Reading (List ℕ)) (r : Fault) → asDecimals x ≡ decimals-refused r → x ≡ refused r
 unfolding asDecimals
-all-stopped (got s) r e = absurd (let z : _≡_ {A = ℕ} 0 1 = cc in omega arith)
-all-stopped (refused q) r e = cc
-
-unless-alike : {A B : Type 0} (t : Bool) (q r : Fault) {x : Reading A} {y : Reading B} → (x ≡ refused r → y ≡ refused r)
-    → unless t q x ≡ refused r → unless t q y ≡ refused r
-unfolding unless
-unless-alike true q r h e = cc
-unless-alike false q r h e = h e
-
-undecimal-alike : {A B : Type 0} (at : ℕ) (s : List ℕ) (a : A) (x : Reading B) (r : Fault)
-    → unlessUndecimal at s (got a) ≡ refused r → unlessUndecimal at s x ≡ refused r
-unfolding unlessUndecimal
-undecimal-alike at [] a x r e = absurd (got-not-refused e)
-undecimal-alike at (b ∷ s) a x r e = unless-alike (not (decimal b)) (no 6 at) r (undecimal-alike (at + 1) s a x r) e
-
-pub decimals-all : {A : Type 0} (at : ℕ) (s : List ℕ) (x : Reading A) → decimalsAnswer at s ≡ All → unlessUndecimal at s x ≡ x
-unfolding decimalsAnswer
-decimals-all at s x e = let g = all-got _ e in decimals-read at s x (undecimal-got at s (got s) (g .0) (g .1) .0)
-
-pub decimals-stopped : {A : Type 0} (at : ℕ) (s : List ℕ) (x : Reading A) (r : Fault) → decimalsAnswer at s ≡ decimals-refused r
-    → unlessUndecimal at s x ≡ refused r
-unfolding decimalsAnswer
-decimals-stopped at s x r e = undecimal-alike at s s x r (all-stopped _ r e)
+decimals-stopped (got t) r e = absurd (let z : _≡_ {A = ℕ} 0 1 = cc in omega arith)
+decimals-stopped (refused q) r e = cc
 
 -- ---- fields behind a password, or behind nothing
 abbrev sizedTally : ℕ → ListRead → Tally
@@ -92,7 +65,8 @@ behind password s t at r b e =
     cc
 
 fields-part : (password s t : List ℕ) (at : ℕ) → Bytes t
-    → asPart (bodyTally s) (andThen (listOf [] 0 at t) λ l. got (listed password (l .fields))) ≡ asPart (sizedTally (length s)) (listOf [] 0 at t)
+    → asPart (bodyTally s) (andThen (listOf [] 0 at t) λ l. got (listed password (l .fields)))
+    ≡ asPart (sizedTally (length s)) (listOf [] 0 at t)
 unfolding asPart andThen
 fields-part password s t at b = go (listOf [] 0 at t) refl
   where
@@ -112,25 +86,32 @@ module _ (at : ℕ) (s : List ℕ) (h : 3 ≤ length s) where
   past-cut = unless-on _ _ (le-ltb (length s) 3 h)
 
   pub secured-undecimal : (r : Fault) → decimalsAnswer at (take 3 s) ≡ decimals-refused r → securedAnswer at s ≡ part-refused r
-  unfolding securedAnswer asPart
-  secured-undecimal r e = ap (asPart (bodyTally s)) (past-cut ∙ decimals-stopped at (take 3 s) _ r e)
+  unfolding securedAnswer asPart decimalsAnswer
+  secured-undecimal r e =
+      ap (asPart (bodyTally s)) (past-cut ∙ decimals-then at (take 3 s) (take 3 s) _ ∙ then-stop _ r (decimals-stopped _ r e))
 
   module _ (bs : Bytes s) (e : decimalsAnswer at (take 3 s) ≡ All) where
-    secured-on : securedAnswer at s ≡ asPart (sizedTally (length s)) (listOf [] 0 (at + 3) (drop 3 s))
-    unfolding securedAnswer
-    secured-on =
-        ap (asPart (bodyTally s)) (past-cut ∙ decimals-all at (take 3 s) _ e) ∙ fields-part (take 3 s) s (drop 3 s) (at + 3) (bytes-drop 3 s bs)
+    abbrev rest : Reading ListRead
+    rest = listOf [] 0 (at + 3) (drop 3 s)
 
-    pub secured-stopped : (r : Fault) → listAnswer (at + 3) (take (length s - 3) (drop 3 s)) ≡ part-refused r → securedAnswer at s ≡ part-refused r
+    secured-on : securedAnswer at s ≡ asPart (sizedTally (length s)) rest
+    unfolding securedAnswer decimalsAnswer
+    secured-on =
+        let g = decimals-got _ e in
+        ap (asPart (bodyTally s)) (past-cut ∙ decimals-then at (take 3 s) (take 3 s) _ ∙ then-on _ (g .0) (g .1))
+        ∙ fields-part (take 3 s) s (drop 3 s) (at + 3) (bytes-drop 3 s bs)
+
+    pub secured-stopped : (r : Fault) → listAnswer (at + 3) (take (length s - 3) (drop 3 s)) ≡ part-refused r
+        → securedAnswer at s ≡ part-refused r
     unfolding listAnswer asPart
-    secured-stopped r f = secured-on ∙ ap (asPart (sizedTally (length s))) (part-stopped (listTally (drop 3 s)) (listOf [] 0 (at + 3) (drop 3 s)) r (rw tail at f))
+    secured-stopped r f = secured-on ∙ ap (asPart (sizedTally (length s))) (part-stopped (listTally (drop 3 s)) rest r (rw tail at f))
 
     pub secured-read : (t : Tally) → listAnswer (at + 3) (take (length s - 3) (drop 3 s)) ≡ Part t
         → securedAnswer at s ≡ Part (record { size = length s; objects = t .objects; spare = t .spare })
     unfolding listAnswer asPart listTally
     secured-read t f =
         let P : Tally → Type 0 = λ t. securedAnswer at s ≡ Part (record { size = length s; objects = t .objects; spare = t .spare }) in
-        part-got (listTally (drop 3 s)) (listOf [] 0 (at + 3) (drop 3 s)) P (λ r g. secured-on ∙ ap (asPart (sizedTally (length s))) g) t (rw tail at f)
+        part-got (listTally (drop 3 s)) rest P (λ r g. secured-on ∙ ap (asPart (sizedTally (length s))) g) t (rw tail at f)
 
 pub plain-body : (at : ℕ) (s : List ℕ) → bodyAnswer at s Plain ≡ Part (record { size = length s; objects = 0; spare = 0 })
 unfolding bodyAnswer bodyOf asPart bodyTally spareBody countBody bodyBytes shortBody

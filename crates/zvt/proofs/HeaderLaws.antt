@@ -8,14 +8,16 @@ use lib.ListN.{length, getD}
 use lib.Dec.{ltb}
 use borrow.Author.Tests.{lt-ltb, le-ltb, ne-eqb}
 use Rattle.messages.specs.declared.Fault.{Fault}
-use Rattle.messages.specs.Reading.{Reading, got, refused, noHeader, pick, unless, andThen}
-use Rattle.messages.specs.Message.{BodyLength, longLength, lengthOf, Header as MessageHeader, start, end, headerWith, headerOf, wholeHeader}
+use Rattle.messages.specs.Reading.{Reading, got, refused, noHeader, unless, andThen}
+use Rattle.messages.specs.Message.{BodyLength, longLength, lengthOf, Header as MessageHeader, headerSize, end, headerWith, headerOf, wholeHeader}
 use Rattle.messages.proofs.Readings.{unless-got, then-got, then-on, then-stop}
 use Rattle.messages.proofs.FieldSteps.{header-in}
 use Rattle.zvt.specs.declared.Header.{Header}
+use Rattle.zvt.specs.declared.headers.HeaderRead.{HeaderRead}
 use Rattle.zvt.specs.declared.headers.HeaderRead.the-variants.{Header as header-read, Refused as header-refused}
 use Rattle.zvt.specs.Header.{asHeader, headerIn, fitting, firstHeader, wholeAnswer}
 use Rattle.zvt.specs.declared.HeaderAnswer.the-variants.{Header as answer-got, Refused as answer-no}
+use Rattle.zvt.proofs.ObjectLaws.{unless-then}
 use Rattle.zvt.specs.Answers.{refusalOf, asHeaderAnswer, headerAnswer}
 
 -- ---- where the body lies
@@ -32,14 +34,12 @@ unfolding fitting asHeader unless
 fit-in h s o l = rw (le-ltb 4096 (h .length) o, le-ltb (length s) (h .start + h .length) l)
 
 -- ---- the bytes of a header
-unless-then : {A B : Type 0} (t : Bool) (r : Fault) (x : Reading A) (f : A → Reading B) → andThen (unless t r x) f ≡ unless t r (andThen x f)
-unfolding unless andThen
-unless-then true r x f = refl
-unless-then false r x f = refl
+-- a header in the code's terms
+abbrev inCode : Reading MessageHeader → HeaderRead
+inCode x = asHeader (andThen x λ m. got (headerIn m))
 
--- a header with that length, in the code's terms
 with-fitting : (c i : ℕ) (s : List ℕ) (l : BodyLength)
-    → asHeader (andThen (headerWith c i s l) λ h. got (headerIn h))
+    → inCode (headerWith c i s l)
     ≡ fitting (headerIn (record { class = c; instruction = i; long = l .long; size = l .value })) s
 unfolding headerWith fitting headerIn andThen
 with-fitting c i s l = ap asHeader (unless-then _ _ _ _ ∙ rw unless-then)
@@ -48,7 +48,7 @@ by-length : (c i : ℕ) (s : List ℕ) (l : BodyLength) → lengthOf s ≡ got l
     → firstHeader (c ∷ (i ∷ s)) ≡ fitting (headerIn (record { class = c; instruction = i; long = l .long; size = l .value })) (c ∷ (i ∷ s))
 unfolding firstHeader headerOf
 by-length c i s l e =
-    ap (λ (x : Reading MessageHeader). asHeader (andThen x λ h. got (headerIn h))) (then-on _ l e) ∙ with-fitting c i (c ∷ (i ∷ s)) l
+    ap inCode (then-on _ l e) ∙ with-fitting c i (c ∷ (i ∷ s)) l
 
 pub header-none : (s : List ℕ) → length s < 3 → firstHeader s ≡ header-refused (noHeader 1)
 unfolding firstHeader asHeader headerOf lengthOf andThen
@@ -85,13 +85,13 @@ header-long (c ∷ (i ∷ (b ∷ (x ∷ [])))) h e = absurd (omega arith)
 header-long (c ∷ (i ∷ (b ∷ (x ∷ (y ∷ s))))) h e = by-length c i (b ∷ (x ∷ (y ∷ s))) (record { long = true; value = y * 256 + x }) (rw e)
 
 -- ---- from the code's answer to what was read
-as-got : (x : Reading MessageHeader) (h : Header) → asHeader (andThen x λ m. got (headerIn m)) ≡ header-read h
+as-got : (x : Reading MessageHeader) (h : Header) → inCode x ≡ header-read h
     → (m : MessageHeader) × (x ≡ got m) × (headerIn m ≡ h)
 unfolding asHeader andThen
 as-got (got m) h e = (m, refl, cc)
 as-got (refused r) h e = absurd (let z : _≡_ {A = ℕ} 0 1 = cc in omega arith)
 
-as-stopped : (x : Reading MessageHeader) (r : Fault) → asHeader (andThen x λ m. got (headerIn m)) ≡ header-refused r → x ≡ refused r
+as-stopped : (x : Reading MessageHeader) (r : Fault) → inCode x ≡ header-refused r → x ≡ refused r
 unfolding asHeader andThen
 as-stopped (got m) r e = absurd (let z : _≡_ {A = ℕ} 0 1 = cc in omega arith)
 as-stopped (refused q) r e = cc
@@ -123,7 +123,7 @@ whole-first s m e =
 abbrev pub Within : Header → List ℕ → Type 0
 Within h s = (h .start ≤ 5) × (h .length ≤ 4096) × (h .start + h .length ≤ length s)
 
-starts : (long : Bool) → pick long 5 3 ≤ 5
+starts : (long : Bool) → headerSize long ≤ 5
 starts true = omega arith
 starts false = omega arith
 
@@ -147,9 +147,10 @@ whole-goes-on : (s : List ℕ) (h : Header) → firstHeader s ≡ header-read h
 unfolding wholeAnswer wholeHeader headerIn andThen
 whole-goes-on s h e =
     let g = first-got s h e in
-    rw (← (g .2)) (ap (λ (x : Reading MessageHeader). asHeader (andThen x λ m. got (headerIn m))) (then-on _ (g .0) (g .1)) ∙ ap asHeader (unless-then _ _ _ _))
+    rw (← (g .2)) (ap inCode (then-on _ (g .0) (g .1)) ∙ ap asHeader (unless-then _ _ _ _))
 
-pub whole-over : (s : List ℕ) (h : Header) → firstHeader s ≡ header-read h → h .length < length s - h .start → wholeAnswer s ≡ header-refused (noHeader 3)
+pub whole-over : (s : List ℕ) (h : Header) → firstHeader s ≡ header-read h → h .length < length s - h .start
+    → wholeAnswer s ≡ header-refused (noHeader 3)
 unfolding asHeader unless
 whole-over s h e l = whole-goes-on s h e ∙ rw (lt-ltb (h .start + h .length) (length s) (omega arith))
 
@@ -158,7 +159,8 @@ unfolding asHeader unless
 whole-in s h e l = whole-goes-on s h e ∙ rw (le-ltb (h .start + h .length) (length s) (omega arith))
 
 -- ---- the public answer
-pub answer-refused : (s : List ℕ) (r : Fault) → wholeAnswer s ≡ header-refused r → headerAnswer s ≡ answer-no (record { number = r .number })
+pub answer-refused : (s : List ℕ) (r : Fault) → wholeAnswer s ≡ header-refused r
+    → headerAnswer s ≡ answer-no (record { number = r .number })
 unfolding headerAnswer asHeaderAnswer refusalOf
 answer-refused s r e = ap asHeaderAnswer (whole-stopped s r e)
 

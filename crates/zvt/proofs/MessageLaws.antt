@@ -34,7 +34,7 @@ use Rattle.zvt.specs.Header.{headerIn, firstHeader, wholeAnswer}
 use Rattle.zvt.specs.Body.{spareBody, bodyTally, bodyAnswer, bodyIn, described}
 use Rattle.zvt.specs.Answers.{refusalOf, messageAnswer, asReadAnswer, readAnswer, asFirstAnswer, firstAnswer}
 use Rattle.zvt.proofs.HeaderLaws.{first-got, first-stopped, whole-got, whole-first, whole-stopped}
-use Rattle.zvt.proofs.BodyLaws.{part-got, part-stopped}
+use Rattle.zvt.proofs.RunLaws.{part-got, part-stopped}
 
 -- ---- whether every length was shortest
 abbrev pub describedAs : Header → Tally → Bool → Message
@@ -49,7 +49,8 @@ pub described-full : (h : Header) (t : Tally) → t .spare ≡ 0 → 255 ≤ h .
 unfolding described
 described-full h t e l = rw (eq-eqb (t .spare) 0 e, le-leb 255 (h .length) l, or-true)
 
-pub described-start : (h : Header) (t : Tally) (b : Bool) → t .spare ≡ 0 → h .length < 255 → eqb (h .start) 3 ≡ b → describedAs h t b ≡ described h t
+pub described-start : (h : Header) (t : Tally) (b : Bool) → t .spare ≡ 0 → h .length < 255 → eqb (h .start) 3 ≡ b
+    → describedAs h t b ≡ described h t
 unfolding described
 described-start h t b e l f = rw (eq-eqb (t .spare) 0 e, lt-leb 255 (h .length) l, or-false, f)
 

@@ -16,13 +16,14 @@ sub-if3 c = search needs
 
 returns-2 : tie.Need-returns-2
 returns-2 c =
-    sym (fit-cut (c .before .before .before .before .args .h) (c .before .before .before .before .args .s .now) (c .before .before .if1 .left)
+    let start = c .before .before .before .before in
+    sym (fit-cut (start .args .h) (start .args .s .now) (c .before .before .if1 .left)
     (⊎-elim (λ w. omega arith) (λ w. omega (arith, ltb-true)) (c .if2 .came)))
 
 returns-3 : tie.Need-returns-3
 returns-3 c =
-    sym (fit-in (c .before .before .before .before .before .before .before .args .h)
-    (c .before .before .before .before .before .before .before .args .s .now) (c .before .before .before .before .before .if1 .left)
+    let start = c .before .before .before .before .before .before .before in
+    sym (fit-in (start .args .h) (start .args .s .now) (c .before .before .before .before .before .if1 .left)
     (omega (arith, ltb-false)))
 
 pub fitted-spec : {M : Type 1} → statement M

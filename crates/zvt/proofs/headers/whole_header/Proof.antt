@@ -17,16 +17,22 @@ enum-known-h c = search needs
 
 sub-if1 : tie.Need-sub-if1
 sub-if1 c =
-    let w = first-within _ _ (sym (c .before .before .before .before .header-of .ensures) ∙ c .before .before .h .given .1) in omega (arith, w .2)
+    let called = c .before .before .before .before in
+    let w = first-within _ _ (sym (called .header-of .ensures) ∙ c .before .before .h .given .1) in
+    omega (arith, w .2)
 
 returns : tie.Need-returns
-returns c = sym (whole-over _ _ (sym (c .before .before .before .before .before .before .header-of .ensures) ∙ c .before .before .before .before .h .given .1) (c .if1 .taken))
+returns c =
+    let called = c .before .before .before .before .before .before in
+    sym (whole-over _ _ (sym (called .header-of .ensures) ∙ c .before .before .before .before .h .given .1) (c .if1 .taken))
 
 returns-2 : tie.Need-returns-2
 returns-2 c = sym (whole-none _ _ (sym (c .before .before .before .header-of .ensures) ∙ c .before .f .given .1))
 
 returns-3 : tie.Need-returns-3
-returns-3 c = sym (whole-in _ _ (sym (c .before .before .before .before .before .before .header-of .ensures) ∙ c .before .before .before .before .h .given .1) (c .if1 .left))
+returns-3 c =
+    let called = c .before .before .before .before .before .before in
+    sym (whole-in _ _ (sym (called .header-of .ensures) ∙ c .before .before .before .before .h .given .1) (c .if1 .left))
 
 pub whole-header-spec : {M : Type 1} → statement M
 whole-header-spec =
