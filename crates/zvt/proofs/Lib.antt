@@ -3,3 +3,4 @@ pub mod Masks
 pub mod ObjectLaws
 pub mod RunLaws
 pub mod Tables
+pub mod FieldLaws
