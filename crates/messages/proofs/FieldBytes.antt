@@ -13,7 +13,7 @@ use borrow.Author.Tests.{le-leb, le-ltb, eqb-true}
 use Rattle.messages.specs.declared.Format.{Format}
 use Rattle.messages.specs.declared.Format.the-variants.{Unknown, Fixed, Digits, Container}
 use Rattle.messages.specs.Reading.{Reading, got, no, part, among}
-use Rattle.messages.specs.Objects.{Form, formSize, lenOf, Objs, countObjs}
+use Rattle.messages.specs.Objects.{Form, formSize, lenOf, Objs, countObjs, RunRead, runOf}
 use Rattle.messages.specs.Fields.{formatOf, unknown, lengthDigit, digitsOf, unlessUndecimal, holdsDigits, digitsIn, Field, plain, container, fieldId, countField, FieldRead, valueOf, plainOf, containerOf, fieldBy, fieldOf, countFields, ListRead, listOf}
 use Rattle.messages.specs.Writing.{lenBytes, sized, runBytes, digitBytes, lengthIn, fieldBytes, listBytes}
 use Rattle.messages.specs.Grammar.{Bytes, RunOk, Decimals, FormOk, SizeOk, FieldOk, ListOk}
@@ -101,7 +101,8 @@ pub record FieldSound (n : ℕ) (s : List ℕ) (o : FieldRead) : Type 0 where
   pub count : o .count ≡ n + countField (o .field)
   pub few : n ≤ 64 → o .count ≤ 64
 
-plain-sound : (id n at d v : ℕ) (t : List ℕ) (o : FieldRead) → SizeOk (formatOf id) v → lengthIn (formatOf id) v ≡ take d t → plainOf id n at (1 + d) v (id ∷ t) ≡ got o
+plain-sound : (id n at d v : ℕ) (t : List ℕ) (o : FieldRead) → SizeOk (formatOf id) v → lengthIn (formatOf id) v ≡ take d t
+    → plainOf id n at (1 + d) v (id ∷ t) ≡ got o
     → FieldSound n (id ∷ t) o
 unfolding fieldBytes FieldOk fieldId countField
 plain-sound id n at d v t o ok p e =
@@ -118,24 +119,24 @@ plain-sound id n at d v t o ok p e =
     })
 
 -- ---- a field that was written
-module _ (seen : List ℕ) (n at : ℕ) (s : List ℕ) where
-  value-back : (a v : ℕ) (w : List ℕ) → a + v ≤ length s → part a (a + v) s ≡ w → valueOf at a v s ≡ got w
-  unfolding valueOf
-  value-back a v w h e = unless-on _ _ (le-ltb (length s) (a + v) h) ∙ ap got e
+value-back : (at : ℕ) (s : List ℕ) (a v : ℕ) (w : List ℕ) → a + v ≤ length s → part a (a + v) s ≡ w → valueOf at a v s ≡ got w
+unfolding valueOf
+value-back at s a v w h e = unless-on _ _ (le-ltb (length s) (a + v) h) ∙ ap got e
 
-  field-by : (id : ℕ) (f : Format) → getD s 0 0 ≡ id → formatOf id ≡ f → unknown f ≡ false → among seen id ≡ false
-      → fieldOf seen n at s ≡ fieldBy id n at s f
-  unfolding fieldOf
-  field-by id f i e known new = rw (i, e) (unless-on _ _ known ∙ unless-on _ _ new)
+field-by : (seen : List ℕ) (n at : ℕ) (s : List ℕ) (id : ℕ) (f : Format) → getD s 0 0 ≡ id → formatOf id ≡ f → unknown f ≡ false
+    → among seen id ≡ false → fieldOf seen n at s ≡ fieldBy id n at s f
+unfolding fieldOf
+field-by seen n at s id f i e known new = rw (i, e) (unless-on _ _ known ∙ unless-on _ _ new)
 
 plain-back : (id n at : ℕ) (p value rest : List ℕ) (d : ℕ) → length p ≡ d → (holdsDigits id ≡ true → Decimals value)
-    → plainOf id n at (1 + d) (length value) (id ∷ ((p ++ value) ++ rest)) ≡ got (record { field = plain id value; size = suc (length (p ++ value)); count = n + 0 })
+    → plainOf id n at (1 + d) (length value) (id ∷ ((p ++ value) ++ rest))
+    ≡ got (record { field = plain id value; size = suc (length (p ++ value)); count = n + 0 })
 unfolding plainOf
 plain-back id n at p value rest d size h =
     let s = id ∷ ((p ++ value) ++ rest) in
     let whole : 1 + d + length value ≡ suc (length (p ++ value)) = omega (arith, length-append p value) in
     let none : n ≡ n + 0 = omega arith in
-    then-on _ value (value-back [] n at s (1 + d) (length value) value (back-within id p value rest d size) (back id p value rest d size))
+    then-on _ value (value-back at s (1 + d) (length value) value (back-within id p value rest d size) (back id p value rest d size))
     ∙ digits-read id (at + (1 + d)) value _ h ∙ cc
 
 -- what a field's reading gives, and how many bytes the field takes
@@ -179,7 +180,8 @@ container-id : (id : ℕ) → id < 256 → formatOf id ≡ Container → id ≡ 
 unfolding only every formatOf among
 container-id id h e = eqb-true id 0x06 (rw e at (every-holds 256 (λ i. only (formatOf i) i) refl id h))
 
-container-sound : (id n at : ℕ) (t : List ℕ) (o : FieldRead) → Bytes (id ∷ t) → id ≡ 0x06 → containerOf n at (id ∷ t) ≡ got o → FieldSound n (id ∷ t) o
+container-sound : (id n at : ℕ) (t : List ℕ) (o : FieldRead) → Bytes (id ∷ t) → id ≡ 0x06 → containerOf n at (id ∷ t) ≡ got o
+    → FieldSound n (id ∷ t) o
 unfolding fieldBytes FieldOk fieldId countField sized
 container-sound id n at t o b six e =
     let g = container-got n at (id ∷ t) o e in
@@ -202,23 +204,34 @@ six : formatOf 0x06 ≡ Container
 unfolding formatOf among
 six = refl
 
-container-complete : (form : Form) (os : Objs) (seen : List ℕ) (n at : ℕ) (rest : List ℕ) → FormOk form (length (runBytes os)) → RunOk os 4
-    → among seen 0x06 ≡ false → n + countObjs os ≤ 64 → Back seen n at (container form os) rest
-unfolding unknown fieldBy containerOf fieldBytes countField sized
-container-complete form os seen n at rest ok deep new few =
-    let w = runBytes os in
+container-back : (n at : ℕ) (form : Form) (w rest : List ℕ) (r : RunRead) → FormOk form (length w)
+    → runOf 4 n (at + (1 + formSize form)) w ≡ got r
+    → containerOf n at (0x06 ∷ (sized form w ++ rest))
+    ≡ got (record { field = container form (r .objs); size = suc (length (sized form w)); count = r .count })
+unfolding containerOf sized
+container-back n at form w rest r ok e =
     let p = lenBytes form (length w) in
     let s : List ℕ = 0x06 ∷ ((p ++ w) ++ rest) in
+    let a = 1 + formSize form in
     let size = lenBytes-size form (length w) in
-    let whole : 1 + formSize form + length w ≡ suc (length (p ++ w)) = omega (arith, length-append p w) in
-    field-by seen n at s 0x06 Container refl six refl new
-    ∙ then-on _ (record { form = form; value = length w })
+    let whole : a + length w ≡ suc (length (p ++ w)) = omega (arith, length-append p w) in
+    then-on _ (record { form = form; value = length w })
     (ap (lenOf (at + 1)) (append-assoc p w rest) ∙ len-written (at + 1) form (length w) (w ++ rest) ok)
-    ∙ then-on _ w (value-back [] n at s (1 + formSize form) (length w) w (back-within 0x06 p w rest (formSize form) size) (back 0x06 p w rest (formSize form) size))
-    ∙ then-on _ (record { objs = os; count = n + countObjs os }) (run-complete os 4 n (at + (1 + formSize form)) deep few) ∙ cc
+    ∙ then-on _ w (value-back at s a (length w) w (back-within 0x06 p w rest (formSize form) size) (back 0x06 p w rest (formSize form) size))
+    ∙ then-on _ r e ∙ cc
+
+container-complete : (form : Form) (os : Objs) (seen : List ℕ) (n at : ℕ) (rest : List ℕ) → FormOk form (length (runBytes os)) → RunOk os 4
+    → among seen 0x06 ≡ false → n + countObjs os ≤ 64 → Back seen n at (container form os) rest
+unfolding unknown fieldBy fieldBytes countField
+container-complete form os seen n at rest ok deep new few =
+    let w = runBytes os in
+    field-by seen n at (0x06 ∷ (sized form w ++ rest)) 0x06 Container refl six refl new
+    ∙ container-back n at form w rest (record { objs = os; count = n + countObjs os }) ok
+    (run-complete os 4 n (at + (1 + formSize form)) deep few)
 
 -- ---- fields and lists
-by-sound : (id n at : ℕ) (t : List ℕ) (f : Format) (o : FieldRead) → Bytes (id ∷ t) → formatOf id ≡ f → fieldBy id n at (id ∷ t) f ≡ got o → FieldSound n (id ∷ t) o
+by-sound : (id n at : ℕ) (t : List ℕ) (f : Format) (o : FieldRead) → Bytes (id ∷ t) → formatOf id ≡ f
+    → fieldBy id n at (id ∷ t) f ≡ got o → FieldSound n (id ∷ t) o
 unfolding fieldBy SizeOk lengthIn Bytes
 by-sound id n at t Unknown o b e g = absurd (got-not-refused (sym g))
 by-sound id n at t (Fixed k) o b e g = plain-sound id n at 0 k t o (rw e) (rw e) g
@@ -232,7 +245,8 @@ pub field-sound : (seen : List ℕ) (n at : ℕ) (s : List ℕ) (o : FieldRead) 
 field-sound seen n at [] o b e = absurd (omega (arith, field-in seen n at [] o e))
 field-sound seen n at (id ∷ t) o b e = by-sound id n at t (formatOf id) o b refl (field-got seen n at (id ∷ t) o e .2)
 
-pub field-complete : (f : Field) (seen : List ℕ) (n at : ℕ) (rest : List ℕ) → FieldOk f → among seen (fieldId f) ≡ false → n + countField f ≤ 64
+pub field-complete : (f : Field) (seen : List ℕ) (n at : ℕ) (rest : List ℕ) → FieldOk f → among seen (fieldId f) ≡ false
+    → n + countField f ≤ 64
     → fieldOf seen n at (fieldBytes f ++ rest) ≡ got (record { field = f; size = length (fieldBytes f); count = n + countField f })
 unfolding FieldOk fieldId countField
 field-complete (plain id value) seen n at rest ok new few = plain-complete id value (formatOf id) seen n at rest refl (ok .0) (ok .1) new
@@ -246,8 +260,16 @@ none-sound : (seen : List ℕ) (n at : ℕ) (r : ListRead) → listOf seen n at 
 unfolding listBytes ListOk countFields
 none-sound seen n at r e = rw (got-same (sym e ∙ list-none seen n at [] refl)) (refl, tt, omega arith, λ k. k)
 
-sound-by : (f : ℕ) (seen : List ℕ) (n at : ℕ) (s : List ℕ) (r : ListRead) → length s ≤ f → Bytes s → listOf seen n at s ≡ got r → ListSound seen n s r
+more-sound : (seen : List ℕ) (n : ℕ) (s : List ℕ) (o : FieldRead) (l r : ListRead) → FieldSound n s o → among seen (getD s 0 0) ≡ false
+    → ListSound (getD s 0 0 ∷ seen) (o .count) (drop (o .size) s) l
+    → _≡_ {A = Reading ListRead} (got (record { fields = o .field ∷ l .fields; count = l .count })) (got r) → ListSound seen n s r
 unfolding listBytes ListOk countFields
+more-sound seen n s o l r g new h e =
+    rw (← (got-same e))
+    (rw (g .bytes, h .0) (take-append-drop (o .size) s), (g .ok, rw (g .id) new, rw (g .id) (h .1)), omega (arith, g .count, h .2), λ m. h .3 (g .few m))
+
+sound-by : (f : ℕ) (seen : List ℕ) (n at : ℕ) (s : List ℕ) (r : ListRead) → length s ≤ f → Bytes s → listOf seen n at s ≡ got r
+    → ListSound seen n s r
 sound-by zero seen n at [] r h b e = none-sound seen n at r e
 sound-by zero seen n at (id ∷ t) r h b e = absurd (omega arith)
 sound-by (suc f) seen n at [] r h b e = none-sound seen n at r e
@@ -257,12 +279,10 @@ sound-by (suc f) seen n at (id ∷ t) r h b e =
     let o = k .0 in
     let rest = drop (o .size) s in
     let i = field-in seen n at s o (k .1) in
-    let g = field-sound seen n at s o b (k .1) in
     let l = then-got (listOf (id ∷ seen) (o .count) (at + o .size) rest) _ r (k .2) in
-    let ih = sound-by f (id ∷ seen) (o .count) (at + o .size) rest (l .0) (omega (arith, length-drop (o .size) s)) (bytes-drop (o .size) s b) (l .1) in
-    let new = field-got seen n at s o (k .1) .1 in
-    rw (← (got-same (l .2)))
-    (rw (g .bytes, ih .0) (take-append-drop (o .size) s), (g .ok, rw (g .id) new, rw (g .id) (ih .1)), omega (arith, g .count, ih .2), λ m. ih .3 (g .few m))
+    let less : length rest ≤ f = omega (arith, length-drop (o .size) s) in
+    let ih = sound-by f (id ∷ seen) (o .count) (at + o .size) rest (l .0) less (bytes-drop (o .size) s b) (l .1) in
+    more-sound seen n s o (l .0) r (field-sound seen n at s o b (k .1)) (field-got seen n at s o (k .1) .1) ih (l .2)
 
 pub list-sound : (seen : List ℕ) (n at : ℕ) (s : List ℕ) (r : ListRead) → Bytes s → listOf seen n at s ≡ got r → ListSound seen n s r
 list-sound seen n at s r = sound-by (length s) seen n at s r (omega arith)
@@ -272,18 +292,21 @@ unfolding fieldBytes fieldId
 begins (plain id value) rest = refl
 begins (container form os) rest = refl
 
+more-back : (seen : List ℕ) (n at : ℕ) (w rest : List ℕ) (f : Field) (fs : List Field) (c d : ℕ)
+    → fieldOf seen n at (w ++ rest) ≡ got (record { field = f; size = length w; count = c })
+    → listOf (getD (w ++ rest) 0 0 ∷ seen) c (at + length w) rest ≡ got (record { fields = fs; count = d })
+    → listOf seen n at (w ++ rest) ≡ got (record { fields = f ∷ fs; count = d })
+more-back seen n at w rest f fs c d g h =
+    list-step seen n at (w ++ rest) (omega (arith, field-in seen n at (w ++ rest) _ g))
+    ∙ then-on _ _ g ∙ then-on _ (record { fields = fs; count = d }) (rw (drop-append-seam w rest) h)
+
 pub list-complete : (fs : List Field) (seen : List ℕ) (n at : ℕ) → ListOk seen fs → n + countFields fs ≤ 64
     → listOf seen n at (listBytes fs) ≡ got (record { fields = fs; count = n + countFields fs })
 unfolding listBytes ListOk countFields
 list-complete [] seen n at ok few = let none : n ≡ n + 0 = omega arith in list-none seen n at [] refl ∙ cc
 list-complete (f ∷ fs) seen n at ok few =
-    let w = fieldBytes f in
-    let rest = listBytes fs in
     let c = n + countField f in
-    let g = field-complete f seen n at rest (ok .0) (ok .1) (omega arith) in
-    let i = field-in seen n at (w ++ rest) _ g in
-    let ih = list-complete fs (fieldId f ∷ seen) c (at + length w) (ok .2) (omega arith) in
+    let g = field-complete f seen n at (listBytes fs) (ok .0) (ok .1) (omega arith) in
+    let ih = list-complete fs (fieldId f ∷ seen) c (at + length (fieldBytes f)) (ok .2) (omega arith) in
     let whole : c + countFields fs ≡ n + (countField f + countFields fs) = omega arith in
-    list-step seen n at (w ++ rest) (omega arith)
-    ∙ then-on _ (record { field = f; size = length w; count = c }) g
-    ∙ then-on _ (record { fields = fs; count = c + countFields fs }) (rw (begins f rest, drop-append-seam w rest) ih) ∙ cc
+    rw (← whole) (more-back seen n at (fieldBytes f) (listBytes fs) f fs c (c + countFields fs) g (rw (begins f (listBytes fs)) ih))

@@ -115,7 +115,8 @@ field-strict (container form os) ok e =
     let k = ap (λ (x : ℕ). formSize (formFor x)) w in
     and-eq-true-iff _ _ .1 (form-strict form (length (runBytes os)) (ok .0) (omega arith), run-strict os 4 (ok .1) w)
 
-pub list-strict : (fs : List Field) (seen : List ℕ) → ListOk seen fs → length (listBytes (shortList fs)) ≡ length (listBytes fs) → isShortList fs ≡ true
+pub list-strict : (fs : List Field) (seen : List ℕ) → ListOk seen fs → length (listBytes (shortList fs)) ≡ length (listBytes fs)
+    → isShortList fs ≡ true
 unfolding listBytes shortList isShortList ListOk
 list-strict [] seen ok e = refl
 list-strict (f ∷ fs) seen ok e =

@@ -24,7 +24,8 @@ pub digit-in : (b : ℕ) → lengthDigit b ≡ true → (0xF0 ≤ b) × (b ≤ 0
 digit-in b e = let k = and-eq-true-iff (leb 0xF0 b) (leb b 0xF9) .0 e in (leb-true 0xF0 b (k .0), leb-true b 0xF9 (k .1))
 
 digits-first : (d v at : ℕ) (s : List ℕ) (i : ℕ) → i < d → i < length s
-    → digitsOf (d - i) v (at + i) (drop i s) ≡ unless (not (lengthDigit (getD s i 0))) (no 4 (at + i)) (digitsOf (d - (i + 1)) (v * 10 + (getD s i 0 - 0xF0)) (at + (i + 1)) (drop (i + 1) s))
+    → digitsOf (d - i) v (at + i) (drop i s)
+    ≡ unless (not (lengthDigit (getD s i 0))) (no 4 (at + i)) (digitsOf (d - (i + 1)) (v * 10 + (getD s i 0 - 0xF0)) (at + (i + 1)) (drop (i + 1) s))
 unfolding digitsOf
 digits-first d v at s i h l =
     let k : d - i ≡ suc (d - (i + 1)) = omega arith in
@@ -45,7 +46,8 @@ module _ (d v at : ℕ) (s : List ℕ) (i : ℕ) where
   unfolding unless
   digits-on h l e = digits-first d v at s i h l ∙ rw e
 
-  pub digits-stop : i < d → i < length s → lengthDigit (getD s i 0) ≡ false → digitsOf (d - i) v (at + i) (drop i s) ≡ refused (no 4 (at + i))
+  pub digits-stop : i < d → i < length s → lengthDigit (getD s i 0) ≡ false
+      → digitsOf (d - i) v (at + i) (drop i s) ≡ refused (no 4 (at + i))
   unfolding unless
   digits-stop h l e = digits-first d v at s i h l ∙ rw e
 
@@ -74,7 +76,9 @@ digits-in (suc d) v at s w e =
 
 -- ---- bytes of decimal digits, from the i-th on
 module _ {A : Type 0} (at : ℕ) (s : List ℕ) (x : Reading A) where
-  undecimal-first : (i : ℕ) → i < length s → unlessUndecimal (at + i) (drop i s) x ≡ unless (not (decimal (getD s i 0))) (no 6 (at + i)) (unlessUndecimal (at + (i + 1)) (drop (i + 1) s) x)
+  undecimal-first : (i : ℕ) → i < length s
+      → unlessUndecimal (at + i) (drop i s) x
+      ≡ unless (not (decimal (getD s i 0))) (no 6 (at + i)) (unlessUndecimal (at + (i + 1)) (drop (i + 1) s) x)
   unfolding unlessUndecimal
   undecimal-first i l = let p : at + i + 1 ≡ at + (i + 1) = omega arith in rw (drop-cons s i 0 l, ← p, add-one i)
 
@@ -82,23 +86,27 @@ module _ {A : Type 0} (at : ℕ) (s : List ℕ) (x : Reading A) where
   unfolding unlessUndecimal
   undecimal-end i l = rw (drop-of-length-le s l)
 
-  pub undecimal-on : (i : ℕ) → i < length s → decimal (getD s i 0) ≡ true → unlessUndecimal (at + i) (drop i s) x ≡ unlessUndecimal (at + (i + 1)) (drop (i + 1) s) x
+  pub undecimal-on : (i : ℕ) → i < length s → decimal (getD s i 0) ≡ true
+      → unlessUndecimal (at + i) (drop i s) x ≡ unlessUndecimal (at + (i + 1)) (drop (i + 1) s) x
   unfolding unless
   undecimal-on i l e = undecimal-first i l ∙ rw e
 
-  pub undecimal-stop : (i : ℕ) → i < length s → decimal (getD s i 0) ≡ false → unlessUndecimal (at + i) (drop i s) x ≡ refused (no 6 (at + i))
+  pub undecimal-stop : (i : ℕ) → i < length s → decimal (getD s i 0) ≡ false
+      → unlessUndecimal (at + i) (drop i s) x ≡ refused (no 6 (at + i))
   unfolding unless
   undecimal-stop i l e = undecimal-first i l ∙ rw e
 
   -- the bytes before the i-th change nothing if each is decimal
-  pub undecimal-skip : (i : ℕ) → i ≤ length s → ((j : ℕ) → j < i → decimal (getD s j 0) ≡ true) → unlessUndecimal at s x ≡ unlessUndecimal (at + i) (drop i s) x
+  pub undecimal-skip : (i : ℕ) → i ≤ length s → ((j : ℕ) → j < i → decimal (getD s j 0) ≡ true)
+      → unlessUndecimal at s x ≡ unlessUndecimal (at + i) (drop i s) x
   undecimal-skip zero l h = rw add-zero
   undecimal-skip (suc i) l h = undecimal-skip i (omega arith) (λ j k. h j (omega arith)) ∙ undecimal-on i (omega arith) (h i (omega arith)) ∙ rw (add-one i)
 
   pub undecimal-none : ((j : ℕ) → j < length s → decimal (getD s j 0) ≡ true) → unlessUndecimal at s x ≡ x
   undecimal-none h = undecimal-skip (length s) (omega arith) h ∙ undecimal-end (length s) (omega arith)
 
-  pub undecimal-at : (i : ℕ) → i < length s → ((j : ℕ) → j < i → decimal (getD s j 0) ≡ true) → decimal (getD s i 0) ≡ false → unlessUndecimal at s x ≡ refused (no 6 (at + i))
+  pub undecimal-at : (i : ℕ) → i < length s → ((j : ℕ) → j < i → decimal (getD s j 0) ≡ true) → decimal (getD s i 0) ≡ false
+      → unlessUndecimal at s x ≡ refused (no 6 (at + i))
   undecimal-at i l h e = undecimal-skip i (omega arith) h ∙ undecimal-stop i l e
 
 -- ---- a field lies within the bytes, and takes one at least
@@ -117,7 +125,8 @@ undecimal-got at (b ∷ s) x a e =
     let h = undecimal-got (at + 1) s x a (k .1) in
     ((not-false (decimal b) (k .0), h .0), h .1)
 
-digits-got : {A : Type 0} (id at : ℕ) (s : List ℕ) (x : Reading A) (a : A) → digitsIn id at s x ≡ got a → (holdsDigits id ≡ true → Decimals s) × (x ≡ got a)
+digits-got : {A : Type 0} (id at : ℕ) (s : List ℕ) (x : Reading A) (a : A) → digitsIn id at s x ≡ got a
+    → (holdsDigits id ≡ true → Decimals s) × (x ≡ got a)
 unfolding digitsIn
 digits-got id at s x a =
     pick-test (λ y. y ≡ got a → (holdsDigits id ≡ true → Decimals s) × (x ≡ got a)) (holdsDigits id)

@@ -1,10 +1,11 @@
 -- The laws of the definitions, by subject.
 pub mod Readings
-pub mod FieldSteps
-pub mod FieldBytes
-pub mod MessageBytes
-pub mod FieldShort
 pub mod ObjectSteps
 pub mod Lengths
 pub mod ObjectShort
 pub mod ObjectBytes
+pub mod FieldSteps
+pub mod FieldBytes
+pub mod FieldShort
+pub mod MessageBytes
+pub mod MessageShort

@@ -47,7 +47,8 @@ length-sound (x ∷ s) l b e =
 -- ---- a header
 -- the bytes of a message with that header, whose body is there
 cut : (long : Bool) (c i : ℕ) (t : List ℕ) (v : ℕ)
-    → take (headerSize long + v) (c ∷ (i ∷ t)) ≡ c ∷ (i ∷ (take (headerSize long - 2) t ++ part (headerSize long) (headerSize long + v) (c ∷ (i ∷ t))))
+    → take (headerSize long + v) (c ∷ (i ∷ t))
+    ≡ c ∷ (i ∷ (take (headerSize long - 2) t ++ part (headerSize long) (headerSize long + v) (c ∷ (i ∷ t))))
 cut false c i t v =
     let e : 3 + v ≡ suc (suc (1 + v)) = omega arith in
     let k : suc (suc (1 + v)) - 3 ≡ v = omega arith in
@@ -82,7 +83,8 @@ unfolding headerWith
 with-on c i s l h w = unless-on _ _ (le-ltb 4096 (l .value) h) ∙ unless-on _ _ (le-ltb (length s) (headerSize (l .long) + l .value) w)
 
 header-complete : (c i : ℕ) (long : Bool) (w rest : List ℕ) → LengthOk long (length w)
-    → headerOf (c ∷ (i ∷ ((lengthBytes long (length w) ++ w) ++ rest))) ≡ got (record { class = c; instruction = i; long = long; size = length w })
+    → headerOf (c ∷ (i ∷ ((lengthBytes long (length w) ++ w) ++ rest)))
+    ≡ got (record { class = c; instruction = i; long = long; size = length w })
 unfolding headerOf lengthOf longLength lengthBytes LengthOk
 header-complete c i false w rest ok =
     let l : BodyLength = record { long = false; value = length w } in
@@ -102,7 +104,8 @@ behind false c i v w rest = let k : 3 + length w - 3 ≡ length w = omega arith 
 behind true c i v w rest = let k : 5 + length w - 5 ≡ length w = omega arith in rw k (take-append-seam w rest)
 
 -- ---- a body
-fields-sound : (at : ℕ) (s : List ℕ) (r : ListRead) → Bytes s → listOf [] 0 at s ≡ got r → (listBytes (r .fields) ≡ s) × FieldsOk (r .fields)
+fields-sound : (at : ℕ) (s : List ℕ) (r : ListRead) → Bytes s → listOf [] 0 at s ≡ got r
+    → (listBytes (r .fields) ≡ s) × FieldsOk (r .fields)
 unfolding FieldsOk
 fields-sound at s r b e =
     let g = list-sound [] 0 at s r b e in
@@ -122,7 +125,8 @@ body-sound at s Secured b h e =
     let g = fields-sound (at + 3) (drop 3 s) (r .0) (bytes-drop 3 s h) (r .1) in
     rw (← (got-same (r .2))) (rw (g .0) (take-append-drop 3 s), (length-take-le 3 s (ltb-false (length s) 3 (k .0)), d .0, g .1))
 
-fields-complete : (at : ℕ) (fs : List Field) → FieldsOk fs → listOf [] 0 at (listBytes fs) ≡ got (record { fields = fs; count = 0 + countFields fs })
+fields-complete : (at : ℕ) (fs : List Field) → FieldsOk fs
+    → listOf [] 0 at (listBytes fs) ≡ got (record { fields = fs; count = 0 + countFields fs })
 unfolding FieldsOk
 fields-complete at fs ok = list-complete fs [] 0 at (ok .0) (omega (arith, ok .1))
 
@@ -161,10 +165,12 @@ module _ (m : Message) (rest : List ℕ) (ok : MessageOk m) where
   unfolding messageOf messageBytes MessageOk
   message-back =
       let w = bodyBytes (m .body) in
-      rw (behind (m .long) (m .class) (m .instruction) (length w) w rest) (then-on _ (m .body) (body-complete (start (headerFor m)) (layoutOf (m .class) (m .instruction)) (m .body) (ok .0)))
+      let body = body-complete (start (headerFor m)) (layoutOf (m .class) (m .instruction)) (m .body) (ok .0) in
+      rw (behind (m .long) (m .class) (m .instruction) (length w) w rest) (then-on _ (m .body) body)
 
 -- the message that s begins with
-pub first-sound : (s : List ℕ) (m : Message) → Bytes s → firstOf s ≡ got m → (messageBytes m ≡ take (length (messageBytes m)) s) × MessageOk m
+pub first-sound : (s : List ℕ) (m : Message) → Bytes s → firstOf s ≡ got m
+    → (messageBytes m ≡ take (length (messageBytes m)) s) × MessageOk m
 unfolding firstOf
 first-sound s m b e =
     let k = then-got (headerOf s) _ m e in

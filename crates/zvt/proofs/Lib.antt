@@ -3,6 +3,7 @@ pub mod Masks
 pub mod ObjectLaws
 pub mod RunLaws
 pub mod Tables
+pub mod FieldLaws
 pub mod HeaderLaws
 pub mod BodyLaws
 pub mod MessageLaws
