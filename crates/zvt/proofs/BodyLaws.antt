@@ -1,7 +1,6 @@
 -- What the readers of a body answer, case by case. Assumes nothing.
-use mathlib.Core.Path.{sym, _≡_, refl, ap, _∙_}
-use mathlib.Core.Bool.{not}
-use mathlib.Core.List.{List, [], _∷_}
+use mathlib.Core.Path.{_≡_, refl, ap, _∙_}
+use mathlib.Core.List.{List, []}
 use Prim.Native.Nat.{ℕ, _+_, _-_, _<_, _≤_}
 use native.Mathlib.Omega.{arith}
 use lib.ListN.{length, getD, take, drop, length-append}
@@ -11,7 +10,7 @@ use borrow.Author.Tests.{lt-ltb, le-ltb}
 use Rattle.messages.specs.declared.Fault.{Fault}
 use Rattle.messages.specs.declared.Layout.the-variants.{Plain, List as FieldList, Secured}
 use Rattle.messages.specs.Reading.{Reading, got, refused, no, unless, andThen}
-use Rattle.messages.specs.Fields.{decimal, unlessUndecimal, countFields, ListRead, listOf}
+use Rattle.messages.specs.Fields.{unlessUndecimal, countFields, ListRead, listOf}
 use Rattle.messages.specs.Message.{listed, bodyOf, securedOf, countBody}
 use Rattle.messages.specs.Writing.{listBytes, bodyBytes}
 use Rattle.messages.specs.Shortest.{shortList, shortBody}
@@ -24,31 +23,15 @@ use Rattle.zvt.specs.declared.objects.Tally.{Tally}
 use Rattle.zvt.specs.declared.objects.PartRead.the-variants.{Part, Refused as part-refused}
 use Rattle.zvt.specs.declared.fields.Decimals.the-variants.{All, Refused as decimals-refused}
 use Rattle.zvt.specs.Objects.{asPart}
-use Rattle.zvt.specs.Fields.{asDecimals, decimalsAnswer, spareList, listTally, listAnswer}
-use Rattle.zvt.proofs.RunLaws.{part-got, part-stopped}
-use Rattle.zvt.proofs.ObjectLaws.{unless-then}
+use Rattle.zvt.specs.Fields.{decimalsAnswer, spareList, listTally, listAnswer}
 use Rattle.zvt.specs.Body.{spareBody, bodyTally, securedAnswer, bodyAnswer}
+use Rattle.zvt.proofs.RunLaws.{part-got, part-stopped}
+use Rattle.zvt.proofs.FieldLaws.{decimals-then, decimals-got, decimals-stopped}
 
 -- what is known of a slice of bytes
 pub bytes-known : (s : List ℕ) → ((i : ℕ) → Fits w8 (getD s i 0)) → Bytes s
 unfolding Bytes
 bytes-known s h i = omega (arith, h i)
-
--- ---- decimal digits, whatever follows them
-decimals-then : {A : Type 0} (at : ℕ) (s t : List ℕ) (x : Reading A) → unlessUndecimal at s x ≡ andThen (unlessUndecimal at s (got t)) (λ u. x)
-unfolding unlessUndecimal andThen
-decimals-then at [] t x = refl
-decimals-then at (b ∷ s) t x = ap (unless (not (decimal b)) (no 6 at)) (decimals-then (at + 1) s t x) ∙ sym (unless-then _ _ _ _)
-
-decimals-got : (x : Reading (List ℕ)) → asDecimals x ≡ All → (t : List ℕ) × (x ≡ got t)
-unfolding asDecimals
-decimals-got (got t) e = (t, refl)
-decimals-got (refused r) e = absurd (let z : _≡_ {A = ℕ} 0 1 = cc in omega arith)
-
-decimals-stopped : (x : Reading (List ℕ)) (r : Fault) → asDecimals x ≡ decimals-refused r → x ≡ refused r
-unfolding asDecimals
-decimals-stopped (got t) r e = absurd (let z : _≡_ {A = ℕ} 0 1 = cc in omega arith)
-decimals-stopped (refused q) r e = cc
 
 -- ---- fields behind a password, or behind nothing
 abbrev sizedTally : ℕ → ListRead → Tally

@@ -17,8 +17,8 @@ use Rattle.zvt.specs.declared.headers.HeaderRead.{HeaderRead}
 use Rattle.zvt.specs.declared.headers.HeaderRead.the-variants.{Header as header-read, Refused as header-refused}
 use Rattle.zvt.specs.Header.{asHeader, headerIn, fitting, firstHeader, wholeAnswer}
 use Rattle.zvt.specs.declared.HeaderAnswer.the-variants.{Header as answer-got, Refused as answer-no}
-use Rattle.zvt.proofs.ObjectLaws.{unless-then}
 use Rattle.zvt.specs.Answers.{refusalOf, asHeaderAnswer, headerAnswer}
+use Rattle.zvt.proofs.ObjectLaws.{unless-then}
 
 -- ---- where the body lies
 pub fit-over : (h : Header) (s : List ℕ) → 4096 < h .length → fitting h s ≡ header-refused (noHeader 2)
@@ -127,7 +127,7 @@ starts : (long : Bool) → headerSize long ≤ 5
 starts true = omega arith
 starts false = omega arith
 
-pub got-within : (s : List ℕ) (m : MessageHeader) → headerOf s ≡ got m → Within (headerIn m) s
+got-within : (s : List ℕ) (m : MessageHeader) → headerOf s ≡ got m → Within (headerIn m) s
 unfolding headerIn
 got-within s m e = let i = header-in s m e in (starts (m .long), i .0, i .1)
 

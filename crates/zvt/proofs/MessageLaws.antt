@@ -1,27 +1,25 @@
 -- What the public readers of a message answer, by the header and the tally of the body. Assumes nothing.
 use mathlib.Core.Path.{_≡_, refl, ap, _∙_}
 use mathlib.Core.Bool.{Bool, true, false, not, _||_, and-comm, or-true, or-false}
-use mathlib.Core.List.{List, [], _++_}
-use Prim.Native.Nat.{ℕ, _+_, _-_, _<_, _≤_}
+use mathlib.Core.List.{List}
+use Prim.Native.Nat.{ℕ, _+_, _<_, _≤_}
 use native.Mathlib.Omega.{arith}
-use lib.ListN.{length, length-append}
+use lib.ListN.{length}
 use lib.Dec.{leb, eqb}
 use borrow.Author.Tests.{eq-eqb, ne-eqb, le-leb, lt-leb}
 use Rattle.messages.specs.declared.Fault.{Fault}
 use Rattle.messages.specs.declared.Layout.{Layout}
-use Rattle.messages.specs.declared.Layout.the-variants.{Plain, List as FieldList, Secured}
 use Rattle.messages.specs.Reading.{got, refused, part}
-use Rattle.messages.specs.Fields.{Field}
-use Rattle.messages.specs.Message.{Header as MessageHeader, headerSize, start, end, layoutOf, Body, bytes, listed, bodyOf, Message as MessageTree, messageOf, headerOf, readOf, firstOf, countOf}
-use Rattle.messages.specs.Writing.{listBytes, bodyBytes, messageBytes}
-use Rattle.messages.specs.Shortest.{shortList, shortBody, isShortList, isShortBody, isShort}
-use Rattle.messages.specs.Grammar.{Bytes, ListOk, FieldsOk, LayoutOk}
+use Rattle.messages.specs.Message.{Header as MessageHeader, headerSize, start, end, layoutOf, Body, bodyOf, Message as MessageTree, messageOf, headerOf, readOf, firstOf, countOf}
+use Rattle.messages.specs.Writing.{bodyBytes, messageBytes}
+use Rattle.messages.specs.Shortest.{isShortBody, isShort}
+use Rattle.messages.specs.Grammar.{Bytes, LayoutOk}
 use Rattle.messages.proofs.Readings.{then-on, then-stop}
 use Rattle.messages.proofs.ObjectSteps.{part-length}
 use Rattle.messages.proofs.ObjectBytes.{bytes-part}
 use Rattle.messages.proofs.FieldSteps.{header-in}
-use Rattle.messages.proofs.FieldShort.{list-shorter, list-kept, list-strict}
 use Rattle.messages.proofs.MessageBytes.{body-sound, message-size}
+use Rattle.messages.proofs.MessageShort.{body-shorter, body-exactly}
 use Rattle.zvt.specs.declared.Header.{Header}
 use Rattle.zvt.specs.declared.Message.{Message}
 use Rattle.zvt.specs.declared.Refusal.{Refusal}
@@ -55,29 +53,17 @@ unfolding described
 described-start h t b e l f = rw (eq-eqb (t .spare) 0 e, lt-leb 255 (h .length) l, or-false, f)
 
 -- a body takes no byte fewer exactly where it is shortest
-spare-test : (fs : List Field) (whole short : ℕ) → ListOk [] fs
-    → whole - short ≡ length (listBytes fs) - length (listBytes (shortList fs)) → eqb (whole - short) 0 ≡ isShortList fs
-spare-test fs whole short ok e = go (isShortList fs) refl
+spare-short : (l : Layout) (b : Body) → LayoutOk l b → eqb (spareBody b) 0 ≡ isShortBody b
+unfolding spareBody
+spare-short l b ok = go (isShortBody b) refl
   where
-    go : (t : Bool) → isShortList fs ≡ t → eqb (whole - short) 0 ≡ t
-    go true f = eq-eqb (whole - short) 0 (omega (arith, ap (λ (x : List Field). length (listBytes x)) (list-kept fs [] ok f)))
+    go : (t : Bool) → isShortBody b ≡ t → eqb (spareBody b) 0 ≡ t
+    go true f = eq-eqb (spareBody b) 0 (omega (arith, body-exactly l b ok .1 f))
     go false f =
-        ne-eqb (whole - short) 0 λ z.
-        let s : isShortList fs ≡ true = list-strict fs [] ok (omega (arith, list-shorter fs [] ok)) in
-        let z : _≡_ {A = ℕ} 0 1 = cc in omega arith
-
-listed-ok : (l : Layout) (password : List ℕ) (fs : List Field) → LayoutOk l (listed password fs) → ListOk [] fs
-unfolding LayoutOk FieldsOk
-listed-ok Plain password fs ok = absurd ok
-listed-ok FieldList password fs ok = ok .1 .0
-listed-ok Secured password fs ok = ok .2 .0
-
-pub spare-short : (l : Layout) (b : Body) → LayoutOk l b → eqb (spareBody b) 0 ≡ isShortBody b
-unfolding spareBody isShortBody bodyBytes shortBody
-spare-short l (bytes s) ok = eq-eqb (length s - length s) 0 (omega arith)
-spare-short l (listed password fs) ok =
-    spare-test fs (length (password ++ listBytes fs)) (length (password ++ listBytes (shortList fs))) (listed-ok l password fs ok)
-    (omega (arith, length-append password (listBytes fs), length-append password (listBytes (shortList fs))))
+        ne-eqb (spareBody b) 0 λ n.
+        let s : isShortBody b ≡ true = body-exactly l b ok .0 (omega (arith, body-shorter l b ok)) in
+        let z : _≡_ {A = ℕ} 0 1 = cc in
+        omega arith
 
 starts-at : (long : Bool) → eqb (headerSize long) 3 ≡ not long
 starts-at true = refl
@@ -105,8 +91,8 @@ module _ (s : List ℕ) (m : MessageHeader) where
     body-described b f =
         let w : MessageTree = record { class = m .class; instruction = m .instruction; long = m .long; body = b } in
         let g = body-sound (start m) inside layout b (bytes-part (start m) (end m) s bs) f in
-        let size : length (bodyBytes b) ≡ m .size =
-        ap length (g .0) ∙ omega (arith, part-length s (start m) (end m) (omega arith) (header-in s m e .1)) in
+        let there = part-length s (start m) (end m) (omega arith) (header-in s m e .1) in
+        let size : length (bodyBytes b) ≡ m .size = omega (arith, ap length (g .0)) in
         let short = spare-short layout b (g .1) in
         let at = starts-at (m .long) in
         let swap = and-comm (not (m .long) || leb 255 (m .size)) (isShortBody b) in
