@@ -4,3 +4,4 @@ pub mod ObjectLaws
 pub mod RunLaws
 pub mod Tables
 pub mod FieldLaws
+pub mod FieldReads
