@@ -61,7 +61,19 @@ module _ (at a v : ℕ) (run : Bool) (s : List ℕ) where
   unfolding boundsIn valueOf
   value-found b e = let k = unless-got _ _ _ b e in (ltb-false _ _ (k .0), got-same (k .1), unless-on _ _ (k .0))
 
+  lies-found : (b : Bounds) → boundsIn at 1 a v run s ≡ got b → (b .from ≤ b .to) × (b .to ≤ length s)
+  lies-found b e = let k = value-found b e in rw (sym (k .1)) (omega arith, k .0)
+
 -- ---- the field by the format of its id
+by-lies : (at : ℕ) (s : List ℕ) (f : Format) (b : Bounds) → boundsBy at s f ≡ got b → (b .from ≤ b .to) × (b .to ≤ length s)
+unfolding boundsBy
+by-lies at s Unknown b e = absurd (got-not-refused (sym e))
+by-lies at s (Fixed k) b e = lies-found at 1 k false s b e
+by-lies at s (Digits d) b e =
+    let k = then-got (digitsOf d 0 (at + 1) (drop 1 s)) _ b e in lies-found at (1 + d) (k .0) false s b (k .2)
+by-lies at s Container b e =
+    let k = then-got (lenOf (at + 1) (drop 1 s)) _ b e in lies-found at (1 + formSize (k .0 .form)) (k .0 .value) true s b (k .2)
+
 module _ (id n at : ℕ) (s : List ℕ) where
   by-stopped : (f : Format) (r : Fault) → boundsBy at s f ≡ refused r → fieldBy id n at s f ≡ refused r
   unfolding boundsBy fieldBy plainOf containerOf
@@ -74,22 +86,16 @@ module _ (id n at : ℕ) (s : List ℕ) where
   plainAt b =
       digitsIn id (at + b .from) (part (b .from) (b .to) s) (got (record { field = plain id (part (b .from) (b .to) s); size = b .to; count = n }))
 
-  abbrev Plain : Format → Bounds → Type 0
-  Plain f b = (b .from ≤ b .to) × (b .to ≤ length s) × (fieldBy id n at s f ≡ plainAt b)
-
-  plain-found : (a v : ℕ) (b : Bounds) → boundsIn at 1 a v false s ≡ got b
-      → (b .from ≤ b .to) × (b .to ≤ length s) × (plainOf id n at a v s ≡ plainAt b)
+  plain-found : (a v : ℕ) (b : Bounds) → boundsIn at 1 a v false s ≡ got b → plainOf id n at a v s ≡ plainAt b
   unfolding plainOf
-  plain-found a v b e = let k = value-found at a v false s b e in rw (sym (k .1)) (omega arith, k .0, then-on _ _ (k .2))
+  plain-found a v b e = let k = value-found at a v false s b e in rw (sym (k .1)) (then-on _ _ (k .2))
 
-  by-plain : (f : Format) (b : Bounds) → boundsBy at s f ≡ got b → b .nested ≡ false → Plain f b
+  by-plain : (f : Format) (b : Bounds) → boundsBy at s f ≡ got b → b .nested ≡ false → fieldBy id n at s f ≡ plainAt b
   unfolding boundsBy fieldBy
   by-plain Unknown b e h = absurd (got-not-refused (sym e))
   by-plain (Fixed k) b e h = plain-found 1 k b e
   by-plain (Digits d) b e h =
-      let k = then-got (digitsOf d 0 (at + 1) (drop 1 s)) _ b e in
-      let p = plain-found (1 + d) (k .0) b (k .2) in
-      (p .0, p .1, then-on _ _ (k .1) ∙ p .2)
+      let k = then-got (digitsOf d 0 (at + 1) (drop 1 s)) _ b e in then-on _ _ (k .1) ∙ plain-found (1 + d) (k .0) b (k .2)
   by-plain Container b e h =
       let k = then-got (lenOf (at + 1) (drop 1 s)) _ b e in
       let i = value-found at (1 + formSize (k .0 .form)) (k .0 .value) true s b (k .2) in
@@ -102,7 +108,6 @@ module _ (id n at : ℕ) (s : List ℕ) where
     pub tag : b .tag ≡ 1
     pub from : b .from ≡ 1 + formSize (len .form)
     pub to : b .to ≡ b .from + len .value
-    pub within : b .to ≤ length s
     pub then :
         fieldBy id n at s f
         ≡ andThen (runOf 4 n (at + b .from) (part (b .from) (b .to) s)) λ r.
@@ -121,4 +126,82 @@ module _ (id n at : ℕ) (s : List ℕ) where
       let k = then-got (lenOf (at + 1) (drop 1 s)) _ b e in
       let i = value-found at (1 + formSize (k .0 .form)) (k .0 .value) true s b (k .2) in
       rw (sym (i .1))
-      (record { len = k .0; read = k .1; tag = refl; from = refl; to = refl; within = i .0; then = then-on _ _ (k .1) ∙ then-on _ _ (i .2) })
+      (record { len = k .0; read = k .1; tag = refl; from = refl; to = refl; then = then-on _ _ (k .1) ∙ then-on _ _ (i .2) })
+
+-- ---- the answer for a field
+when-by : (id n at : ℕ) (s : List ℕ) (f : Format)
+    → unless (unknown f) (no 5 at) (unless false (no 7 at) (fieldBy id n at s f)) ≡ fieldBy id n at s f
+unfolding unless unknown fieldBy
+when-by id n at s Unknown = refl
+when-by id n at s (Fixed k) = refl
+when-by id n at s (Digits d) = refl
+when-by id n at s Container = refl
+
+pub field-unknown : (twice : Bool) (n at : ℕ) (s : List ℕ) → formatOf (getD s 0 0) ≡ Unknown → fieldAnswer twice n at s ≡ part-refused (no 5 at)
+unfolding fieldAnswer fieldWhen unless unknown asPart
+field-unknown twice n at s e = rw e
+
+pub field-twice : (twice : Bool) (n at : ℕ) (s : List ℕ) → unknown (formatOf (getD s 0 0)) ≡ false → twice ≡ true
+    → fieldAnswer twice n at s ≡ part-refused (no 7 at)
+unfolding fieldAnswer fieldWhen unless asPart
+field-twice twice n at s e f = rw (e, f)
+
+pub field-value : (at : ℕ) (s : List ℕ) (b : Bounds) → fieldBounds at s ≡ bounds-read b → (b .from ≤ b .to) × (b .to ≤ length s)
+unfolding fieldBounds
+field-value at s b e = by-lies at s (formatOf (getD s 0 0)) b (found _ b e)
+
+-- the container that lies there is answered by its tally
+abbrev pub Answered : Bool → ℕ → ℕ → List ℕ → Bounds → ℕ → ℕ → Type 0
+Answered twice n at s b objects saved = Fits b saved × (fieldAnswer twice n at s ≡ Part (tallyOf b objects saved))
+
+module _ (twice : Bool) (n at : ℕ) (s : List ℕ) (once : twice ≡ false) where
+  abbrev format : Format
+  format = formatOf (getD s 0 0)
+
+  by-format : (x : Reading FieldRead) → fieldBy (getD s 0 0) n at s format ≡ x → fieldAnswer twice n at s ≡ asPart fieldTally x
+  unfolding fieldAnswer fieldWhen
+  by-format x e = ap (asPart fieldTally) (rw once (when-by (getD s 0 0) n at s format) ∙ e)
+
+  pub field-no-bounds : (r : Fault) → fieldBounds at s ≡ bounds-refused r → fieldAnswer twice n at s ≡ part-refused r
+  unfolding fieldBounds asPart
+  field-no-bounds r e = by-format _ (by-stopped (getD s 0 0) n at s format r (not-found _ r e))
+
+  pub field-plain : (b : Bounds) → fieldBounds at s ≡ bounds-read b → b .nested ≡ false → fieldAnswer twice n at s ≡ plainAnswer n at b s
+  unfolding fieldBounds plainAnswer
+  field-plain b e h = by-format _ (by-plain (getD s 0 0) n at s format b (found _ b e) h)
+
+  module _ (b : Bounds) (bounds : fieldBounds at s ≡ bounds-read b) (h : b .nested ≡ true) where
+    -- the answer for the run inside
+    abbrev inner : PartRead
+    inner = runAnswer 4 n (at + b .from) (part (b .from) (b .to) s)
+
+    contained : Contained (getD s 0 0) n at s format b
+    unfolding fieldBounds
+    contained = by-container (getD s 0 0) n at s format b (found _ b bounds) h
+
+    pub field-no-inner : (r : Fault) → inner ≡ part-refused r → fieldAnswer twice n at s ≡ part-refused r
+    unfolding runAnswer asPart
+    field-no-inner r e = by-format _ (contained .then ∙ then-stop _ r (part-stopped _ _ r e))
+
+    container-tally : Bytes s → (r : RunRead) → runOf 4 n (at + b .from) (part (b .from) (b .to) s) ≡ got r
+        → Answered twice n at s b (r .count) (spareRun (r .objs))
+    unfolding asPart fieldTally spareField fieldBytes shortField
+    container-tally bs r e =
+        let c = contained in
+        let l = c .len in
+        let f = len-sound (at + 1) (drop 1 s) l (bytes-drop 1 s bs) (c .read) in
+        let i = spare-read 4 n (at + b .from) (part (b .from) (b .to) s) r (bytes-part (b .from) (b .to) s bs) e in
+        let w = field-value at s b bounds in
+        let v : length (part (b .from) (b .to) s) ≡ l .value = omega (arith, part-length s (b .from) (b .to) (w .0) (w .1)) in
+        let short = runBytes (shortRun (r .objs)) in (
+          tally-fits b (l .form) (l .value) (spareRun (r .objs)) (f .1) (omega arith) (c .to) (omega arith),
+          by-format _ (c .then ∙ then-on _ r e)
+              ∙ ap Part (tally-is b (r .count) (spareRun (r .objs)) _ _ (length short) (omega (arith, sized-size (l .form) (runBytes (r .objs)))) (omega arith)
+              (omega (arith, sized-size (formFor (length short)) short))),
+        )
+
+    pub field-container : Bytes s → (r : Tally) → inner ≡ Part r → Answered twice n at s b (r .objects) (r .spare)
+    unfolding runAnswer runTally
+    field-container bs =
+        part-got (runTally (part (b .from) (b .to) s)) (runOf 4 n (at + b .from) (part (b .from) (b .to) s))
+        (λ r. Answered twice n at s b (r .objects) (r .spare)) (container-tally bs)
