@@ -5,3 +5,4 @@ pub mod RunLaws
 pub mod Tables
 pub mod FieldLaws
 pub mod FieldReads
+pub mod ListLaws
