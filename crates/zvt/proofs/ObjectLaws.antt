@@ -145,7 +145,7 @@ pub head-no-tag : (at : ℕ) (s : List ℕ) (r : Fault) → tagAnswer at s ≡ t
 unfolding headAnswer asBounds headOf tagAnswer
 head-no-tag at s r e = ap asBounds (then-stop _ r (then-stop _ r (tag-stopped _ r e)))
 
-unless-then : {A B : Type 0} (t : Bool) (r : Fault) (x : Reading A) (f : A → Reading B) → andThen (unless t r x) f ≡ unless t r (andThen x f)
+pub unless-then : {A B : Type 0} (t : Bool) (r : Fault) (x : Reading A) (f : A → Reading B) → andThen (unless t r x) f ≡ unless t r (andThen x f)
 unfolding unless andThen
 unless-then true r x f = refl
 unless-then false r x f = refl
