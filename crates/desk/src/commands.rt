@@ -8,7 +8,19 @@ pub fn sale_bytes(amount: u64) -> [u8; 13]
 {
     let a = zvt::amount_bytes(amount);
     [
-        0x06, 0x01, 0x0A, 0x04, a[0], a[1], a[2], a[3], a[4], a[5], 0x49, 0x09, 0x78,
+        0x06,
+        0x01,
+        0x0A,
+        0x04,
+        a[0],
+        a[1],
+        a[2],
+        a[3],
+        a[4],
+        a[5],
+        0x49,
+        0x09,
+        0x78,
     ]
 }
 
@@ -19,7 +31,21 @@ pub fn refund_bytes(password: u32, amount: u64) -> [u8; 16]
     let p = zvt::password_bytes(password);
     let a = zvt::amount_bytes(amount);
     [
-        0x06, 0x31, 0x0D, p[0], p[1], p[2], 0x04, a[0], a[1], a[2], a[3], a[4], a[5], 0x49, 0x09,
+        0x06,
+        0x31,
+        0x0D,
+        p[0],
+        p[1],
+        p[2],
+        0x04,
+        a[0],
+        a[1],
+        a[2],
+        a[3],
+        a[4],
+        a[5],
+        0x49,
+        0x09,
         0x78,
     ]
 }

@@ -186,7 +186,15 @@ fn refused(desk: Desk, number: u8) -> Answer
 }
 
 // An opening that makes the lane l and writes the command.
-fn open(desk: Desk, lane: u8, within: bool, sale: bool, l: Lane, command: &[u8], out: &mut [u8]) -> Answer
+fn open(
+    desk: Desk,
+    lane: u8,
+    within: bool,
+    sale: bool,
+    l: Lane,
+    command: &[u8],
+    out: &mut [u8],
+) -> Answer
     requires { ⌜ Valid desk ⌝ }
     ensures answer { λ r. ⌜ r ≡ openAnswer desk lane within sale l (now (command .entry)) (length (now (out .entry))) ⌝ }
     ensures lent { λ _. ⌜ now (out .exit) ≡ openLeaves desk lane within sale (now (command .entry)) (now (out .entry)) ⌝ }
@@ -239,7 +247,15 @@ pub fn open_reversal(desk: Desk, lane: u8, password: u32, receipt: u16, out: &mu
     let last = book.last_line(lane, receipt);
     let command = commands::reversal_bytes(password, receipt);
     let l = Lane::waiting(Kind::Reversal, last.settled, receipt);
-    open(desk, lane, within, hear::approved_sale(last), l, &command, out)
+    open(
+        desk,
+        lane,
+        within,
+        hear::approved_sale(last),
+        l,
+        &command,
+        out,
+    )
 }
 
 // Takes one message from a lane's terminal.

@@ -22,7 +22,7 @@ use Rattle.messages.proofs.MessageBytes.{body-sound, message-size}
 use Rattle.messages.proofs.MessageShort.{body-shorter, body-exactly}
 use Rattle.zvt.specs.declared.Header.{Header}
 use Rattle.zvt.specs.declared.Message.{Message}
-use Rattle.zvt.specs.declared.Refusal.{Refusal}
+use Rattle.messages.specs.declared.Refusal.{Refusal}
 use Rattle.zvt.specs.declared.headers.HeaderRead.the-variants.{Header as header-read, Refused as header-refused}
 use Rattle.zvt.specs.declared.objects.Tally.{Tally}
 use Rattle.zvt.specs.declared.objects.PartRead.the-variants.{Part, Refused as part-refused}

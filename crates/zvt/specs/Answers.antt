@@ -7,7 +7,7 @@ use Rattle.messages.specs.Reading.{Reading, got, refused}
 use Rattle.messages.specs.Message.{Header as MessageHeader, headerSize, wholeHeader, Message as MessageTree, readOf, firstOf, countOf}
 use Rattle.messages.specs.Writing.{bodyBytes, messageBytes}
 use Rattle.messages.specs.Shortest.{isShort}
-use Rattle.zvt.specs.declared.Refusal.{Refusal}
+use Rattle.messages.specs.declared.Refusal.{Refusal}
 use Rattle.zvt.specs.declared.Message.{Message}
 use Rattle.zvt.specs.declared.HeaderAnswer.{HeaderAnswer}
 use Rattle.zvt.specs.declared.HeaderAnswer.the-variants.{Header as header-got, Refused as header-refused}

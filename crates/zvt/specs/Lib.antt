@@ -7,6 +7,4 @@ pub mod Body
 pub mod Answers
 pub mod Writing
 pub mod List
-pub mod Digits
-pub mod Values
 pub mod Name

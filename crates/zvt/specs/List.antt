@@ -1,24 +1,19 @@
 -- The fields of a message's list, and where each value lies in the message. Definitions only.
 use Prim.Native.Nat.{ℕ, zero, suc, _+_, _-_, _≤_}
-use mathlib.Core.Bool.{Bool, _&&_}
 use mathlib.Core.List.{List, [], _∷_}
 use lib.ListN.{length}
 use lib.Dec.{eqb}
 use Rattle.messages.specs.Reading.{Reading, got, refused, pick, part}
-use Rattle.messages.specs.Fields.{Field, plain, container, fieldId, ListRead, listOf}
+use Rattle.messages.specs.Fields.{Field, fieldId, ListRead, listOf}
 use Rattle.messages.specs.Message.{headerSize, Body, bytes, listed, Message, readOf}
-use Rattle.messages.specs.Writing.{runBytes, fieldBytes, messageBytes}
+use Rattle.messages.specs.Writing.{fieldBytes, messageBytes}
+use Rattle.messages.specs.Values.{fieldValue, isStatus}
 use Rattle.zvt.specs.declared.Listed.{Listed}
 use Rattle.zvt.specs.declared.FieldAnswer.{FieldAnswer}
 use Rattle.zvt.specs.declared.FieldAnswer.the-variants.{Field as listed-field, End}
 use Rattle.zvt.specs.declared.list.ListPlace.{ListPlace}
 use Rattle.zvt.specs.declared.list.ListPlace.the-variants.{Nowhere, Between}
 use Rattle.zvt.specs.Writing.{ListReads}
-
--- the bytes of a field's value, without id and length; of a container the run of its objects
-unfoldable pub fieldValue : Field → List ℕ
-fieldValue (plain id value) = value
-fieldValue (container form os) = runBytes os
 
 -- a field that begins at place at: a value ends where its field ends
 unfoldable pub listedAt : ℕ → Field → Listed
@@ -85,10 +80,6 @@ messagePlace (refused f) = Nowhere
 
 unfoldable pub listPlace : List ℕ → ListPlace
 listPlace s = messagePlace (readOf s)
-
--- "status information": 04 0F
-abbrev pub isStatus : Message → Bool
-isStatus m = eqb (m .class) 0x04 && eqb (m .instruction) 0x0F
 
 unfoldable pub placeOfStatus : Reading Message → ListPlace
 placeOfStatus (got m) = pick (isStatus m) (messagePlace (got m)) Nowhere

@@ -9,7 +9,8 @@ use Rattle.messages.specs.Message.{Message, readOf}
 use Rattle.zvt.specs.declared.Listed.{Listed}
 use Rattle.zvt.specs.declared.FieldAnswer.{FieldAnswer}
 use Rattle.zvt.specs.declared.FieldAnswer.the-variants.{Field as listed-field, End}
-use Rattle.zvt.specs.List.{isStatus, listedMessage, namedListed}
+use Rattle.messages.specs.Values.{isStatus}
+use Rattle.zvt.specs.List.{listedMessage, namedListed}
 
 -- "up to its first zero byte"
 unfoldable pub upToZero : List ℕ → List ℕ

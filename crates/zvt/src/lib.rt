@@ -13,20 +13,20 @@ mod writing;
 
 use headers::HeaderRead;
 use list::ListPlace;
+use messages::Refusal;
+use messages::Status;
+use messages::ToldAmount;
+use messages::ToldCode;
+use messages::ToldReceipt;
 use objects::PartRead;
 ghost use mathlib.Core.Path.{_≡_};
 ghost use lib.ListN.{length};
 ghost use Rattle.zvt.specs.Answers.{headerAnswer, readAnswer, firstAnswer};
-ghost use Rattle.zvt.specs.Digits.{digitBytesOf};
+ghost use Rattle.messages.specs.Digits.{digitBytesOf};
 ghost use Rattle.zvt.specs.List.{fieldAnswer};
 ghost use Rattle.zvt.specs.Name.{cardName};
-ghost use Rattle.zvt.specs.Values.{statusOf};
+ghost use Rattle.messages.specs.Values.{statusOf};
 ghost use Rattle.zvt.specs.Writing.{shortenAnswer, shortenLeaves};
-
-// Document 01's number of refusal.
-pub struct Refusal {
-    pub number: u8,
-}
 
 // The pair of class and instruction, where the body starts and how long it is.
 pub struct Header {
@@ -78,28 +78,6 @@ pub struct Listed {
 pub enum FieldAnswer {
     End,
     Field(Listed),
-}
-
-// What a status information tells: field 27, field 04, field 87.
-pub enum ToldCode {
-    Missing,
-    Code(u8),
-}
-
-pub enum ToldAmount {
-    Missing,
-    Amount(u64),
-}
-
-pub enum ToldReceipt {
-    Missing,
-    Receipt(u16),
-}
-
-pub struct Status {
-    pub code: ToldCode,
-    pub amount: ToldAmount,
-    pub receipt: ToldReceipt,
 }
 
 // The header of the message that s is.

@@ -1,13 +1,13 @@
 // What a status information tells the desk.
 use crate::FieldAnswer;
-use crate::ToldAmount;
-use crate::ToldCode;
-use crate::ToldReceipt;
 use crate::digits::number;
 use crate::list::named;
+use messages::ToldAmount;
+use messages::ToldCode;
+use messages::ToldReceipt;
 ghost use mathlib.Core.Path.{_≡_};
 ghost use Rattle.zvt.specs.List.{ListIn, fieldsBetween};
-ghost use Rattle.zvt.specs.Values.{codeIn, amountIn, receiptIn};
+ghost use Rattle.messages.specs.Values.{codeIn, amountIn, receiptIn};
 
 pub fn code_in(s: &[u8], from: usize, end: usize) -> ToldCode
     requires { ⌜ ListIn from end (now s) ⌝ }
