@@ -1,3 +1,6 @@
 -- The laws that the proofs of the functions cite, by subject.
 pub mod Back
 pub mod ShortRuns
+pub mod Masks
+pub mod ObjectLaws
+pub mod RunLaws
