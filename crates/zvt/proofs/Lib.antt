@@ -4,3 +4,4 @@ pub mod ShortRuns
 pub mod Masks
 pub mod ObjectLaws
 pub mod RunLaws
+pub mod Slices

@@ -121,3 +121,24 @@ unfolding RunReads
 run-fits s b r =
     let f = run-sound 4 0 0 s (r .0) b (r .1) in
     omega (arith, ap length (written s (r .0) (r .1)), ap length (f .0), run-shorter (r .0 .objs) 4 (f .1))
+
+-- ---- as the code finds it
+pub object-in : (s : List ℕ) (b : Bounds) → Bytes s → RunReads s → 0 < length s → headAnswer 0 s ≡ bounds-read b → FirstObject s b
+object-in s b bs r l e =
+    let f = first-object s bs r l in
+    let same : f .0 ≡ b = cc in
+    subst (FirstObject s) same (f .2)
+
+pub object-never : (s : List ℕ) (r : Fault) → Bytes s → RunReads s → 0 < length s → headAnswer 0 s ≡ bounds-refused r → ⊥
+object-never s r bs reads l e =
+    let f = first-object s bs reads l in
+    let z : _≡_ {A = ℕ} 0 1 = cc in omega arith
+
+pub object-run : (s : List ℕ) (b : Bounds) → b .nested ≡ true
+    → valueBytes (take (b .tag) s) (shortRunOf (part (b .from) (b .to) s)) ≡ objectOf b s
+unfolding objectOf
+object-run s b e = rw e
+
+pub object-plain : (s : List ℕ) (b : Bounds) → b .nested ≡ false → valueBytes (take (b .tag) s) (part (b .from) (b .to) s) ≡ objectOf b s
+unfolding objectOf
+object-plain s b e = rw e

@@ -4,7 +4,7 @@ use lib.ListN.{length, length-append}
 use Rattle.messages.specs.Writing.{lenBytes}
 use Rattle.messages.specs.Shortest.{formFor}
 use Rattle.zvt.specs.Writing.{headBytes}
-use Rattle.zvt.proofs.Back.{room, then-put}
+use Rattle.zvt.proofs.Back.{lent-all, room, then-put}
 use borrow.Author.Needs.{needs}
 use Rattle.zvt.proofs.writing.put_head.Statement.{statement}
 use Rattle.zvt.proofs.writing.put_head.Tie as tie
@@ -23,13 +23,13 @@ slice-aggregate-put : tie.Need-slice-aggregate-put
 unfolding headBytes
 slice-aggregate-put c =
     let s = c .before .before .before .before .before .before .before in
-    room (s .args .tag .now) (c .before .before .before .put-len .ensures) (s .pre .1) .0
+    lent-all (s .args .tag .now) (c .before .before .before .put-len .ensures) (s .pre .1)
 
 put-requires : tie.Need-put-requires
 unfolding headBytes
 put-requires c κs =
     let s = c .before .before .before .before .before .before .before in
-    room (s .args .tag .now) (c .before .before .before .put-len .ensures) (s .pre .1) .1
+    room (s .args .tag .now) (c .before .before .before .put-len .ensures) (s .pre .1)
 
 same-length : tie.Need-same-length
 same-length c = search needs

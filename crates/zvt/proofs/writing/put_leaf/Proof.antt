@@ -2,7 +2,7 @@
 use native.Mathlib.Omega.{arith}
 use lib.ListN.{length, length-append}
 use Rattle.zvt.specs.Writing.{headBytes, valueBytes}
-use Rattle.zvt.proofs.Back.{room, then-put}
+use Rattle.zvt.proofs.Back.{lent-all, room, then-put}
 use borrow.Author.Needs.{needs}
 use Rattle.zvt.proofs.writing.put_leaf.Statement.{statement}
 use Rattle.zvt.proofs.writing.put_leaf.Tie as tie
@@ -22,14 +22,14 @@ unfolding valueBytes
 slice-aggregate-put-head c =
     let s = c .before .before .before .before .before .before .before .before in
     let h = headBytes (s .args .tag .now) (length (s .args .value .now)) in
-    room h (c .before .before .before .put .ensures) (s .pre .1) .0
+    lent-all h (c .before .before .before .put .ensures) (s .pre .1)
 
 put-head-requires : tie.Need-put-head-requires
 unfolding valueBytes
 put-head-requires c κs =
     let s = c .before .before .before .before .before .before .before .before in
     let h = headBytes (s .args .tag .now) (length (s .args .value .now)) in
-    (s .pre .0, room h (c .before .before .before .put .ensures) (s .pre .1) .1)
+    (s .pre .0, room h (c .before .before .before .put .ensures) (s .pre .1))
 
 same-length : tie.Need-same-length
 same-length c = search needs
