@@ -5,3 +5,5 @@ pub mod Masks
 pub mod ObjectLaws
 pub mod RunLaws
 pub mod Slices
+pub mod Tables
+pub mod FieldLaws

@@ -5,10 +5,11 @@ use mathlib.Core.List.{List, [], _∷_}
 use Prim.Native.Nat.{ℕ, _+_, _-_, _*_, _<_, _≤_}
 use native.Mathlib.Omega.{arith}
 use lib.ListN.{length, getD, take, drop, length-drop}
-use borrow.Author.Tests.{lt-ltb, le-ltb, eq-eqb, ne-eqb}
+use borrow.Author.Tests.{lt-ltb, le-ltb, ne-eqb}
 use Rattle.messages.specs.declared.Fault.{Fault}
 use Rattle.messages.specs.Reading.{Reading, got, refused, no, unless, andThen}
-use Rattle.messages.specs.Objects.{longTag, topBit, nested, formSize, secondTag, tagSize, Len, oneByte, twoBytes, lenOf, Head, headWith, headOf}
+use Rattle.messages.specs.Objects.{longTag, topBit, nested, formSize, secondTag, tagSize, Len, oneByte, twoBytes, lenOf}
+use Rattle.messages.specs.Objects.{Head, headWith, headOf}
 use Rattle.messages.specs.Shortest.{formFor}
 use Rattle.zvt.specs.declared.objects.TagRead.the-variants.{Size, Refused as tag-refused}
 use Rattle.messages.proofs.Readings.{then-on, then-stop}
@@ -132,7 +133,7 @@ len-stopped (got l) r e = absurd (let z : _≡_ {A = ℕ} 0 1 = cc in omega arit
 len-stopped (refused q) r e = cc
 
 -- a length that was read in what is left from k on
-rest-len : (at k : ℕ) (s : List ℕ) (x : LenRead) → lenAnswer at (take (length s - k) (drop k s)) ≡ x → asLen (lenOf at (drop k s)) ≡ x
+pub rest-len : (at k : ℕ) (s : List ℕ) (x : LenRead) → lenAnswer at (take (length s - k) (drop k s)) ≡ x → asLen (lenOf at (drop k s)) ≡ x
 unfolding lenAnswer
 rest-len at k s x e = ap (λ (t : List ℕ). asLen (lenOf at t)) (sym (tail k s)) ∙ e
 
@@ -144,7 +145,7 @@ pub head-no-tag : (at : ℕ) (s : List ℕ) (r : Fault) → tagAnswer at s ≡ t
 unfolding headAnswer asBounds headOf tagAnswer
 head-no-tag at s r e = ap asBounds (then-stop _ r (then-stop _ r (tag-stopped _ r e)))
 
-unless-then : {A B : Type 0} (t : Bool) (r : Fault) (x : Reading A) (f : A → Reading B) → andThen (unless t r x) f ≡ unless t r (andThen x f)
+pub unless-then : {A B : Type 0} (t : Bool) (r : Fault) (x : Reading A) (f : A → Reading B) → andThen (unless t r x) f ≡ unless t r (andThen x f)
 unfolding unless andThen
 unless-then true r x f = refl
 unless-then false r x f = refl

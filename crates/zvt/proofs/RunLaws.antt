@@ -1,16 +1,16 @@
 -- What the readers of objects and runs answer, case by case, with the bytes saved. Assumes nothing.
-use mathlib.Core.Path.{_≡_, refl, sym, ap, _∙_, subst}
-use mathlib.Core.Bool.{Bool, true, false}
+use mathlib.Core.Path.{_≡_, refl, ap, _∙_, subst}
+use mathlib.Core.Bool.{true, false}
 use mathlib.Core.List.{List}
 use Prim.Native.Nat.{ℕ, _+_, _-_, _<_, _≤_}
 use native.Mathlib.Omega.{arith}
-use lib.ListN.{length, getD, take, drop, length-append, length-drop}
+use lib.ListN.{length, getD, take, drop, length-append}
 use lib.Seq.{length-take-le}
-use lib.Dec.{leb, eqb}
 use borrow.Author.Tests.{le-leb, lt-leb, eq-eqb, ne-eqb}
 use Rattle.messages.specs.declared.Fault.{Fault}
-use Rattle.messages.specs.Reading.{Reading, got, refused, no, pick, unless, andThen, part}
-use Rattle.messages.specs.Objects.{nested, formSize, Head, from, to, headOf, Obj, leaf, branch, Objs, none, more, OneRead, RunRead, insideOf, oneBy, oneOf, runOf}
+use Rattle.messages.specs.Reading.{Reading, got, refused, no, unless, andThen, part}
+use Rattle.messages.specs.Objects.{nested, Form, formSize, Head, from, to, headOf}
+use Rattle.messages.specs.Objects.{Obj, Objs, more, OneRead, RunRead, insideOf, oneBy, oneOf, runOf}
 use Rattle.messages.specs.Writing.{objBytes, runBytes}
 use Rattle.messages.specs.Shortest.{formFor, shortObj, shortRun}
 use Rattle.messages.specs.Grammar.{Bytes, FormOk, ObjOk, RunOk}
@@ -25,7 +25,8 @@ use Rattle.zvt.specs.declared.objects.BoundsRead.the-variants.{Bounds as
 use Rattle.zvt.specs.declared.objects.Tally.{Tally}
 use Rattle.zvt.specs.declared.objects.PartRead.{PartRead}
 use Rattle.zvt.specs.declared.objects.PartRead.the-variants.{Part, Refused as part-refused}
-use Rattle.zvt.specs.Objects.{asBounds, asPart, boundsOf, headAnswer, spareObj, spareRun, tallyOf, oneTally, runTally, oneAnswer, runAnswer}
+use Rattle.zvt.specs.Objects.{asBounds, asPart, boundsOf, headAnswer, spareObj, spareRun}
+use Rattle.zvt.specs.Objects.{tallyOf, oneTally, runTally, oneAnswer, runAnswer}
 
 -- ---- an answer goes back to what was read
 pub part-got : {A : Type 0} (f : A → Tally) (x : Reading A) (P : Tally → Type 0) → ((a : A) → x ≡ got a → P (f a))
@@ -65,19 +66,31 @@ spare-more o os left a b =
       length-append (objBytes (shortObj o)) (runBytes (shortRun os)),
     )
 
-spare-in : (os : Objs) → spareRun os ≤ length (runBytes os)
+-- a run that was read has as many bytes as it was read from, and shortest so many fewer
+pub spare-read : (left n at : ℕ) (s : List ℕ) (r : RunRead) → Bytes s → runOf left n at s ≡ got r
+    → (length (runBytes (r .objs)) ≡ length s) × (length (runBytes (shortRun (r .objs))) + spareRun (r .objs) ≡ length s)
 unfolding spareRun
-spare-in os = omega arith
+spare-read left n at s r b e =
+    let i = run-sound left n at s r b e in
+    let l = ap length (i .0) in
+    (l, omega (arith, run-shorter (r .objs) left (i .1)))
 
--- an object whose shortest value takes w bytes
-tally-is : (s : List ℕ) (h : Head) (o : Obj) (objects saved w : ℕ) → length (objBytes o) ≡ to h → h .value - saved ≡ w
-    → length (objBytes (shortObj o)) ≡ h .tag + (formSize (formFor w) + w)
-    → record { size = to h; objects = objects; spare = spareObj o } ≡ tallyOf (boundsOf s h) objects saved
-unfolding spareObj tallyOf boundsOf
-tally-is s h o objects saved w e f g =
-    let v : w ≡ to h - from h - saved = omega arith in
-    let k = ap (λ (x : ℕ). formSize (formFor x)) v in
-    ap (λ (x : ℕ). record { size = to h; objects = objects; spare = x }) (omega arith)
+-- the tally of an object or a container of whole bytes, short when its value is the shortest, of w bytes
+pub tally-is : (b : Bounds) (objects saved whole short w : ℕ) → whole ≡ b .to → b .to - b .from - saved ≡ w
+    → short ≡ b .tag + (formSize (formFor w) + w)
+    → _≡_ {A = Tally} (record { size = b .to; objects = objects; spare = whole - short }) (tallyOf b objects saved)
+unfolding tallyOf
+tally-is b objects saved whole short w e f g =
+    let k = ap (λ (x : ℕ). formSize (formFor x)) f in
+    ap (λ (x : ℕ). record { size = b .to; objects = objects; spare = x }) (omega arith)
+
+-- what a tally asks, with so many bytes saved
+abbrev pub Fits : Bounds → ℕ → Type 0
+Fits b saved = (b .tag + formSize (formFor (b .to - b .from - saved)) ≤ b .from) × (b .from + saved ≤ b .to)
+
+pub tally-fits : (b : Bounds) (form : Form) (v saved : ℕ) → FormOk form v → b .from ≡ b .tag + formSize form → b .to ≡ b .from + v → saved ≤ v
+    → Fits b saved
+tally-fits b form v saved ok e f l = (omega (arith, form-shorter form v (b .to - b .from - saved) ok (omega arith)), omega arith)
 
 -- ---- a run
 pub run-empty : (left n at : ℕ) (s : List ℕ) → length s ≡ 0 → runAnswer left n at s ≡ Part (record { size = 0; objects = n; spare = 0 })
@@ -88,7 +101,7 @@ run-empty left n at s h = rw (run-none left n at s h, h)
 abbrev after : ℕ → ℕ → List ℕ → Tally → PartRead
 after left at s o = runAnswer left (o .objects) (at + o .size) (take (length s - o .size) (drop (o .size) s))
 
-abbrev Goes : ℕ → ℕ → ℕ → List ℕ → Tally → Tally → Type 0
+abbrev pub Goes : ℕ → ℕ → ℕ → List ℕ → Tally → Tally → Type 0
 Goes left n at s o r =
     (o .spare + r .spare ≤ length s)
     × (runAnswer left n at s ≡ Part (record { size = length s; objects = r .objects; spare = o .spare + r .spare }))
@@ -108,14 +121,15 @@ module _ (left n at : ℕ) (s : List ℕ) (some : 0 < length s) where
 
   module _ (b : Bytes s) where
     goes : (o : OneRead) → oneOf left n at s ≡ got o
-        → (r : RunRead) → runOf left (o .count) (at + o .size) (drop (o .size) s) ≡ got r → Goes left n at s (oneTally o) (runTally (drop (o .size) s) r)
+        → (r : RunRead) → runOf left (o .count) (at + o .size) (drop (o .size) s) ≡ got r
+        → Goes left n at s (oneTally o) (runTally (drop (o .size) s) r)
     unfolding runAnswer asPart oneTally runTally
     goes o e r f =
         let g = one-sound left n at s o b e in
         let i = run-sound left (o .count) (at + o .size) (drop (o .size) s) r (bytes-drop (o .size) s b) f in
         let whole = run-step left n at s some ∙ then-on _ o e ∙ then-on _ r f in
         let sum = spare-more (o .obj) (r .objs) left (g .1) (i .1) in (
-          omega (arith, spare-in (more (o .obj) (r .objs)), ap length (run-sound left n at s _ b whole .0)),
+          omega (arith, spare-read left n at s _ b whole),
           rw (whole, sum),
         )
 
@@ -145,9 +159,9 @@ one-deep left n at s h e = rw (lt-leb 64 n h, eq-eqb left 0 e)
 abbrev inner : ℕ → ℕ → ℕ → List ℕ → Bounds → PartRead
 inner left n at s b = runAnswer (left - 1) (n + 1) (at + b .from) (part (b .from) (b .to) s)
 
--- what a tally asks, with so many bytes saved
-abbrev Fits : Bounds → ℕ → Type 0
-Fits b saved = (b .tag + formSize (formFor (b .to - b .from - saved)) ≤ b .from) × (b .from + saved ≤ b .to)
+-- the object that lies there is answered by its tally
+abbrev pub Answered : ℕ → ℕ → ℕ → List ℕ → Bounds → ℕ → ℕ → Type 0
+Answered left n at s b objects saved = Fits b saved × (oneAnswer left n at s ≡ Part (tallyOf b objects saved))
 
 -- where the value lies
 pub value-in : (at : ℕ) (s : List ℕ) (b : Bounds) → headAnswer at s ≡ bounds-read b → (2 ≤ b .from) × (b .from ≤ b .to) × (b .to ≤ length s)
@@ -156,14 +170,13 @@ value-in at s =
     bounds-got s (headOf at s) (λ b. (2 ≤ b .from) × (b .from ≤ b .to) × (b .to ≤ length s))
     (λ h e. let i = head-in at s h e in (i .1, omega arith, i .2))
 
-fits : (at : ℕ) (s : List ℕ) (h : Head) → Bytes s → headOf at s ≡ got h → (saved : ℕ) → saved ≤ h .value → Fits (boundsOf s h) saved
-unfolding boundsOf
-fits at s h b e saved l =
-    let w = head-got at s h e in
-    let f = len-sound (at + h .tag) (drop (h .tag) s) _ (bytes-drop (h .tag) s b) (w .len) in
-    (omega (arith, form-shorter (h .form) (h .value) (to h - from h - saved) (f .1) (omega arith)), omega arith)
+module _ (at : ℕ) (s : List ℕ) (h : Head) (b : Bytes s) (read : headOf at s ≡ got h) where
+  fits : (saved : ℕ) → saved ≤ h .value → Fits (boundsOf s h) saved
+  unfolding boundsOf
+  fits saved l =
+      let f = len-sound (at + h .tag) (drop (h .tag) s) _ (bytes-drop (h .tag) s b) (head-got at s h read .len) in
+      tally-fits (boundsOf s h) (h .form) (h .value) saved (f .1) refl refl l
 
-module _ (at : ℕ) (s : List ℕ) (h : Head) (read : headOf at s ≡ got h) where
   tag-length : length (take (h .tag) s) ≡ h .tag
   tag-length = let i = head-in at s h read in length-take-le (h .tag) s (omega arith)
 
@@ -171,27 +184,27 @@ module _ (at : ℕ) (s : List ℕ) (h : Head) (read : headOf at s ≡ got h) whe
   value-length = let i = head-in at s h read in omega (arith, part-length s (from h) (to h) (omega arith) (i .2))
 
   leaf-tally : (n : ℕ) → oneTally (leafOf n s h) ≡ tallyOf (boundsOf s h) (n + 1) 0
-  unfolding oneTally objBytes shortObj
+  unfolding oneTally objBytes shortObj spareObj boundsOf
   leaf-tally n =
       let tag = take (h .tag) s in
       let value = part (from h) (to h) s in
       let t = tag-length in
       let v = value-length in
-      tally-is s h (leaf tag (h .form) value) (n + 1) 0 (length value) (omega (arith, object-size tag (h .form) value)) (omega arith)
+      tally-is (boundsOf s h) (n + 1) 0 _ _ (length value) (omega (arith, object-size tag (h .form) value)) (omega arith)
       (omega (arith, object-size tag (formFor (length value)) value))
 
-  branch-tally : Bytes s → (left n a : ℕ) (r : RunRead) → runOf left n a (part (from h) (to h) s) ≡ got r
+  branch-tally : (left n a : ℕ) (r : RunRead) → runOf left n a (part (from h) (to h) s) ≡ got r
       → (spareRun (r .objs) ≤ h .value) × (oneTally (branchOf s h r) ≡ tallyOf (boundsOf s h) (r .count) (spareRun (r .objs)))
-  unfolding oneTally objBytes shortObj spareRun
-  branch-tally b left n a r e =
-      let i = run-sound left n a (part (from h) (to h) s) r (bytes-part (from h) (to h) s b) e in
+  unfolding oneTally objBytes shortObj spareObj boundsOf
+  branch-tally left n a r e =
+      let i = spare-read left n a (part (from h) (to h) s) r (bytes-part (from h) (to h) s b) e in
       let tag = take (h .tag) s in
       let short = runBytes (shortRun (r .objs)) in
       let t = tag-length in
-      let v : length (runBytes (r .objs)) ≡ h .value = ap length (i .0) ∙ value-length in
-      let l = run-shorter (r .objs) left (i .1) in (
+      let v = value-length in (
         omega arith,
-        tally-is s h (branch tag (h .form) (r .objs)) (r .count) (spareRun (r .objs)) (length short) (omega (arith, object-size tag (h .form) (runBytes (r .objs))))
+        tally-is (boundsOf s h) (r .count) (spareRun (r .objs)) _ _ (length short)
+            (omega (arith, object-size tag (h .form) (runBytes (r .objs))))
             (omega arith) (omega (arith, object-size tag (formFor (length short)) short)),
       )
 
@@ -213,31 +226,29 @@ module _ (left n at : ℕ) (s : List ℕ) (room : n < 64) (deep : left ≡ 0 →
   unfolding insideOf
   at-branch h e f = at-head ∙ then-on _ h e ∙ pick-true _ _ f
 
-  pub one-leaf : Bytes s → (b : Bounds) → headAnswer at s ≡ bounds-read b → b .nested ≡ false
-      → Fits b 0 × (oneAnswer left n at s ≡ Part (tallyOf b (n + 1) 0))
+  pub one-leaf : Bytes s → (b : Bounds) → headAnswer at s ≡ bounds-read b → b .nested ≡ false → Answered left n at s b (n + 1) 0
   unfolding headAnswer oneAnswer asPart boundsOf
   one-leaf bs =
-      bounds-got s (headOf at s) (λ b. b .nested ≡ false → Fits b 0 × (oneAnswer left n at s ≡ Part (tallyOf b (n + 1) 0)))
-      (λ h e f. (fits at s h bs e 0 (omega arith), ap (asPart oneTally) (at-leaf h e f) ∙ ap Part (leaf-tally at s h e n)))
+      bounds-got s (headOf at s) (λ b. b .nested ≡ false → Answered left n at s b (n + 1) 0)
+      (λ h e f. (fits at s h bs e 0 (omega arith), ap (asPart oneTally) (at-leaf h e f) ∙ ap Part (leaf-tally at s h bs e n)))
 
   pub one-no-inner : (b : Bounds) → headAnswer at s ≡ bounds-read b → b .nested ≡ true → (r : Fault) → inner left n at s b ≡ part-refused r
       → oneAnswer left n at s ≡ part-refused r
   unfolding headAnswer oneAnswer runAnswer asPart boundsOf
   one-no-inner =
-      bounds-got s (headOf at s) (λ b. b .nested ≡ true → (r : Fault) → inner left n at s b ≡ part-refused r → oneAnswer left n at s ≡ part-refused r)
+      bounds-got s (headOf at s)
+      (λ b. b .nested ≡ true → (r : Fault) → inner left n at s b ≡ part-refused r → oneAnswer left n at s ≡ part-refused r)
       (λ h e f r g. ap (asPart oneTally) (at-branch h e f ∙ then-stop _ r (part-stopped _ _ r g)))
 
-  abbrev Branch : Bounds → Tally → Type 0
-  Branch b r = Fits b (r .spare) × (oneAnswer left n at s ≡ Part (tallyOf b (r .objects) (r .spare)))
-
   pub one-branch : Bytes s → (b : Bounds) → headAnswer at s ≡ bounds-read b → b .nested ≡ true → (r : Tally) → inner left n at s b ≡ Part r
-      → Fits b (r .spare) × (oneAnswer left n at s ≡ Part (tallyOf b (r .objects) (r .spare)))
+      → Answered left n at s b (r .objects) (r .spare)
   unfolding headAnswer oneAnswer runAnswer asPart boundsOf runTally
   one-branch bs =
-      bounds-got s (headOf at s) (λ b. b .nested ≡ true → (r : Tally) → inner left n at s b ≡ Part r → Branch b r)
+      bounds-got s (headOf at s)
+      (λ b. b .nested ≡ true → (r : Tally) → inner left n at s b ≡ Part r → Answered left n at s b (r .objects) (r .spare))
       (λ h e f.
       let t = part (from h) (to h) s in
-      part-got (runTally t) (runOf (left - 1) (n + 1) (at + from h) t) (Branch (boundsOf s h))
+      part-got (runTally t) (runOf (left - 1) (n + 1) (at + from h) t) (λ r. Answered left n at s (boundsOf s h) (r .objects) (r .spare))
       (λ r g.
-      let i = branch-tally at s h e bs (left - 1) (n + 1) (at + from h) r g in
+      let i = branch-tally at s h bs e (left - 1) (n + 1) (at + from h) r g in
       (fits at s h bs e (spareRun (r .objs)) (i .0), ap (asPart oneTally) (at-branch h e f ∙ then-on _ r g) ∙ ap Part (i .1))))
