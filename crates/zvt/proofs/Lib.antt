@@ -7,3 +7,4 @@ pub mod RunLaws
 pub mod Slices
 pub mod Tables
 pub mod FieldLaws
+pub mod ShortLists
