@@ -8,3 +8,4 @@ pub mod Slices
 pub mod Tables
 pub mod FieldLaws
 pub mod ShortLists
+pub mod ShortBodies

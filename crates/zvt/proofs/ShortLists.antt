@@ -164,13 +164,13 @@ first-field s r bs e l =
       },
     )
 
-written : (s : List ℕ) (r : ListRead) → listOf [] 0 0 s ≡ got r → shortListOf s ≡ listBytes (shortList (r .fields))
+pub list-written : (s : List ℕ) (r : ListRead) → listOf [] 0 0 s ≡ got r → shortListOf s ≡ listBytes (shortList (r .fields))
 unfolding shortListOf listWritten
-written s r e = rw e
+list-written s r e = rw e
 
 pub list-short-none : (s : List ℕ) → length s ≡ 0 → shortListOf s ≡ []
 unfolding listBytes shortList
-list-short-none s h = written s _ (list-none [] 0 0 s h)
+list-short-none s h = list-written s _ (list-none [] 0 0 s h)
 
 -- as the code finds it
 pub record FieldFirst (s : List ℕ) (b : Bounds) : Type 0 where
@@ -195,8 +195,8 @@ field-first s bs r l =
         inside = λ t. f .at .run t .3 .reads;
         rest = (f .rest, f .behind);
         all =
-            written s (r .0) (r .1) ∙ ap (λ (fs : List Field). listBytes (shortList fs)) (f .all)
-            ∙ ap₂ (λ (u v : List ℕ). u ++ v) (f .short) (sym (written _ (f .rest) (f .behind)));
+            list-written s (r .0) (r .1) ∙ ap (λ (fs : List Field). listBytes (shortList fs)) (f .all)
+            ∙ ap₂ (λ (u v : List ℕ). u ++ v) (f .short) (sym (list-written _ (f .rest) (f .behind)));
       },
     )
 
@@ -216,4 +216,4 @@ pub list-fits : (s : List ℕ) → Bytes s → ListReads s → length (shortList
 unfolding ListReads
 list-fits s b r =
     let f = list-sound [] 0 0 s (r .0) b (r .1) in
-    omega (arith, ap length (written s (r .0) (r .1)), ap length (f .0), list-shorter (r .0 .fields) [] (f .1))
+    omega (arith, ap length (list-written s (r .0) (r .1)), ap length (f .0), list-shorter (r .0 .fields) [] (f .1))
