@@ -16,6 +16,8 @@ use Rattle.messages.specs.Grammar.{Bytes}
 use Rattle.messages.proofs.Readings.{got-same, unless-got, then-got}
 use Rattle.messages.proofs.ObjectBytes.{bytes-drop}
 use Rattle.messages.proofs.FieldSteps.{undecimal-got}
+use Rattle.messages.proofs.MessageBytes.{body-sound}
+use Rattle.messages.proofs.MessageShort.{body-shorter}
 use Rattle.zvt.specs.Writing.{ListReads, shortListOf, BodyReads, bodyWritten, shortBodyOf}
 use Rattle.zvt.proofs.ShortLists.{list-written, list-alone}
 
@@ -56,3 +58,10 @@ secured-reads s bs r =
 
 pub secured-body : (layout : Layout) (s : List ℕ) → Bytes s → layout ≡ Secured → BodyReads layout s → Behind layout s
 secured-body layout s bs e r = rw e (secured-reads s bs (rw e at r))
+
+-- it is no longer than the body
+pub body-fits : (layout : Layout) (s : List ℕ) → Bytes s → BodyReads layout s → length (shortBodyOf layout s) ≤ length s
+unfolding BodyReads
+body-fits layout s bs r =
+    let f = body-sound 0 s layout (r .0) bs (r .1) in
+    omega (arith, ap length (body-written layout s (r .0) (r .1)), ap length (f .0), body-shorter layout (r .0) (f .1))
