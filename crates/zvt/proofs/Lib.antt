@@ -9,3 +9,8 @@ pub mod Tables
 pub mod FieldLaws
 pub mod ShortLists
 pub mod ShortBodies
+pub mod FieldReads
+pub mod ListLaws
+pub mod HeaderLaws
+pub mod BodyLaws
+pub mod MessageLaws
