@@ -4,7 +4,6 @@ pub mod ShortRuns
 pub mod Masks
 pub mod ObjectLaws
 pub mod RunLaws
-pub mod Slices
 pub mod Tables
 pub mod FieldLaws
 pub mod ShortLists
@@ -14,3 +13,4 @@ pub mod ListLaws
 pub mod HeaderLaws
 pub mod BodyLaws
 pub mod MessageLaws
+pub mod ShortMessages

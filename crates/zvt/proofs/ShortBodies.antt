@@ -8,10 +8,10 @@ use borrow.Author.Tests.{ltb-false}
 use Rattle.messages.specs.declared.Layout.{Layout}
 use Rattle.messages.specs.declared.Layout.the-variants.{Plain, List as FieldList, Secured}
 use Rattle.messages.specs.Reading.{got}
-use Rattle.messages.specs.Fields.{Field, ListRead, listOf}
-use Rattle.messages.specs.Message.{Body, bytes, listed, bodyOf, securedOf}
-use Rattle.messages.specs.Writing.{listBytes, bodyBytes}
-use Rattle.messages.specs.Shortest.{shortList, shortBody}
+use Rattle.messages.specs.Fields.{listOf}
+use Rattle.messages.specs.Message.{Body, bytes, bodyOf, securedOf}
+use Rattle.messages.specs.Writing.{bodyBytes}
+use Rattle.messages.specs.Shortest.{shortBody}
 use Rattle.messages.specs.Grammar.{Bytes}
 use Rattle.messages.proofs.Readings.{got-same, unless-got, then-got}
 use Rattle.messages.proofs.ObjectBytes.{bytes-drop}
@@ -33,8 +33,11 @@ plain-body layout s e = rw e (sym (body-written Plain s (bytes s) refl))
 list-reads : (s : List ℕ) → BodyReads FieldList s → ListReads s × (shortBodyOf FieldList s ≡ shortListOf s)
 unfolding BodyReads ListReads bodyOf bodyBytes shortBody
 list-reads s r =
-    let l = then-got (listOf [] 0 0 s) _ (r .0) (r .1) in
-    ((l .0, l .1), body-written FieldList s (r .0) (r .1) ∙ ap (λ (b : Body). bodyBytes (shortBody b)) (sym (got-same (l .2))) ∙ sym (list-written s (l .0) (l .1)))
+    let l = then-got (listOf [] 0 0 s) _ (r .0) (r .1) in (
+      (l .0, l .1),
+      body-written FieldList s (r .0) (r .1) ∙ ap (λ (b : Body). bodyBytes (shortBody b)) (sym (got-same (l .2)))
+          ∙ sym (list-written s (l .0) (l .1)),
+    )
 
 pub list-body : (layout : Layout) (s : List ℕ) → layout ≡ FieldList → BodyReads layout s → ListReads s × (shortBodyOf layout s ≡ shortListOf s)
 list-body layout s e r = rw e (list-reads s (rw e at r))

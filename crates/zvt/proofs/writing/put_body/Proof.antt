@@ -8,7 +8,7 @@ use lib.Seq.{length-take-le}
 use borrow.Author.Needs.{needs}
 use Rattle.messages.proofs.ObjectSteps.{tail}
 use Rattle.zvt.specs.Writing.{ListReads, shortListOf, shortBodyOf}
-use Rattle.zvt.proofs.Slices.{bytes-of}
+use Rattle.zvt.proofs.BodyLaws.{bytes-known}
 use Rattle.zvt.proofs.Back.{fits-as, put-as, rest-fits, first-lent, first-room, first-put}
 use Rattle.zvt.proofs.ShortBodies.{plain-body, list-body, secured-body}
 use Rattle.zvt.proofs.writing.put.Reads as put-reads
@@ -70,7 +70,7 @@ out c = start c .args .out .now
 
 secured : (c : Secured) → (3 ≤ length (bytes c)) × ListReads (drop 3 (bytes c))
     × (shortBodyOf (start c .args .layout) (bytes c) ≡ take 3 (bytes c) ++ shortListOf (drop 3 (bytes c)))
-secured c = secured-body _ _ (bytes-of _ (c .before .before .before .shared-slice-known .given)) (c .enum-told3 .given .1) (start c .pre .1)
+secured c = secured-body _ _ (bytes-known _ (c .before .before .before .shared-slice-known .given)) (c .enum-told3 .given .1) (start c .pre .1)
 
 enum-told-3 : tie.Need-enum-told-3
 enum-told-3 c = search needs

@@ -1,5 +1,5 @@
 -- `put_message` meets its contract: the body, and its header before it. Assumes nothing.
-use mathlib.Core.Path.{_≡_, ap}
+use mathlib.Core.Path.{ap}
 use mathlib.Core.List.{List, _++_}
 use Prim.Native.Nat.{ℕ, _+_, _≤_}
 use native.Mathlib.Omega.{arith}
@@ -9,7 +9,7 @@ use Rattle.messages.specs.declared.Layout.{Layout}
 use Rattle.messages.proofs.ObjectSteps.{part-length}
 use Rattle.messages.proofs.ObjectBytes.{bytes-part}
 use Rattle.zvt.specs.Writing.{Put, shortBodyOf, headerBytes, headerLayout, bodyPart, shortMessageOf}
-use Rattle.zvt.proofs.Slices.{bytes-of}
+use Rattle.zvt.proofs.BodyLaws.{bytes-known}
 use Rattle.zvt.proofs.Back.{put-as, lent-all, says, head-room, then-head}
 use Rattle.zvt.proofs.ShortBodies.{body-fits}
 use Rattle.zvt.proofs.format.layout_of.Reads as layout-of-reads
@@ -60,7 +60,7 @@ small c =
     let m = begun c in
     let h = m .args .h in
     let s = m .args .s .now in
-    let known = bytes-of s (c .before .before .before .before .before .before .before .before .shared-slice-known .given) in
+    let known = bytes-known s (c .before .before .before .before .before .before .before .before .shared-slice-known .given) in
     let l = part-length s (h .start) (h .start + h .length) (omega arith) (m .pre .0) in
     omega (arith, body-fits (headerLayout h) (bodyPart h s) (bytes-part (h .start) (h .start + h .length) s known) (m .pre .2), m .pre .1)
 
