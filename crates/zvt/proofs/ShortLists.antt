@@ -21,7 +21,6 @@ use Rattle.messages.proofs.Readings.{got-same, got-not-refused, then-got, then-
 use Rattle.messages.proofs.ObjectBytes.{bytes-drop, bytes-part}
 use Rattle.messages.proofs.FieldSteps.{plain-got, container-got, field-got, list-none, list-step}
 use Rattle.messages.proofs.FieldBytes.{FieldSound, field-sound, list-sound, list-complete}
-use Rattle.messages.proofs.FieldShort.{list-shorter}
 use Rattle.zvt.specs.declared.objects.Bounds.{Bounds}
 use Rattle.zvt.specs.declared.objects.BoundsRead.the-variants.{Bounds as bounds-read, Refused as bounds-refused}
 use Rattle.zvt.specs.Objects.{asBounds, boundsIn}
@@ -211,10 +210,3 @@ pub field-never : (s : List ℕ) (r : Fault) → Bytes s → ListReads s → 0 <
 field-never s r bs reads l e =
     let f = field-to-put s bs reads l in
     let z : _≡_ {A = ℕ} 0 1 = cc in omega arith
-
--- it is no longer than the list
-pub list-fits : (s : List ℕ) → Bytes s → ListReads s → length (shortListOf s) ≤ length s
-unfolding ListReads
-list-fits s b r =
-    let f = list-sound [] 0 0 s (r .0) b (r .1) in
-    omega (arith, ap length (list-written s (r .0) (r .1)), ap length (f .0), list-shorter (r .0 .fields) [] (f .1))

@@ -1,5 +1,5 @@
 -- What shortening answers and writes, by the header and the body that are found. Assumes nothing.
-use mathlib.Core.Path.{_≡_, refl, sym, ap, _∙_, subst}
+use mathlib.Core.Path.{_≡_, sym, ap, _∙_, subst}
 use mathlib.Core.List.{List, _++_}
 use Prim.Native.Nat.{ℕ, _+_, _-_, _<_, _≤_}
 use native.Mathlib.Omega.{arith}
@@ -68,10 +68,6 @@ pub record Short (s : List ℕ) (h : Header) (t : Tally) : Type 0 where
   pub short : shorten s ≡ got (shortMessageOf h s)
   pub spare : t .spare ≤ h .length
   pub size : length (headerBytes 0 0 (h .length - t .spare)) + (h .length - t .spare) ≡ length (shortMessageOf h s)
-
-header-size : (class instruction v : ℕ) → length (headerBytes class instruction v) ≡ length (headerBytes 0 0 v)
-unfolding headerBytes
-header-size class instruction v = refl
 
 abbrev inside : List ℕ → MessageHeader → List ℕ
 inside s m = part (start m) (end m) s
