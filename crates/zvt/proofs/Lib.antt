@@ -10,5 +10,4 @@ pub mod FieldLaws
 pub mod ShortLists
 pub mod DigitLaws
 pub mod NameLaws
-pub mod FirstField
 pub mod ListLaws

@@ -7,12 +7,10 @@ use native.Mathlib.Nat.{add-zero, eq-or-lt-of-le}
 use native.Mathlib.Omega.{arith}
 use lib.ListN.{length, getD, take, drop, length-drop}
 use lib.Seq.{length-take-le, take-add, take-take, drop-at, drop-drop, getD-take, getD-drop}
-use mir.Syntax.{w8}
-use mir.Val.{Fits}
 use borrow.Author.Tests.{eq-eqb, ne-eqb}
 use Rattle.messages.specs.declared.Fault.{Fault}
 use Rattle.messages.specs.Reading.{got, part}
-use Rattle.messages.specs.Fields.{Field, fieldId}
+use Rattle.messages.specs.Fields.{Field, fieldId, listOf}
 use Rattle.messages.specs.Writing.{fieldBytes}
 use Rattle.messages.specs.Grammar.{Bytes}
 use Rattle.messages.proofs.ObjectSteps.{part-length}
@@ -27,12 +25,7 @@ use Rattle.zvt.specs.Objects.{asBounds}
 use Rattle.zvt.specs.Fields.{fieldBounds}
 use Rattle.zvt.specs.List.{fieldValue, listedAt, listedFrom, firstListed, nthListed, namedListed, listFields, fieldsBetween, listedIn, ListIn}
 use Rattle.zvt.specs.Writing.{ListReads}
-use Rattle.zvt.proofs.FirstField.{fieldsOf, FirstField, first-field}
-
--- what is known of a slice of bytes
-pub bytes-known : (s : List ℕ) → ((i : ℕ) → Fits w8 (getD s i 0)) → Bytes s
-unfolding Bytes
-bytes-known s h i = omega (arith, h i)
+use Rattle.zvt.proofs.ShortLists.{FirstField, first-field}
 
 -- ---- a part of a part
 module _ (a e : ℕ) (s : List ℕ) (order : a ≤ e) (inside : e ≤ length s) where
@@ -70,31 +63,34 @@ pub record FirstIn (at end : ℕ) (s : List ℕ) : Type 0 where
   pub all : listedIn at end s ≡ record { id = getD s at 0; from = at + bounds .from; to = at + bounds .to } ∷ listedIn (at + bounds .to) end s
 
 pub first-in : (at end : ℕ) (s : List ℕ) → Bytes s → ListIn at end s → at < end → FirstIn at end s
-unfolding fieldBounds asBounds listedAt listedFrom fieldsBetween listedIn
+unfolding fieldBounds asBounds listedAt listedFrom listFields fieldsBetween listedIn ListReads
 first-in at end s b l h =
     let t = part at end s in
-    let size : length t ≡ end - at = part-length s at end (l .order) (l .inside) in
-    let f = first-field t (bytes-part at end s b) (l .reads) (omega arith) in
-    let first : getD t 0 0 ≡ getD s at 0 = part-first at end s (l .order) (l .inside) h in
-    let e = f .bounds .to in
-    let behind : drop e t ≡ part (at + e) end s = part-rest at end s (l .order) (l .inside) e (omega (arith, f .within)) in
-    let value = part-part at end s (l .order) (l .inside) (f .bounds .from) e (f .order) (omega (arith, f .within)) in
-    let to : at + length (fieldBytes (f .field)) ≡ at + e = rw (f .size) refl in
-    let long : length (fieldValue (f .field)) ≡ e - f .bounds .from = ap length (f .value) ∙ part-length t (f .bounds .from) e (f .order) (f .within) in
-    let from : at + length (fieldBytes (f .field)) - length (fieldValue (f .field)) ≡ at + f .bounds .from = omega (arith, f .order, to, long) in
-    let fields : fieldsBetween at end s ≡ f .field ∷ fieldsBetween (at + e) end s = f .all ∙ rw behind in
+    let r = l .reads in
+    let long = part-length s at end (l .order) (l .inside) in
+    let k = first-field t (r .0) (bytes-part at end s b) (r .1) (omega arith) in
+    let x = k .0 in
+    let f = k .1 in
+    let value = part-part at end s (l .order) (l .inside) (x .from) (x .to) (f .at .order) (omega (arith, f .at .within)) in
+    let behind = part-rest at end s (l .order) (l .inside) (x .to) (omega (arith, f .at .within)) in
+    let rest : listOf [] 0 0 (part (at + x .to) end s) ≡ got (f .rest) = rw (← behind) (f .behind) in
+    let id : fieldId (f .field) ≡ getD s at 0 = f .id ∙ part-first at end s (l .order) (l .inside) h in
+    let size : length (fieldBytes (f .field)) ≡ x .to = ap length (f .bytes) ∙ length-take-le (x .to) t (f .at .within) in
+    let held : length (fieldValue (f .field)) ≡ x .to - x .from = ap length (f .at .value) ∙ part-length t (x .from) (x .to) (f .at .order) (f .at .within) in
+    let from : at + x .to - length (fieldValue (f .field)) ≡ at + x .from = omega (arith, f .at .order) in
+    let fields : fieldsBetween at end s ≡ f .field ∷ fieldsBetween (at + x .to) end s = rw (r .1, rest) (f .all) in
     record {
       field = f .field;
-      bounds = f .bounds;
-      read = rw (f .read);
-      order = f .order;
-      some = f .some;
-      within = omega (arith, f .within);
-      id = f .id ∙ first;
-      value = f .value ∙ value;
-      rest = record { order = omega (arith, f .within); inside = l .inside; short = omega (arith, l .short); reads = rw (← behind) (f .rest) };
+      bounds = x;
+      read = ap asBounds (f .bounds);
+      order = f .at .order;
+      some = omega (arith, f .at .start, f .at .order);
+      within = omega (arith, f .at .within);
+      id = id;
+      value = f .at .value ∙ value;
+      rest = record { order = omega (arith, f .at .within); inside = l .inside; short = omega (arith, l .short); reads = (f .rest, rest) };
       fields = fields;
-      all = ap (listedFrom at) fields ∙ rw (from, to, f .id, first);
+      all = ap (listedFrom at) fields ∙ rw (size, from, id);
     }
 
 module _ (at end : ℕ) (s : List ℕ) (b : Bytes s) (h : ListIn at end s) (n : at ≡ end → ⊥) where
