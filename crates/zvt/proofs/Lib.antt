@@ -11,3 +11,5 @@ pub mod ShortLists
 pub mod DigitLaws
 pub mod NameLaws
 pub mod ListLaws
+pub mod PlaceLaws
+pub mod ValueLaws

@@ -45,9 +45,13 @@ module _ (a e : ℕ) (s : List ℕ) (order : a ≤ e) (inside : e ≤ length s) 
   part-first h = getD-take (e - a) (drop a s) 0 0 (omega arith) ∙ getD-drop a s 0 0 ∙ rw add-zero
 
 -- ---- the first field of a list, and the list behind it
+pub no-fields : (at end : ℕ) (s : List ℕ) → at ≡ end → fieldsBetween at end s ≡ []
+unfolding fieldsBetween listFields
+no-fields at end s e = let z : end - at ≡ 0 = omega arith in rw (z, list-none [] 0 0 [] refl)
+
 pub list-empty : (at end : ℕ) (s : List ℕ) → at ≡ end → listedIn at end s ≡ []
-unfolding listedIn fieldsBetween listFields listedFrom
-list-empty at end s e = let z : end - at ≡ 0 = omega arith in rw (z, list-none [] 0 0 [] refl)
+unfolding listedIn listedFrom
+list-empty at end s e = ap (listedFrom at) (no-fields at end s e)
 
 pub record FirstIn (at end : ℕ) (s : List ℕ) : Type 0 where
   pub field : Field
