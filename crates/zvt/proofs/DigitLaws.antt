@@ -77,9 +77,9 @@ number-from v (b ∷ s) h =
     let more : v * 100 + two + 1 ≤ (v + 1) * 100 = omega arith in
     rw pow-succ' (omega (arith, number-from (v * 100 + two) s (h .1), mul-le-mul-right (100 ^ length s) more))
 
-pub number-below : (s : List ℕ) → Decimals s → numberOf s < 100 ^ length s
+pub number-below : (k : ℕ) (s : List ℕ) (n : ℕ) → Decimals s → length s ≡ k → n ≡ numberOf s → n < 100 ^ k
 unfolding numberOf
-number-below s h = omega (arith, number-from 0 s h)
+number-below k s n d l e = rw (e, ← l) (omega (arith, number-from 0 s d))
 
 -- ---- one byte after the other: the first i bytes gave v
 pub number-step : (s : List ℕ) (i v : ℕ) → i < length s

@@ -72,6 +72,7 @@ pub record Here (id a e : ℕ) (s : List ℕ) (l : Listed) : Type 0 where
   pub order : l .from ≤ l .to
   pub inside : l .to ≤ length s
   pub value : valueIn id (fieldsBetween a e s) ≡ found (part (l .from) (l .to) s)
+  pub long : length (part (l .from) (l .to) s) ≡ l .to - l .from
   pub size : SizeOk (formatOf id) (l .to - l .from)
   pub digits : holdsDigits id ≡ true → Decimals (part (l .from) (l .to) s)
 
@@ -88,4 +89,5 @@ module _ (id a e : ℕ) (s : List ℕ) (b : Bytes s) (h : ListIn a e s) where
   is-here l n q =
       let t = tells (listed-field l) q in
       let k = holds id [] (fieldsBetween a e s) (part (l .from) (l .to) s) n (between-ok a e s b h) (t .2) in
-      record { order = t .0; inside = t .1; value = t .2; size = rw (part-length s (l .from) (l .to) (t .0) (t .1)) at (k .0); digits = k .1 }
+      let long = part-length s (l .from) (l .to) (t .0) (t .1) in
+      record { order = t .0; inside = t .1; value = t .2; long = long; size = rw long at (k .0); digits = k .1 }
