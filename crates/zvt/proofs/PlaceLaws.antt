@@ -12,7 +12,7 @@ use lib.Seq.{drop-append-seam, drop-drop}
 use Rattle.messages.specs.declared.Fault.{Fault}
 use Rattle.messages.specs.declared.Layout.{Layout}
 use Rattle.messages.specs.declared.Layout.the-variants.{Plain, List as FieldList, Secured}
-use Rattle.messages.specs.Reading.{Reading, got, refused, part, among}
+use Rattle.messages.specs.Reading.{Reading, got, refused, pick, part, among}
 use Rattle.messages.specs.Fields.{Field, listOf}
 use Rattle.messages.specs.Message.{headerSize, layoutOf, Body, bytes, listed, Message as MessageTree, readOf}
 use Rattle.messages.specs.Writing.{listBytes, bodyBytes, lengthBytes, messageBytes}
@@ -27,8 +27,9 @@ use Rattle.zvt.specs.declared.Listed.{Listed}
 use Rattle.zvt.specs.declared.list.ListPlace.{ListPlace}
 use Rattle.zvt.specs.declared.list.ListPlace.the-variants.{Nowhere, Between}
 use Rattle.zvt.specs.Answers.{messageAnswer, asReadAnswer, readAnswer}
-use Rattle.zvt.specs.List.{listedFrom, listedBody, listedMessage, listFields, fieldsBetween, listedIn, ListIn, bodyPlace, messagePlace, listPlace, placeOfStatus, statusPlace}
-use Rattle.zvt.specs.Values.{bodyFields}
+use Rattle.zvt.specs.List.{listedFrom, listedBody, listedMessage, listFields, fieldsBetween, listedIn, ListIn, bodyPlace, messagePlace, listPlace, isStatus, placeOfStatus, statusPlace, namedListed}
+use Rattle.zvt.specs.Values.{bodyFields, statusFields}
+use Rattle.zvt.specs.Name.{NameAt, own, nameIn, nameOf, nameAt}
 use Rattle.zvt.specs.Writing.{ListReads}
 
 -- ---- the list of a message that is read
@@ -66,7 +67,7 @@ module _ (s : List ℕ) (m : MessageTree) (b : Bytes s) (e : readOf s ≡ got m)
       let back = list-complete fs [] 0 0 (ok .0) (omega (arith, ok .1)) in
       (record { order = omega arith; inside = omega arith; short = omega arith; reads = (_, ap (listOf [] 0 0) w ∙ back) }, rw (w, back))
 
-  pub placed : (from end : ℕ) → messagePlace (got m) ≡ Between from end
+  placed : (from end : ℕ) → messagePlace (got m) ≡ Between from end
       → ListIn from end s × (bodyFields (m .body) ≡ fieldsBetween from end s) × (listedMessage (got m) ≡ listedIn from end s)
   unfolding messagePlace bodyPlace bodyFields listedMessage listedBody listedIn
   placed from end h = go (m .body) refl h
@@ -84,7 +85,7 @@ module _ (s : List ℕ) (m : MessageTree) (b : Bytes s) (e : readOf s ≡ got m)
           rw (a, z) (k .0, k .1, ap (listedFrom (at + length password)) (k .1))
 
 -- no list, no fields
-pub unplaced : (m : MessageTree) → messagePlace (got m) ≡ Nowhere → (bodyFields (m .body) ≡ []) × (listedMessage (got m) ≡ [])
+unplaced : (m : MessageTree) → messagePlace (got m) ≡ Nowhere → (bodyFields (m .body) ≡ []) × (listedMessage (got m) ≡ [])
 unfolding messagePlace bodyPlace bodyFields listedMessage listedBody
 unplaced m h = go (m .body) h
   where
@@ -176,3 +177,57 @@ module _ (s : List ℕ) (x : Message) (b : Bytes s) (e : readAnswer s ≡ Accept
       let class : k .0 .class ≡ 0x04 = rw (← (k .2)) at c in
       let instruction : k .0 .instruction ≡ 0x0F = rw (← (k .2)) at i in
       place-is FieldList (rw (c, i)) ∙ rw (k .1, class, instruction)
+
+-- ---- what a place says of the message
+pub list-at : (s : List ℕ) (from end : ℕ) → Bytes s → listPlace s ≡ Between from end → ListIn from end s × (listedMessage (readOf s) ≡ listedIn from end s)
+unfolding listPlace messagePlace
+list-at s from end b h = go (readOf s) refl h
+  where
+    go : (y : Reading MessageTree) → readOf s ≡ y → messagePlace y ≡ Between from end → ListIn from end s × (listedMessage y ≡ listedIn from end s)
+    go (got m) q g = let k = placed s m b q from end g in (k .0, k .2)
+    go (refused f) q g = absurd (let z : _≡_ {A = ℕ} 0 1 = cc in omega arith)
+
+pub list-nowhere : (s : List ℕ) → listPlace s ≡ Nowhere → listedMessage (readOf s) ≡ []
+unfolding listPlace listedMessage
+list-nowhere s h = go (readOf s) h
+  where
+    go : (y : Reading MessageTree) → messagePlace y ≡ Nowhere → listedMessage y ≡ []
+    go (got m) g = unplaced m g .1
+    go (refused f) g = refl
+
+-- the list of a status information: which fields it has, and where the card name is
+pub record StatusIn (from end : ℕ) (s : List ℕ) : Type 0 where
+  pub reads : ListIn from end s
+  pub fields : statusFields (readOf s) ≡ fieldsBetween from end s
+  pub name : nameAt s ≡ nameIn s (namedListed 0x8B (listedIn from end s))
+
+pub status-at : (s : List ℕ) (from end : ℕ) → Bytes s → statusPlace s ≡ Between from end → StatusIn from end s
+unfolding statusPlace placeOfStatus statusFields nameAt nameOf
+status-at s from end b h = let k = go (readOf s) refl h in record { reads = k .0; fields = k .1; name = k .2 }
+  where
+    P : List Field → NameAt → Type 0
+    P fs n = ListIn from end s × (fs ≡ fieldsBetween from end s) × (n ≡ nameIn s (namedListed 0x8B (listedIn from end s)))
+
+    by : (m : MessageTree) → readOf s ≡ got m → (t : Bool) → pick t (messagePlace (got m)) Nowhere ≡ Between from end
+        → P (pick t (bodyFields (m .body)) []) (pick t (nameIn s (namedListed 0x8B (listedMessage (got m)))) own)
+    by m q true g =
+        let k = placed s m b q from end g in
+        (k .0, k .1, ap (λ (ls : List Listed). nameIn s (namedListed 0x8B ls)) (k .2))
+    by m q false g = absurd (let z : _≡_ {A = ℕ} 0 1 = cc in omega arith)
+
+    go : (y : Reading MessageTree) → readOf s ≡ y → placeOfStatus y ≡ Between from end → P (statusFields y) (nameOf s y)
+    go (got m) q g = by m q (isStatus m) g
+    go (refused f) q g = absurd (let z : _≡_ {A = ℕ} 0 1 = cc in omega arith)
+
+pub status-nowhere : (s : List ℕ) → statusPlace s ≡ Nowhere → (statusFields (readOf s) ≡ []) × (nameAt s ≡ own)
+unfolding statusPlace placeOfStatus statusFields nameAt nameOf nameIn namedListed
+status-nowhere s h = go (readOf s) h
+  where
+    by : (m : MessageTree) (t : Bool) → pick t (messagePlace (got m)) Nowhere ≡ Nowhere
+        → (pick t (bodyFields (m .body)) [] ≡ []) × (pick t (nameIn s (namedListed 0x8B (listedMessage (got m)))) own ≡ own)
+    by m true g = let k = unplaced m g in (k .0, ap (λ (ls : List Listed). nameIn s (namedListed 0x8B ls)) (k .1))
+    by m false g = (refl, refl)
+
+    go : (y : Reading MessageTree) → placeOfStatus y ≡ Nowhere → (statusFields y ≡ []) × (nameOf s y ≡ own)
+    go (got m) g = by m (isStatus m) g
+    go (refused f) g = (refl, refl)
