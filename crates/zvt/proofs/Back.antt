@@ -1,5 +1,5 @@
 -- Writing at the end of a buffer, one thing before the other. Assumes nothing.
-use mathlib.Core.Path.{_≡_, refl, sym, ap, ap₂, _∙_}
+use mathlib.Core.Path.{_≡_, sym, ap, ap₂, _∙_}
 use mathlib.Core.List.{List, [], _++_, append-assoc, append-nil}
 use Prim.Native.Nat.{ℕ, _+_, _-_, _≤_}
 use native.Mathlib.Omega.{arith}
@@ -103,11 +103,12 @@ module _ (head : ℕ → List ℕ) {t d x : List ℕ} {left : ℕ} (p : Put t d 
   pub then-head : {y : List ℕ} {r : ℕ} → Put (head (length x - left)) (take left x) r y → Put (head (length t) ++ t) d r (y ++ drop left x)
   then-head q = then-put (head (length t)) p h (rw says at q)
 
--- the short form of s, which is w for its first k bytes and the short form of the rest: the rest, and w before it
+-- w for the first k bytes of s and the short form of the rest: the rest, and w before it
 abbrev behind : ℕ → List ℕ → List ℕ
 behind k s = take (length s - k) (drop k s)
 
-module _ (short : List ℕ → List ℕ) (w s d : List ℕ) (k : ℕ) (all : short s ≡ w ++ short (drop k s)) (h : length (short s) ≤ length d) where
+module _ (short : List ℕ → List ℕ) {whole : List ℕ} (w s d : List ℕ) (k : ℕ) (all : whole ≡ w ++ short (drop k s))
+    (h : length whole ≤ length d) where
   whole-fits : length (w ++ short (drop k s)) ≤ length d
   whole-fits = fits-as (sym all) h
 
@@ -127,5 +128,5 @@ module _ (short : List ℕ → List ℕ) (w s d : List ℕ) (k : ℕ) (all : sho
     pub first-room : {v : List ℕ} → v ≡ w → length v ≤ length (take left x)
     first-room e = fits-as e (room w rest-put whole-fits)
 
-    pub first-put : {v y : List ℕ} {r : ℕ} → v ≡ w → Put v (take left x) r y → Put (short s) d r (y ++ drop left x)
+    pub first-put : {v y : List ℕ} {r : ℕ} → v ≡ w → Put v (take left x) r y → Put whole d r (y ++ drop left x)
     first-put e q = put-as (sym all) (then-put w rest-put whole-fits (put-as e q))

@@ -30,17 +30,17 @@ use Rattle.zvt.proofs.ObjectLaws.{unless-then, len-got, len-stopped}
 use Rattle.zvt.proofs.Tables.{allFrom, at-from}
 
 -- ---- decimal digits, whatever follows them
-decimals-then : {A : Type 0} (at : ℕ) (s t : List ℕ) (x : Reading A) → unlessUndecimal at s x ≡ andThen (unlessUndecimal at s (got t)) (λ u. x)
+pub decimals-then : {A : Type 0} (at : ℕ) (s t : List ℕ) (x : Reading A) → unlessUndecimal at s x ≡ andThen (unlessUndecimal at s (got t)) (λ u. x)
 unfolding unlessUndecimal andThen
 decimals-then at [] t x = refl
 decimals-then at (b ∷ s) t x = ap (unless (not (decimal b)) (no 6 at)) (decimals-then (at + 1) s t x) ∙ sym (unless-then _ _ _ _)
 
-decimals-got : (x : Reading (List ℕ)) → asDecimals x ≡ All → (t : List ℕ) × (x ≡ got t)
+pub decimals-got : (x : Reading (List ℕ)) → asDecimals x ≡ All → (t : List ℕ) × (x ≡ got t)
 unfolding asDecimals
 decimals-got (got t) e = (t, refl)
 decimals-got (refused r) e = absurd (let z : _≡_ {A = ℕ} 0 1 = cc in omega arith)
 
-decimals-stopped : (x : Reading (List ℕ)) (r : Fault) → asDecimals x ≡ decimals-refused r → x ≡ refused r
+pub decimals-stopped : (x : Reading (List ℕ)) (r : Fault) → asDecimals x ≡ decimals-refused r → x ≡ refused r
 unfolding asDecimals
 decimals-stopped (got t) r e = absurd (let z : _≡_ {A = ℕ} 0 1 = cc in omega arith)
 decimals-stopped (refused q) r e = cc

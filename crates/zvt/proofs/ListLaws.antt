@@ -1,158 +1,152 @@
--- The fields of a list that lies in a message, one after the other. Assumes nothing.
+-- What the reader of a list answers from the i-th byte on, and what the marks of ids say. Assumes nothing.
 use mathlib.Core.Path.{_≡_, refl, sym, ap, _∙_}
-use mathlib.Core.Logic.{⊎-elim}
+use mathlib.Core.Bool.{Bool, true, false, _||_}
 use mathlib.Core.List.{List, [], _∷_}
-use Prim.Native.Nat.{ℕ, zero, suc, _+_, _-_, _<_, _≤_}
-use native.Mathlib.Nat.{add-zero, eq-or-lt-of-le}
+use Prim.Native.Nat.{ℕ, _+_, _-_, _<_, _≤_}
+use native.Mathlib.Nat.{add-zero, add-assoc, zero-add}
 use native.Mathlib.Omega.{arith}
-use lib.ListN.{length, getD, take, drop, length-drop}
-use lib.Seq.{length-take-le, take-add, take-take, drop-at, drop-drop, getD-take, getD-drop}
-use borrow.Author.Tests.{eq-eqb, ne-eqb}
+use lib.ListN.{length, getD, take, drop, set, length-set, replicate, length-replicate, getD-replicate, length-append, length-drop}
+use lib.Seq.{getD-set-same, getD-set-other, getD-drop, drop-drop, length-take-le}
+use lib.Dec.{eqb}
+use borrow.Author.Tests.{eq-eqb, ne-eqb, eqb-true, eqb-false}
 use Rattle.messages.specs.declared.Fault.{Fault}
-use Rattle.messages.specs.Reading.{got, part}
-use Rattle.messages.specs.Fields.{Field, fieldId, listOf}
-use Rattle.messages.specs.Writing.{fieldBytes}
-use Rattle.messages.specs.Grammar.{Bytes}
-use Rattle.messages.proofs.ObjectSteps.{part-length}
-use Rattle.messages.proofs.ObjectBytes.{bytes-part}
-use Rattle.messages.proofs.FieldSteps.{list-none}
-use Rattle.zvt.specs.declared.Listed.{Listed}
-use Rattle.zvt.specs.declared.FieldAnswer.{FieldAnswer}
-use Rattle.zvt.specs.declared.FieldAnswer.the-variants.{Field as listed-field, End}
-use Rattle.zvt.specs.declared.objects.Bounds.{Bounds}
-use Rattle.zvt.specs.declared.objects.BoundsRead.the-variants.{Bounds as bounds-read, Refused as bounds-refused}
-use Rattle.zvt.specs.Objects.{asBounds}
-use Rattle.zvt.specs.Fields.{fieldBounds}
-use Rattle.zvt.specs.List.{fieldValue, listedAt, listedFrom, firstListed, nthListed, namedListed, listFields, fieldsBetween, listedIn, ListIn}
-use Rattle.zvt.specs.Writing.{ListReads}
-use Rattle.zvt.proofs.ShortLists.{FirstField, first-field}
+use Rattle.messages.specs.Reading.{Reading, got, refused, andThen, among}
+use Rattle.messages.specs.Fields.{Field, FieldRead, ListRead, fieldOf, listOf}
+use Rattle.messages.specs.Writing.{fieldBytes, listBytes}
+use Rattle.messages.specs.Shortest.{shortField, shortList}
+use Rattle.messages.specs.Grammar.{Bytes, FieldOk, ListOk}
+use Rattle.messages.proofs.Readings.{then-on, then-stop}
+use Rattle.messages.proofs.ObjectSteps.{tail}
+use Rattle.messages.proofs.ObjectBytes.{bytes-drop}
+use Rattle.messages.proofs.FieldSteps.{field-in, list-none, list-step}
+use Rattle.messages.proofs.FieldBytes.{field-sound, list-sound}
+use Rattle.messages.proofs.FieldShort.{field-shorter, list-shorter}
+use Rattle.zvt.specs.declared.objects.Tally.{Tally}
+use Rattle.zvt.specs.declared.objects.PartRead.{PartRead}
+use Rattle.zvt.specs.declared.objects.PartRead.the-variants.{Part, Refused as part-refused}
+use Rattle.zvt.specs.Objects.{asPart}
+use Rattle.zvt.specs.Fields.{spareField, spareList, fieldTally, listTally, fieldWhen, fieldAnswer, listAnswer}
+use Rattle.zvt.proofs.RunLaws.{part-got, part-stopped}
 
--- ---- a part of a part
-module _ (a e : ℕ) (s : List ℕ) (order : a ≤ e) (inside : e ≤ length s) where
-  pub part-rest : (k : ℕ) → k ≤ e - a → drop k (part a e s) ≡ part (a + k) e s
-  part-rest k h =
-      let m : e - a ≡ k + (e - (a + k)) = omega arith in
-      let t = drop a s in
-      let size : length (take k t) ≡ k = length-take-le k t (omega (arith, length-drop a s)) in
-      rw (m, take-add k (e - (a + k)) t, drop-at (take k t) (take (e - (a + k)) (drop k t)) k size, drop-drop k a s)
+-- ---- the marks: at each id, whether it is one of those that came
+abbrev pub Marks : List Bool → List ℕ → Type 0
+Marks seen ids = (length seen ≡ 256) × ((k : ℕ) → k < 256 → getD seen k false ≡ among ids k)
 
-  pub part-part : (x y : ℕ) → x ≤ y → y ≤ e - a → part x y (part a e s) ≡ part (a + x) (a + y) s
-  part-part x y h l =
-      let m : a + y - (a + x) ≡ y - x = omega arith in
-      rw (part-rest x (omega arith), m) (take-take (y - x) (e - (a + x)) (drop (a + x) s) (omega arith))
+pub marks-none : Marks (replicate 256 false) []
+unfolding among
+marks-none = (length-replicate 256 false, λ k h. getD-replicate 256 k false false h)
 
-  pub part-first : a < e → getD (part a e s) 0 0 ≡ getD s a 0
-  part-first h = getD-take (e - a) (drop a s) 0 0 (omega arith) ∙ getD-drop a s 0 0 ∙ rw add-zero
+pub marks-more : (seen : List Bool) (ids : List ℕ) (id : ℕ) → id < 256 → Marks seen ids → Marks (set seen id true) (id ∷ ids)
+unfolding among
+marks-more seen ids id l m = (length-set seen id true ∙ m .0, λ k h. go k h (eqb id k) refl)
+  where
+    go : (k : ℕ) → k < 256 → (t : Bool) → eqb id k ≡ t → getD (set seen id true) k false ≡ (t || among ids k)
+    go k h true e = rw (sym (eqb-true id k e)) (getD-set-same seen id true false (omega (arith, m .0)))
+    go k h false e = getD-set-other seen id k true false (λ f. eqb-false id k e (sym f)) ∙ m .1 k h
 
--- ---- the first field of a list, and the list behind it
-pub no-fields : (at end : ℕ) (s : List ℕ) → at ≡ end → fieldsBetween at end s ≡ []
-unfolding fieldsBetween listFields
-no-fields at end s e = let z : end - at ≡ 0 = omega arith in rw (z, list-none [] 0 0 [] refl)
+-- ---- the bytes saved
+spare-more : (f : Field) (fs : List Field) (ids : List ℕ) → FieldOk f → ListOk ids fs → spareList (f ∷ fs) ≡ spareField f + spareList fs
+unfolding spareField spareList listBytes shortList
+spare-more f fs ids a b =
+    omega (
+      arith,
+      field-shorter f a,
+      list-shorter fs ids b,
+      length-append (fieldBytes f) (listBytes fs),
+      length-append (fieldBytes (shortField f)) (listBytes (shortList fs)),
+    )
 
-pub list-empty : (at end : ℕ) (s : List ℕ) → at ≡ end → listedIn at end s ≡ []
-unfolding listedIn listedFrom
-list-empty at end s e = ap (listedFrom at) (no-fields at end s e)
+-- ---- what is known of a tally goes by what was read
+part-alike : {A : Type 0} (f g : A → Tally) (x : Reading A) → ((a : A) → f a ≡ g a) → asPart f x ≡ asPart g x
+unfolding asPart
+part-alike f g (got a) h = ap Part (h a)
+part-alike f g (refused r) h = refl
 
-pub record FirstIn (at end : ℕ) (s : List ℕ) : Type 0 where
-  pub field : Field
-  pub bounds : Bounds
-  pub read : fieldBounds 0 (part at end s) ≡ bounds-read bounds
-  pub order : bounds .from ≤ bounds .to
-  pub some : 0 < bounds .to
-  pub within : at + bounds .to ≤ end
-  pub id : fieldId field ≡ getD s at 0
-  pub value : fieldValue field ≡ part (at + bounds .from) (at + bounds .to) s
-  pub rest : ListIn (at + bounds .to) end s
-  pub fields : fieldsBetween at end s ≡ field ∷ fieldsBetween (at + bounds .to) end s
-  pub all : listedIn at end s ≡ record { id = getD s at 0; from = at + bounds .from; to = at + bounds .to } ∷ listedIn (at + bounds .to) end s
+part-then : {A B : Type 0} (f : B → Tally) (g : A → Tally) (x : Reading A) (y : A → B) → ((a : A) → x ≡ got a → f (y a) ≡ g a)
+    → asPart f (andThen x λ a. got (y a)) ≡ asPart g x
+unfolding asPart andThen
+part-then f g (got a) y h = ap Part (h a refl)
+part-then f g (refused r) y h = refl
 
-pub first-in : (at end : ℕ) (s : List ℕ) → Bytes s → ListIn at end s → at < end → FirstIn at end s
-unfolding fieldBounds asBounds listedAt listedFrom listFields fieldsBetween listedIn ListReads
-first-in at end s b l h =
-    let t = part at end s in
-    let r = l .reads in
-    let long = part-length s at end (l .order) (l .inside) in
-    let k = first-field t (r .0) (bytes-part at end s b) (r .1) (omega arith) in
-    let x = k .0 in
-    let f = k .1 in
-    let value = part-part at end s (l .order) (l .inside) (x .from) (x .to) (f .at .order) (omega (arith, f .at .within)) in
-    let behind = part-rest at end s (l .order) (l .inside) (x .to) (omega (arith, f .at .within)) in
-    let rest : listOf [] 0 0 (part (at + x .to) end s) ≡ got (f .rest) = rw (← behind) (f .behind) in
-    let id : fieldId (f .field) ≡ getD s at 0 = f .id ∙ part-first at end s (l .order) (l .inside) h in
-    let size : length (fieldBytes (f .field)) ≡ x .to = ap length (f .bytes) ∙ length-take-le (x .to) t (f .at .within) in
-    let held : length (fieldValue (f .field)) ≡ x .to - x .from = ap length (f .at .value) ∙ part-length t (x .from) (x .to) (f .at .order) (f .at .within) in
-    let from : at + x .to - length (fieldValue (f .field)) ≡ at + x .from = omega (arith, f .at .order) in
-    let fields : fieldsBetween at end s ≡ f .field ∷ fieldsBetween (at + x .to) end s = rw (r .1, rest) (f .all) in
-    record {
-      field = f .field;
-      bounds = x;
-      read = ap asBounds (f .bounds);
-      order = f .at .order;
-      some = omega (arith, f .at .start, f .at .order);
-      within = omega (arith, f .at .within);
-      id = id;
-      value = f .at .value ∙ value;
-      rest = record { order = omega (arith, f .at .within); inside = l .inside; short = omega (arith, l .short); reads = (f .rest, rest) };
-      fields = fields;
-      all = ap (listedFrom at) fields ∙ rw (size, from, id);
-    }
+-- the tally of a list of which so many bytes are saved already
+abbrev tallyFrom : ℕ → ℕ → ListRead → Tally
+tallyFrom size spare r = record { size = size; objects = r .count; spare = spare + spareList (r .fields) }
 
-module _ (at end : ℕ) (s : List ℕ) (b : Bytes s) (h : ListIn at end s) (n : at ≡ end → ⊥) where
-  -- its bounds give it
-  pub first-is : (x : Bounds) → fieldBounds 0 (part at end s) ≡ bounds-read x
-      → (x .from ≤ x .to) × (at + x .to ≤ end)
-      × (listed-field (record { id = getD s at 0; from = at + x .from; to = at + x .to }) ≡ firstListed (listedIn at end s))
-  unfolding firstListed
-  first-is x e =
-      let f = first-in at end s b h (omega (arith, h .order)) in
-      let same : f .bounds ≡ x = cc (f .read) in
-      rw (← same) (f .order, f .within, sym (ap firstListed (f .all)))
+module _ (ids : List ℕ) (twice : Bool) (n at : ℕ) (s : List ℕ) (seen : twice ≡ among ids (getD s 0 0)) where
+  field-is : fieldWhen twice n at s ≡ fieldOf ids n at s
+  unfolding fieldWhen fieldOf
+  field-is = rw seen
 
-  -- and are never refused
-  pub first-never : (r : Fault) → fieldBounds 0 (part at end s) ≡ bounds-refused r → ⊥
-  first-never r e = let z : _≡_ {A = ℕ} 0 1 = cc (first-in at end s b h (omega (arith, h .order)) .read) in omega arith
+  list-no-first : 0 < length s → (r : Fault) → fieldAnswer twice n at s ≡ part-refused r → (f : ListRead → Tally)
+      → asPart f (listOf ids n at s) ≡ part-refused r
+  unfolding fieldAnswer asPart
+  list-no-first l r e f = ap (asPart f) (list-step ids n at s l ∙ then-stop _ r (sym field-is ∙ part-stopped _ _ r e))
 
--- ---- what the first field says of the whole list
-abbrev pub Next : ℕ → ℕ → List ℕ → Listed → Type 0
-Next at end s l = (at < l .to) × ListIn (l .to) end s × (listedIn at end s ≡ l ∷ listedIn (l .to) end s)
+  abbrev Goes : ℕ → ℕ → Tally → Type 0
+  Goes size spare t =
+      (1 ≤ t .size) × (t .size ≤ length s) × (t .spare ≤ t .size)
+      × (asPart (tallyFrom size spare) (listOf ids n at s)
+      ≡ asPart (tallyFrom size (spare + t .spare)) (listOf (getD s 0 0 ∷ ids) (t .objects) (at + t .size) (drop (t .size) s)))
 
-pub next-in : (at end : ℕ) (s : List ℕ) (l : Listed) → Bytes s → ListIn at end s → firstListed (listedIn at end s) ≡ listed-field l → Next at end s l
-unfolding firstListed
-next-in at end s l b h e =
-    ⊎-elim
-    (λ q. absurd (let z : _≡_ {A = ℕ} 0 1 = cc (list-empty at end s q) in omega arith))
-    (λ k.
-    let f = first-in at end s b h k in
-    let p : record { id = getD s at 0; from = at + f .bounds .from; to = at + f .bounds .to } ≡ l = cc (f .all) in
-    rw (← p) (omega (arith, f .some), f .rest, f .all))
-    (eq-or-lt-of-le (h .order))
+  goes : Bytes s → 0 < length s → (size spare : ℕ) (o : FieldRead) → fieldWhen twice n at s ≡ got o → Goes size spare (fieldTally o)
+  unfolding fieldTally spareField
+  goes b l size spare o e =
+      let f = sym field-is ∙ e in
+      let i = field-in ids n at s o f in
+      let g = field-sound ids n at s o b f in
+      let size-is : length (fieldBytes (o .field)) ≡ o .size = ap length (g .bytes) ∙ length-take-le (o .size) s (i .1) in
+      let next = getD s 0 0 ∷ ids in
+      let left = drop (o .size) s in (
+        i .0,
+        i .1,
+        omega arith,
+        ap (asPart (tallyFrom size spare)) (list-step ids n at s l ∙ then-on _ o f)
+            ∙ part-then (tallyFrom size spare) (tallyFrom size (spare + spareField (o .field))) (listOf next (o .count) (at + o .size) left)
+            (λ r. record { fields = o .field ∷ r .fields; count = r .count })
+            (λ r h.
+            let k = list-sound next (o .count) (at + o .size) left r (bytes-drop (o .size) s b) h in
+            ap (λ (x : ℕ). record { size = size; objects = r .count; spare = x }) (omega (arith, spare-more (o .field) (r .fields) next (g .ok) (k .1)))),
+      )
 
-none-listed : (ls : List Listed) → firstListed ls ≡ End → ls ≡ []
-unfolding firstListed
-none-listed [] e = refl
-none-listed (l ∷ ls) e = absurd (let z : _≡_ {A = ℕ} 0 1 = cc in omega arith)
+  list-goes : Bytes s → 0 < length s → (size spare : ℕ) (t : Tally) → fieldAnswer twice n at s ≡ Part t → Goes size spare t
+  unfolding fieldAnswer
+  list-goes b l size spare = part-got fieldTally (fieldWhen twice n at s) (Goes size spare) (goes b l size spare)
 
-pub nth-end : (k : ℕ) (ls : List Listed) → firstListed ls ≡ End → nthListed k ls ≡ End
-unfolding nthListed
-nth-end k ls e = rw (none-listed ls e)
+-- ---- a list from the i-th byte on, with so many bytes saved before
+module _ (at : ℕ) (s : List ℕ) where
+  abbrev pub listFrom : List ℕ → ℕ → ℕ → ℕ → PartRead
+  listFrom ids n i spare = asPart (tallyFrom (length s) spare) (listOf ids n (at + i) (drop i s))
 
-pub nth-here : (k : ℕ) (l : Listed) (ls : List Listed) → k ≡ 0 → nthListed k (l ∷ ls) ≡ listed-field l
-unfolding nthListed
-nth-here k l ls e = rw e
+  pub list-begins : listAnswer at s ≡ listFrom [] 0 0 0
+  unfolding listAnswer listTally
+  list-begins = rw add-zero (part-alike _ _ (listOf [] 0 at s) (λ r. ap (λ (x : ℕ). record { size = length s; objects = r .count; spare = x }) (omega arith)))
 
-pub nth-next : (k : ℕ) (l : Listed) (ls : List Listed) → (k ≡ 0 → ⊥) → nthListed k (l ∷ ls) ≡ nthListed (k - 1) ls
-unfolding nthListed
-nth-next zero l ls n = absurd (n refl)
-nth-next (suc k) l ls n = let e : suc k - 1 ≡ k = omega arith in rw e
+  module _ (ids : List ℕ) (n i spare : ℕ) where
+    pub list-ends : i ≤ length s → length s ≤ i → listFrom ids n i spare ≡ Part (record { size = i; objects = n; spare = spare })
+    unfolding asPart spareList listBytes shortList
+    list-ends l h = let e : length s ≡ i = omega arith in rw (list-none ids n (at + i) (drop i s) (omega (arith, length-drop i s)), add-zero, e)
 
-pub named-end : (id : ℕ) (ls : List Listed) → firstListed ls ≡ End → namedListed id ls ≡ End
-unfolding namedListed
-named-end id ls e = rw (none-listed ls e)
+    -- behind the next field, with that tally
+    abbrev pub GoesOn : Tally → Type 0
+    GoesOn t =
+        (1 ≤ t .size) × (i + t .size ≤ length s) × (t .spare ≤ t .size)
+        × (listFrom ids n i spare ≡ listFrom (getD s i 0 ∷ ids) (t .objects) (i + t .size) (spare + t .spare))
 
-pub named-here : (id : ℕ) (l : Listed) (ls : List Listed) → l .id ≡ id → namedListed id (l ∷ ls) ≡ listed-field l
-unfolding namedListed
-named-here id l ls e = rw (eq-eqb (l .id) id e)
+    module _ (twice : Bool) (seen : twice ≡ among ids (getD s i 0)) (l : i < length s) where
+      -- the answer for the field that is next
+      abbrev next : PartRead
+      next = fieldAnswer twice n (at + i) (take (length s - i) (drop i s))
 
-pub named-next : (id : ℕ) (l : Listed) (ls : List Listed) → (l .id ≡ id → ⊥) → namedListed id (l ∷ ls) ≡ namedListed id ls
-unfolding namedListed
-named-next id l ls n = rw (ne-eqb (l .id) id n)
+      some : 0 < length (drop i s)
+      some = omega (arith, length-drop i s)
+
+      is-seen : twice ≡ among ids (getD (drop i s) 0 0)
+      is-seen = rw (getD-drop i s 0 0, add-zero) seen
+
+      pub list-stops : (r : Fault) → next ≡ part-refused r → listFrom ids n i spare ≡ part-refused r
+      list-stops r e = list-no-first ids twice n (at + i) (drop i s) is-seen some r (rw tail at e) _
+
+      pub list-goes-on : Bytes s → (t : Tally) → next ≡ Part t → GoesOn t
+      list-goes-on b t e =
+          let g = list-goes ids twice n (at + i) (drop i s) is-seen (bytes-drop i s b) some (length s) spare t (rw tail at e) in
+          (g .0, omega (arith, length-drop i s), g .2, g .3 ∙ rw (getD-drop i s 0 0, add-zero, drop-drop (t .size) i s, add-assoc at i (t .size)))

@@ -1,8 +1,8 @@
 -- A list that is read: its first field and the rest, and what its shortest writing is. Assumes nothing.
 use mathlib.Core.Path.{_≡_, refl, sym, ap, ap₂, _∙_, subst}
 use mathlib.Core.Bool.{Bool, true, false, _||_}
-use mathlib.Core.List.{List, [], _∷_, _++_, append-assoc}
-use Prim.Native.Nat.{ℕ, suc, _+_, _<_, _≤_}
+use mathlib.Core.List.{List, [], _∷_, _++_}
+use Prim.Native.Nat.{ℕ, _+_, _<_, _≤_}
 use native.Mathlib.Omega.{arith}
 use lib.ListN.{length, getD, take, drop}
 use lib.Seq.{take-suc}
@@ -11,23 +11,22 @@ use borrow.Author.Tests.{le-ltb}
 use Rattle.messages.specs.declared.Fault.{Fault}
 use Rattle.messages.specs.declared.Format.{Format}
 use Rattle.messages.specs.declared.Format.the-variants.{Unknown, Fixed, Digits, Container}
-use Rattle.messages.specs.Reading.{Reading, got, unless, andThen, part, among}
-use Rattle.messages.specs.Objects.{Form, formSize, lenOf, Objs}
+use Rattle.messages.specs.Reading.{got, unless, part, among}
+use Rattle.messages.specs.Objects.{Form, formSize, Objs}
 use Rattle.messages.specs.Fields.{formatOf, digitsOf, Field, plain, container, fieldId, countFields, FieldRead, ListRead, fieldBy, fieldOf, listOf}
-use Rattle.messages.specs.Writing.{lenBytes, sized, runBytes, fieldBytes, listBytes}
-use Rattle.messages.specs.Shortest.{formFor, shortRun, shortField, shortList}
-use Rattle.messages.specs.Grammar.{Bytes, FieldOk, ListOk}
+use Rattle.messages.specs.Writing.{sized, fieldBytes, listBytes}
+use Rattle.messages.specs.Shortest.{shortField, shortList}
+use Rattle.messages.specs.Grammar.{Bytes, ListOk}
 use Rattle.messages.proofs.Readings.{got-same, got-not-refused, then-got, then-on}
 use Rattle.messages.proofs.ObjectBytes.{bytes-drop, bytes-part, run-sound}
-use Rattle.messages.proofs.FieldSteps.{plain-got, container-got, field-got, field-in, list-none, list-step}
+use Rattle.messages.proofs.FieldSteps.{plain-got, container-got, field-got, list-none, list-step}
 use Rattle.messages.proofs.FieldBytes.{FieldSound, field-sound, list-sound, list-complete}
-use Rattle.messages.proofs.FieldShort.{list-shorter}
 use Rattle.zvt.specs.declared.objects.Bounds.{Bounds}
 use Rattle.zvt.specs.declared.objects.BoundsRead.the-variants.{Bounds as bounds-read, Refused as bounds-refused}
 use Rattle.zvt.specs.Objects.{asBounds, boundsIn}
 use Rattle.zvt.specs.Fields.{boundsBy, fieldBounds}
 use Rattle.zvt.specs.List.{fieldValue}
-use Rattle.zvt.specs.Writing.{headBytes, valueBytes, RunReads, shortRunOf, shortFieldOf, ListReads, listWritten, shortListOf}
+use Rattle.zvt.specs.Writing.{headBytes, valueBytes, RunReads, shortFieldOf, ListReads, listWritten, shortListOf}
 use Rattle.zvt.proofs.ShortRuns.{Alone, run-alone}
 
 -- ---- a list that is read is read alone too: after no ids, after no objects, at no place
@@ -106,7 +105,9 @@ field-at s Container o bs e =
     let p = container-got 0 0 s o e in
     let l = p .0 in
     let a = 1 + formSize (l .form) in
-    let alone = run-alone 4 0 (0 + a) (part a (a + l .value) s) (p .1) (bytes-part a (a + l .value) s bs) (omega arith) (omega arith) (p .4) in (
+    let value = part a (a + l .value) s in
+    let vs = bytes-part a (a + l .value) s bs in
+    let alone = run-alone 4 0 (0 + a) value (p .1) vs (omega arith) (omega arith) (p .4) in (
       record { tag = 1; from = a; to = a + l .value; nested = true },
       then-on _ l (p .2) ∙ bounds-fit a (l .value) true s (p .3),
       ap (λ (x : FieldRead). x .size) (sym (p .5)),
@@ -114,7 +115,7 @@ field-at s Container o bs e =
         start = omega arith;
         order = omega arith;
         within = p .3;
-        value = ap (λ (x : FieldRead). fieldValue (x .field)) (p .5) ∙ run-sound 4 0 (0 + a) (part a (a + l .value) s) (p .1) (bytes-part a (a + l .value) s bs) (p .4) .0;
+        value = ap (λ (x : FieldRead). fieldValue (x .field)) (p .5) ∙ run-sound 4 0 (0 + a) value (p .1) vs (p .4) .0;
         plainly = λ t. absurd (let z : _≡_ {A = ℕ} 0 1 = cc in omega arith);
         run = λ _. (l .form, p .1 .objs, ap (λ (x : FieldRead). x .field) (p .5), alone);
       },
@@ -156,7 +157,8 @@ first-field s r bs e l =
     let sound = field-sound [] 0 0 s o bs (k .1) in
     let at = field-at s (formatOf (getD s 0 0)) o bs (field-got [] 0 0 s o (k .1) .2) in
     let b = at .0 in
-    let alone = list-alone (getD s 0 0 ∷ []) (o .count) (0 + o .size) (drop (o .size) s) (q .0) (bytes-drop (o .size) s bs) (sound .few (omega arith)) (q .1) in (
+    let tail = drop (o .size) s in
+    let alone = list-alone (getD s 0 0 ∷ []) (o .count) (0 + o .size) tail (q .0) (bytes-drop (o .size) s bs) (sound .few (omega arith)) (q .1) in (
       b,
       record {
         bounds = at .1;
@@ -171,16 +173,16 @@ first-field s r bs e l =
       },
     )
 
-written : (s : List ℕ) (r : ListRead) → listOf [] 0 0 s ≡ got r → shortListOf s ≡ listBytes (shortList (r .fields))
+pub list-written : (s : List ℕ) (r : ListRead) → listOf [] 0 0 s ≡ got r → shortListOf s ≡ listBytes (shortList (r .fields))
 unfolding shortListOf listWritten
-written s r e = rw e
+list-written s r e = rw e
 
 pub list-short-none : (s : List ℕ) → length s ≡ 0 → shortListOf s ≡ []
 unfolding listBytes shortList
-list-short-none s h = written s _ (list-none [] 0 0 s h)
+list-short-none s h = list-written s _ (list-none [] 0 0 s h)
 
--- as the code finds it
-pub record FieldFirst (s : List ℕ) (b : Bounds) : Type 0 where
+-- as the writer finds it
+pub record FieldToPut (s : List ℕ) (b : Bounds) : Type 0 where
   pub start : 1 ≤ b .from
   pub order : b .from ≤ b .to
   pub within : b .to ≤ length s
@@ -188,9 +190,9 @@ pub record FieldFirst (s : List ℕ) (b : Bounds) : Type 0 where
   pub rest : ListReads (drop (b .to) s)
   pub all : shortListOf s ≡ shortFieldOf b s ++ shortListOf (drop (b .to) s)
 
-field-first : (s : List ℕ) → Bytes s → ListReads s → 0 < length s → (b : Bounds) × (fieldBounds 0 s ≡ bounds-read b) × FieldFirst s b
+field-to-put : (s : List ℕ) → Bytes s → ListReads s → 0 < length s → (b : Bounds) × (fieldBounds 0 s ≡ bounds-read b) × FieldToPut s b
 unfolding ListReads fieldBounds asBounds listBytes shortList
-field-first s bs r l =
+field-to-put s bs r l =
     let f = first-field s (r .0) bs (r .1) l .1 in
     let b = first-field s (r .0) bs (r .1) l .0 in (
       b,
@@ -202,25 +204,18 @@ field-first s bs r l =
         inside = λ t. f .at .run t .3 .reads;
         rest = (f .rest, f .behind);
         all =
-            written s (r .0) (r .1) ∙ ap (λ (fs : List Field). listBytes (shortList fs)) (f .all)
-            ∙ ap₂ (λ (u v : List ℕ). u ++ v) (f .short) (sym (written _ (f .rest) (f .behind)));
+            list-written s (r .0) (r .1) ∙ ap (λ (fs : List Field). listBytes (shortList fs)) (f .all)
+            ∙ ap₂ (λ (u v : List ℕ). u ++ v) (f .short) (sym (list-written _ (f .rest) (f .behind)));
       },
     )
 
-pub field-is : (s : List ℕ) (b : Bounds) → Bytes s → ListReads s → 0 < length s → fieldBounds 0 s ≡ bounds-read b → FieldFirst s b
+pub field-is : (s : List ℕ) (b : Bounds) → Bytes s → ListReads s → 0 < length s → fieldBounds 0 s ≡ bounds-read b → FieldToPut s b
 field-is s b bs r l e =
-    let f = field-first s bs r l in
+    let f = field-to-put s bs r l in
     let same : f .0 ≡ b = cc in
-    subst (FieldFirst s) same (f .2)
+    subst (FieldToPut s) same (f .2)
 
 pub field-never : (s : List ℕ) (r : Fault) → Bytes s → ListReads s → 0 < length s → fieldBounds 0 s ≡ bounds-refused r → ⊥
 field-never s r bs reads l e =
-    let f = field-first s bs reads l in
+    let f = field-to-put s bs reads l in
     let z : _≡_ {A = ℕ} 0 1 = cc in omega arith
-
--- it is no longer than the list
-pub list-fits : (s : List ℕ) → Bytes s → ListReads s → length (shortListOf s) ≤ length s
-unfolding ListReads
-list-fits s b r =
-    let f = list-sound [] 0 0 s (r .0) b (r .1) in
-    omega (arith, ap length (written s (r .0) (r .1)), ap length (f .0), list-shorter (r .0 .fields) [] (f .1))

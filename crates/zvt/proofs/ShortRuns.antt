@@ -1,14 +1,14 @@
 -- The shortest writing of a run: what its first object is written as, and the rest. Assumes nothing.
 use mathlib.Core.Path.{_≡_, refl, sym, ap, ap₂, _∙_, subst}
-use mathlib.Core.Bool.{Bool, true, false}
-use mathlib.Core.List.{List, [], _∷_, _++_, append-assoc}
+use mathlib.Core.Bool.{true, false}
+use mathlib.Core.List.{List, [], _++_, append-assoc}
 use mathlib.Core.Logic.{⊎-elim}
 use Prim.Native.Nat.{ℕ, _+_, _-_, _<_, _≤_}
 use native.Mathlib.Omega.{arith}
 use lib.ListN.{length, getD, take, drop}
 use Rattle.messages.specs.declared.Fault.{Fault}
-use Rattle.messages.specs.Reading.{Reading, got, refused, pick, andThen, part}
-use Rattle.messages.specs.Objects.{nested, Head, from, to, headOf, Obj, leaf, branch, Objs, none, more, OneRead, RunRead, oneOf, runOf, countObjs}
+use Rattle.messages.specs.Reading.{got, pick, part}
+use Rattle.messages.specs.Objects.{nested, Head, from, to, Obj, leaf, branch, Objs, none, more, OneRead, RunRead, oneOf, runOf, countObjs}
 use Rattle.messages.specs.Writing.{lenBytes, sized, objBytes, runBytes}
 use Rattle.messages.specs.Shortest.{formFor, shortObj, shortRun}
 use Rattle.messages.specs.Grammar.{Bytes, ObjOk, RunOk}
@@ -122,7 +122,7 @@ run-fits s b r =
     let f = run-sound 4 0 0 s (r .0) b (r .1) in
     omega (arith, ap length (written s (r .0) (r .1)), ap length (f .0), run-shorter (r .0 .objs) 4 (f .1))
 
--- ---- as the code finds it
+-- ---- as the writer finds it
 pub object-in : (s : List ℕ) (b : Bounds) → Bytes s → RunReads s → 0 < length s → headAnswer 0 s ≡ bounds-read b → FirstObject s b
 object-in s b bs r l e =
     let f = first-object s bs r l in

@@ -22,7 +22,7 @@ use Rattle.zvt.specs.declared.FieldAnswer.the-variants.{Field as listed-
 use Rattle.zvt.specs.List.{fieldValue, namedListed, listFields, fieldsBetween, listedIn, ListIn}
 use Rattle.zvt.specs.Values.{Found, missing, found, valueIn}
 use Rattle.zvt.specs.Writing.{ListReads}
-use Rattle.zvt.proofs.ListLaws.{no-fields, list-empty, first-in}
+use Rattle.zvt.proofs.ListedLaws.{no-fields, list-empty, first-in}
 
 -- ---- what is found by places is what is found by fields
 Tells : List ℕ → FieldAnswer → Found → Type 0

@@ -5,7 +5,7 @@ use borrow.Author.Needs.{needs}
 use Rattle.messages.specs.Grammar.{Bytes}
 use Rattle.zvt.specs.declared.FieldAnswer.the-variants.{Field as listed-field}
 use Rattle.zvt.specs.List.{namedListed, listedIn}
-use Rattle.zvt.proofs.Slices.{bytes-of}
+use Rattle.zvt.proofs.BodyLaws.{bytes-known}
 use Rattle.zvt.proofs.PlaceLaws.{StatusIn, status-at, status-nowhere}
 use Rattle.zvt.proofs.ValueLaws.{Here, is-here}
 use Rattle.zvt.proofs.NameLaws.{own-name, part-name, name-missing, name-empty, name-found, name-inside}
@@ -28,7 +28,7 @@ abbrev args : Placed → lts.Start (status-place-reads.Asked, status-place-reads
 args c = start c .before
 
 bytes : (c : Placed) → Bytes (args c .args .s .now)
-bytes c = bytes-of _ (start c .shared-slice-known .given)
+bytes c = bytes-known _ (start c .shared-slice-known .given)
 
 status : (c : Placed) → StatusIn (c .from .given .0 .0) (c .from .given .0 .1 .0) (args c .args .s .now)
 status c = status-at _ _ _ (bytes c) (sym (c .before .before .status-place .ensures) ∙ c .from .given .1)

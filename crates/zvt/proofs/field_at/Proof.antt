@@ -3,7 +3,7 @@ use mathlib.Core.Path.{_≡_, sym, ap, _∙_}
 use borrow.Author.Needs.{needs}
 use Rattle.messages.specs.Message.{readOf}
 use Rattle.zvt.specs.List.{ListIn, listedIn, listedMessage, nthListed, fieldAnswer}
-use Rattle.zvt.proofs.Slices.{bytes-of}
+use Rattle.zvt.proofs.BodyLaws.{bytes-known}
 use Rattle.zvt.proofs.PlaceLaws.{list-at, list-nowhere}
 use Rattle.zvt.proofs.field_at.Statement.{statement}
 use Rattle.zvt.proofs.field_at.Tie as tie
@@ -23,7 +23,7 @@ list : (c : Placed)
     → let s = start c .before .args .s .now in
     let g = c .from .given .0 in
     ListIn (g .0) (g .1 .0) s × (listedMessage (readOf s) ≡ listedIn (g .0) (g .1 .0) s)
-list c = list-at _ _ _ (bytes-of _ (start c .shared-slice-known .given)) (sym (c .before .before .list-place .ensures) ∙ c .from .given .1)
+list c = list-at _ _ _ (bytes-known _ (start c .shared-slice-known .given)) (sym (c .before .before .list-place .ensures) ∙ c .from .given .1)
 
 list-place-requires : tie.Need-list-place-requires
 list-place-requires c κs = search needs

@@ -2,7 +2,7 @@
 use mathlib.Core.Path.{_≡_, sym, ap, _∙_}
 use borrow.Author.Needs.{needs}
 use Rattle.zvt.specs.Values.{codeIn, codeOf, amountIn, amountOf, receiptIn, receiptOf, valueIn, statusIn, statusOf}
-use Rattle.zvt.proofs.Slices.{bytes-of}
+use Rattle.zvt.proofs.BodyLaws.{bytes-known}
 use Rattle.zvt.proofs.PlaceLaws.{StatusIn, status-at, status-nowhere}
 use Rattle.zvt.proofs.read_status.Statement.{statement}
 use Rattle.zvt.proofs.read_status.Tie as tie
@@ -21,7 +21,7 @@ abbrev start : Placed → lts.After-shared-slice-known (status-place-reads.Asked
 start c = c .before .before .before
 
 status : (c : Placed) → let g = c .from .given .0 in StatusIn (g .0) (g .1 .0) (start c .before .args .s .now)
-status c = status-at _ _ _ (bytes-of _ (start c .shared-slice-known .given)) (sym (c .before .before .status-place .ensures) ∙ c .from .given .1)
+status c = status-at _ _ _ (bytes-known _ (start c .shared-slice-known .given)) (sym (c .before .before .status-place .ensures) ∙ c .from .given .1)
 
 status-place-requires : tie.Need-status-place-requires
 status-place-requires c κs = search needs

@@ -7,8 +7,8 @@ use borrow.Author.Needs.{needs}
 use Rattle.messages.proofs.ObjectSteps.{part-length}
 use Rattle.zvt.specs.declared.FieldAnswer.the-variants.{Field}
 use Rattle.zvt.specs.List.{firstListed, listedIn}
-use Rattle.zvt.proofs.Slices.{bytes-of}
-use Rattle.zvt.proofs.ListLaws.{part-first, list-empty, first-is, first-never}
+use Rattle.zvt.proofs.BodyLaws.{bytes-known}
+use Rattle.zvt.proofs.ListedLaws.{part-first, list-empty, first-is, first-never}
 use Rattle.zvt.proofs.list.field_from.Statement.{statement}
 use Rattle.zvt.proofs.list.field_from.Tie as tie
 use Rattle.zvt.proofs.list.field_from.Reads as reads
@@ -30,7 +30,7 @@ found : (c : Found)
     × (Field (record { id = getD (a .s .now) (a .at) 0; from = a .at + x .from; to = a .at + x .to }) ≡ firstListed (listedIn (a .at) (a .end) (a .s .now)))
 found c =
     let g = asked c .before .before .before .before in
-    first-is _ _ _ (bytes-of _ (g .before .shared-slice-known .given)) (g .before .before .pre) (g .if1 .left) _ (sym (asked c .field-bounds .ensures) ∙ c .b .given .1)
+    first-is _ _ _ (bytes-known _ (g .before .shared-slice-known .given)) (g .before .before .pre) (g .if1 .left) _ (sym (asked c .field-bounds .ensures) ∙ c .b .given .1)
 
 returns : tie.Need-returns
 unfolding firstListed
@@ -76,7 +76,7 @@ returns-2 : tie.Need-returns-2
 returns-2 c =
     let g = c .before .before .before .before .before .before in
     absurd
-    (first-never _ _ _ (bytes-of _ (g .before .shared-slice-known .given)) (g .before .before .pre) (g .if1 .left) _
+    (first-never _ _ _ (bytes-known _ (g .before .shared-slice-known .given)) (g .before .before .pre) (g .if1 .left) _
     (sym (c .before .before .field-bounds .ensures) ∙ c .enum-told .given .1))
 
 returns-3 : tie.Need-returns-3

@@ -5,8 +5,8 @@ use Prim.Native.Nat.{_-_}
 use native.Mathlib.Omega.{arith}
 use borrow.Author.Needs.{needs}
 use Rattle.zvt.specs.List.{ListIn, nthListed, listedIn}
-use Rattle.zvt.proofs.Slices.{bytes-of}
-use Rattle.zvt.proofs.ListLaws.{Next, next-in, nth-end, nth-here, nth-next}
+use Rattle.zvt.proofs.BodyLaws.{bytes-known}
+use Rattle.zvt.proofs.ListedLaws.{Next, next-in, nth-end, nth-here, nth-next}
 use Rattle.zvt.proofs.list.nth.Statement.{statement}
 use Rattle.zvt.proofs.list.nth.Tie as tie
 use Rattle.zvt.proofs.list.nth.Reads as reads
@@ -27,7 +27,7 @@ abbrev asked : Found → lts.After-field-from (field-from-reads.Asked, field-fro
 asked c = c .before .before
 
 next : (c : Found) → let a = asked c .before .before .before .args in Next (asked c .before .loop .at) (a .end) (a .s .now) (c .f .given .0 .0)
-next c = next-in _ _ _ _ (bytes-of _ (asked c .before .before .shared-slice-known .given)) (asked c .before .loop .inv .0) (sym (asked c .field-from .ensures) ∙ c .f .given .1)
+next c = next-in _ _ _ _ (bytes-known _ (asked c .before .before .shared-slice-known .given)) (asked c .before .loop .inv .0) (sym (asked c .field-from .ensures) ∙ c .f .given .1)
 
 loop-holds : tie.Need-loop-holds Inv-loop μ-loop
 loop-holds c = (c .before .pre, refl)

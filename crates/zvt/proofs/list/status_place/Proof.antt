@@ -4,7 +4,7 @@ use borrow.Author.Needs.{needs}
 use Rattle.messages.specs.Grammar.{Bytes}
 use Rattle.zvt.specs.declared.ReadAnswer.the-variants.{Accepted}
 use Rattle.zvt.specs.Answers.{readAnswer}
-use Rattle.zvt.proofs.Slices.{bytes-of}
+use Rattle.zvt.proofs.BodyLaws.{bytes-known}
 use Rattle.zvt.proofs.PlaceLaws.{no-status, other-class, other-instruction, status-is}
 use Rattle.zvt.proofs.list.status_place.Statement.{statement}
 use Rattle.zvt.proofs.list.status_place.Tie as tie
@@ -23,7 +23,7 @@ read-got : (c : Message-got) → readAnswer (start c .before .args .s .now) ≡ 
 read-got c = sym (c .before .before .read .ensures) ∙ c .m .given .1
 
 bytes : (c : Message-got) → Bytes (start c .before .args .s .now)
-bytes c = bytes-of _ (start c .shared-slice-known .given)
+bytes c = bytes-known _ (start c .shared-slice-known .given)
 
 read-requires : tie.Need-read-requires
 read-requires c κs = search needs

@@ -7,7 +7,7 @@ use Rattle.messages.specs.Fields.{formatOf}
 use Rattle.messages.specs.Grammar.{SizeOk}
 use Rattle.zvt.specs.declared.ToldReceipt.the-variants.{Receipt}
 use Rattle.zvt.specs.Values.{receiptOf, receiptIn}
-use Rattle.zvt.proofs.Slices.{bytes-of}
+use Rattle.zvt.proofs.BodyLaws.{bytes-known}
 use Rattle.zvt.proofs.DigitLaws.{number-below}
 use Rattle.zvt.proofs.ValueLaws.{Here, not-here, is-here}
 use Rattle.zvt.proofs.values.receipt_in.Statement.{statement}
@@ -26,7 +26,7 @@ start c = c .before .before .before
 
 here : (c : Found-field) → let a = start c .before .args in Here 0x87 (a .from) (a .end) (a .s .now) (c .f .given .0 .0)
 here c =
-    is-here 0x87 _ _ _ (bytes-of _ (start c .shared-slice-known .given)) (start c .before .pre) _ (λ e. omega arith)
+    is-here 0x87 _ _ _ (bytes-known _ (start c .shared-slice-known .given)) (start c .before .pre) _ (λ e. omega arith)
     (sym (c .before .before .named .ensures) ∙ c .f .given .1)
 
 named-requires : tie.Need-named-requires
@@ -63,7 +63,7 @@ returns : tie.Need-returns
 unfolding receiptIn receiptOf
 returns c =
     let g = c .before .before .before in
-    sym (ap receiptOf (not-here 0x87 _ _ _ (bytes-of _ (g .shared-slice-known .given)) (g .before .pre) (sym (c .before .before .named .ensures) ∙ c .enum-told .given .1)))
+    sym (ap receiptOf (not-here 0x87 _ _ _ (bytes-known _ (g .shared-slice-known .given)) (g .before .pre) (sym (c .before .before .named .ensures) ∙ c .enum-told .given .1)))
 
 returns-2 : tie.Need-returns-2
 unfolding receiptIn receiptOf

@@ -2,7 +2,7 @@
 -- length of its value is known. The measure is the length, twice, and one more for a branch. Assumes nothing.
 use mathlib.Core.Path.{_≡_, sym, _∙_}
 use mathlib.Core.List.{List, _++_}
-use Prim.Native.Nat.{ℕ, _+_, _-_, _*_, _<_, _≤_}
+use Prim.Native.Nat.{ℕ, _+_, _-_, _*_, _≤_, _<_}
 use native.Mathlib.Omega.{arith}
 use lib.ListN.{length, take, drop, length-append}
 use lib.Seq.{length-take-le}
@@ -12,7 +12,7 @@ use borrow.Fn.PlainCycle.{Measures, is, falls, and}
 use Rattle.messages.proofs.ObjectSteps.{tail, part-length}
 use Rattle.zvt.specs.declared.objects.Bounds.{Bounds}
 use Rattle.zvt.specs.Writing.{Put, headBytes, valueBytes, shortRunOf}
-use Rattle.zvt.proofs.Slices.{bytes-of}
+use Rattle.zvt.proofs.BodyLaws.{bytes-known}
 use Rattle.zvt.proofs.Back.{put-none, put-as, lend, lent-all, says, head-room, then-head}
 use Rattle.zvt.proofs.Back.{rest-fits, first-lend, first-lent, first-room, first-put}
 use Rattle.zvt.proofs.ShortRuns.{short-none, objectOf, FirstObject, object-in, object-never, object-run, object-plain, run-fits}
@@ -103,7 +103,7 @@ module _ (t : ℕ) where
   branch-put-head-requires c κs =
       let i = c .before in
       let b = branch i in
-      let short = run-fits (b .args .run .now) (bytes-of _ (i .before .before .before .before .before .shared-slice-known2 .given)) (b .pre .1 .1) in
+      let short = run-fits (b .args .run .now) (bytes-known _ (i .before .before .before .before .before .shared-slice-known2 .given)) (b .pre .1 .1) in
       (omega (arith, says (head i) (inner i) (fits i), b .pre .1 .0), head-room (head i) (inner i) (fits i))
 
   branch-same-length : put-branch-lts.Need-same-length branch-claims branch-at put-branch.Post
@@ -130,7 +130,7 @@ module _ (t : ℕ) where
 
   found : (c : Found) → FirstObject (bytes c) (bounds c)
   found c =
-      object-in _ _ (bytes-of _ (c .before .before .before .before .before .before .shared-slice-known .given)) (run c .pre .1 .1)
+      object-in _ _ (bytes-known _ (c .before .before .before .before .before .before .shared-slice-known .given)) (run c .pre .1 .1)
       (omega (arith, c .before .before .before .before .if1 .left)) (sym (c .before .before .before .head-of .ensures) ∙ c .before .b .given .1)
 
   -- and the objects behind it are there
@@ -277,7 +277,7 @@ module _ (t : ℕ) where
 
   run-returns-2 : put-run-lts.Need-returns-2 run-claims run-at put-run.Post
   run-returns-2 c =
-      let known = bytes-of _ (c .before .before .before .before .before .shared-slice-known .given) in
+      let known = bytes-known _ (c .before .before .before .before .before .shared-slice-known .given) in
       absurd (object-never _ _ known (c .before .before .before .before .before .before .pre .1 .1)
       (omega (arith, c .before .before .before .if1 .left)) (sym (c .before .before .head-of .ensures) ∙ c .enum-told .given .1))
 

@@ -2,7 +2,7 @@
 -- Assumes nothing.
 use mathlib.Core.Path.{refl, sym, _∙_}
 use mathlib.Core.List.{List}
-use Prim.Native.Nat.{ℕ, _<_, _≤_}
+use Prim.Native.Nat.{ℕ, _<_}
 use native.Mathlib.Omega.{arith}
 use lib.ListN.{length}
 use borrow.Author.Needs.{needs}
@@ -11,9 +11,9 @@ use borrow.Fn.PlainCycle.{Measures, is, falls, and}
 use Rattle.messages.proofs.ObjectSteps.{tail}
 use Rattle.zvt.specs.declared.objects.Bounds.{Bounds}
 use Rattle.zvt.specs.Writing.{shortFieldOf, shortListOf}
-use Rattle.zvt.proofs.Slices.{bytes-of}
+use Rattle.zvt.proofs.BodyLaws.{bytes-known}
 use Rattle.zvt.proofs.Back.{put-none, put-as, rest-fits, first-lend, first-lent, first-room, first-put}
-use Rattle.zvt.proofs.ShortLists.{list-short-none, FieldFirst, field-is, field-never}
+use Rattle.zvt.proofs.ShortLists.{list-short-none, FieldToPut, field-is, field-never}
 use Rattle.zvt.proofs.writing.put_list.Reads as put-list
 use Rattle.zvt.proofs.writing.put_list.Kinds as put-list-kinds
 use Rattle.zvt.proofs.writing.+put_list.Lts-put_list as put-list-lts
@@ -64,9 +64,9 @@ module _ (t : ℕ) where
   abbrev first : Found → List ℕ
   first c = shortFieldOf (bounds c) (bytes c)
 
-  found : (c : Found) → FieldFirst (bytes c) (bounds c)
+  found : (c : Found) → FieldToPut (bytes c) (bounds c)
   found c =
-      field-is _ _ (bytes-of _ (c .before .before .before .before .before .before .before .before .shared-slice-known .given)) (list c .pre .1 .1)
+      field-is _ _ (bytes-known _ (c .before .before .before .before .before .before .before .before .shared-slice-known .given)) (list c .pre .1 .1)
       (omega (arith, c .before .before .before .before .before .before .if1 .left))
       (sym (c .before .before .before .field-bounds .ensures) ∙ c .before .b .given .1)
 
@@ -144,7 +144,7 @@ module _ (t : ℕ) where
   list-returns-2 : put-list-lts.Need-returns-2 claims list-at put-list.Post
   list-returns-2 c =
       let s = c .before .before .before .before .before .before .before .before in
-      let known = bytes-of _ (c .before .before .before .before .before .before .before .shared-slice-known .given) in
+      let known = bytes-known _ (c .before .before .before .before .before .before .before .shared-slice-known .given) in
       absurd (field-never _ _ known (s .pre .1 .1) (omega (arith, c .before .before .before .before .before .if1 .left))
       (sym (c .before .before .field-bounds .ensures) ∙ c .enum-told .given .1))
 

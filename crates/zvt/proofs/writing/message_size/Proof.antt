@@ -1,5 +1,4 @@
 -- `message_size` meets its contract. Assumes nothing.
-use Prim.Native.Nat.{_+_}
 use native.Mathlib.Omega.{arith}
 use borrow.Author.Tests.{lt-leb, le-leb}
 use Rattle.messages.specs.Writing.{lengthBytes}

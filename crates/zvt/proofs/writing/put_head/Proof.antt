@@ -1,6 +1,6 @@
 -- `put_head` meets its contract: the length, and the tag before it. Assumes nothing.
 use native.Mathlib.Omega.{arith}
-use lib.ListN.{length, length-append}
+use lib.ListN.{length-append}
 use Rattle.messages.specs.Writing.{lenBytes}
 use Rattle.messages.specs.Shortest.{formFor}
 use Rattle.zvt.specs.Writing.{headBytes}
