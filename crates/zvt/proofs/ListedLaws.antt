@@ -17,7 +17,6 @@ use Rattle.messages.proofs.ObjectSteps.{part-length}
 use Rattle.messages.proofs.ObjectBytes.{bytes-part}
 use Rattle.messages.proofs.FieldSteps.{list-none}
 use Rattle.zvt.specs.declared.Listed.{Listed}
-use Rattle.zvt.specs.declared.FieldAnswer.{FieldAnswer}
 use Rattle.zvt.specs.declared.FieldAnswer.the-variants.{Field as listed-field, End}
 use Rattle.zvt.specs.declared.objects.Bounds.{Bounds}
 use Rattle.zvt.specs.declared.objects.BoundsRead.the-variants.{Bounds as bounds-read, Refused as bounds-refused}
@@ -25,18 +24,18 @@ use Rattle.zvt.specs.Objects.{asBounds}
 use Rattle.zvt.specs.Fields.{fieldBounds}
 use Rattle.zvt.specs.List.{fieldValue, listedAt, listedFrom, firstListed, nthListed, namedListed, listFields, fieldsBetween, listedIn, ListIn}
 use Rattle.zvt.specs.Writing.{ListReads}
-use Rattle.zvt.proofs.ShortLists.{FirstField, first-field}
+use Rattle.zvt.proofs.ShortLists.{first-field}
 
 -- ---- a part of a part
 module _ (a e : ℕ) (s : List ℕ) (order : a ≤ e) (inside : e ≤ length s) where
-  pub part-rest : (k : ℕ) → k ≤ e - a → drop k (part a e s) ≡ part (a + k) e s
+  part-rest : (k : ℕ) → k ≤ e - a → drop k (part a e s) ≡ part (a + k) e s
   part-rest k h =
       let m : e - a ≡ k + (e - (a + k)) = omega arith in
       let t = drop a s in
       let size : length (take k t) ≡ k = length-take-le k t (omega (arith, length-drop a s)) in
       rw (m, take-add k (e - (a + k)) t, drop-at (take k t) (take (e - (a + k)) (drop k t)) k size, drop-drop k a s)
 
-  pub part-part : (x y : ℕ) → x ≤ y → y ≤ e - a → part x y (part a e s) ≡ part (a + x) (a + y) s
+  part-part : (x y : ℕ) → x ≤ y → y ≤ e - a → part x y (part a e s) ≡ part (a + x) (a + y) s
   part-part x y h l =
       let m : a + y - (a + x) ≡ y - x = omega arith in
       rw (part-rest x (omega arith), m) (take-take (y - x) (e - (a + x)) (drop (a + x) s) (omega arith))
@@ -53,6 +52,7 @@ pub list-empty : (at end : ℕ) (s : List ℕ) → at ≡ end → listedIn at en
 unfolding listedIn listedFrom
 list-empty at end s e = ap (listedFrom at) (no-fields at end s e)
 
+-- the field at its head: where its value lies, and that the rest is a list again
 pub record FirstIn (at end : ℕ) (s : List ℕ) : Type 0 where
   pub field : Field
   pub bounds : Bounds

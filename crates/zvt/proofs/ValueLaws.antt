@@ -1,16 +1,16 @@
 -- The field of a list that has a given id: where it is found, and what it holds. Assumes nothing.
-use mathlib.Core.Path.{_≡_, refl, sym, ap, _∙_}
+use mathlib.Core.Path.{_≡_, refl, sym}
 use mathlib.Core.Bool.{Bool, true, false}
 use mathlib.Core.Logic.{⊎-elim}
 use mathlib.Core.List.{List, [], _∷_}
-use Prim.Native.Nat.{ℕ, zero, suc, _+_, _-_, _<_, _≤_}
+use Prim.Native.Nat.{ℕ, zero, suc, _+_, _-_, _≤_}
 use native.Mathlib.Nat.{eq-or-lt-of-le}
 use native.Mathlib.Omega.{arith}
 use lib.ListN.{length, getD}
 use lib.Dec.{eqb}
 use borrow.Author.Tests.{eqb-true}
-use Rattle.messages.specs.Reading.{got, pick, part}
-use Rattle.messages.specs.Fields.{formatOf, holdsDigits, Field, plain, container, fieldId, listOf}
+use Rattle.messages.specs.Reading.{pick, part}
+use Rattle.messages.specs.Fields.{formatOf, holdsDigits, Field, plain, container, fieldId}
 use Rattle.messages.specs.Grammar.{Bytes, Decimals, SizeOk, FieldOk, ListOk}
 use Rattle.messages.proofs.Readings.{pick-test}
 use Rattle.messages.proofs.ObjectSteps.{part-length}

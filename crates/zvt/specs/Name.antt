@@ -5,7 +5,6 @@ use lib.ListN.{length}
 use lib.Dec.{eqb}
 use Rattle.messages.specs.Reading.{Reading, got, refused, pick, part}
 use Rattle.messages.specs.Message.{Message, readOf}
-use Rattle.zvt.specs.declared.Listed.{Listed}
 use Rattle.zvt.specs.declared.FieldAnswer.{FieldAnswer}
 use Rattle.zvt.specs.declared.FieldAnswer.the-variants.{Field as listed-field, End}
 use Rattle.zvt.specs.List.{isStatus, listedMessage, namedListed}

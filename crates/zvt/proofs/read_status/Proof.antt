@@ -1,5 +1,5 @@
 -- `zvt::read_status` meets its contract. Assumes nothing.
-use mathlib.Core.Path.{_≡_, sym, ap, _∙_}
+use mathlib.Core.Path.{sym, ap, _∙_}
 use borrow.Author.Needs.{needs}
 use Rattle.zvt.specs.Values.{codeIn, codeOf, amountIn, amountOf, receiptIn, receiptOf, valueIn, statusIn, statusOf}
 use Rattle.zvt.proofs.BodyLaws.{bytes-known}

@@ -1,5 +1,5 @@
 -- `zvt::values::amount_in` meets its contract: field 04 has six bytes. Assumes nothing.
-use mathlib.Core.Path.{_≡_, sym, ap, _∙_}
+use mathlib.Core.Path.{sym, ap, _∙_}
 use native.Mathlib.Omega.{arith}
 use borrow.Author.Needs.{needs}
 use Rattle.messages.specs.Reading.{among}

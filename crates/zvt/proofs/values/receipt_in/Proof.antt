@@ -1,5 +1,5 @@
 -- `zvt::values::receipt_in` meets its contract: field 87 has two bytes of decimal digits, so the number is below 10000. Assumes nothing.
-use mathlib.Core.Path.{_≡_, refl, sym, ap, _∙_}
+use mathlib.Core.Path.{refl, sym, ap, _∙_}
 use native.Mathlib.Omega.{arith}
 use borrow.Author.Needs.{needs}
 use Rattle.messages.specs.Reading.{among}
