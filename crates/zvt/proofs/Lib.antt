@@ -14,3 +14,8 @@ pub mod HeaderLaws
 pub mod BodyLaws
 pub mod MessageLaws
 pub mod ShortMessages
+pub mod DigitLaws
+pub mod ListedLaws
+pub mod PlaceLaws
+pub mod ValueLaws
+pub mod NameLaws

@@ -18,13 +18,14 @@ use Rattle.messages.specs.Writing.{sized, fieldBytes, listBytes}
 use Rattle.messages.specs.Shortest.{shortField, shortList}
 use Rattle.messages.specs.Grammar.{Bytes, ListOk}
 use Rattle.messages.proofs.Readings.{got-same, got-not-refused, then-got, then-on}
-use Rattle.messages.proofs.ObjectBytes.{bytes-drop, bytes-part}
+use Rattle.messages.proofs.ObjectBytes.{bytes-drop, bytes-part, run-sound}
 use Rattle.messages.proofs.FieldSteps.{plain-got, container-got, field-got, list-none, list-step}
 use Rattle.messages.proofs.FieldBytes.{FieldSound, field-sound, list-sound, list-complete}
 use Rattle.zvt.specs.declared.objects.Bounds.{Bounds}
 use Rattle.zvt.specs.declared.objects.BoundsRead.the-variants.{Bounds as bounds-read, Refused as bounds-refused}
 use Rattle.zvt.specs.Objects.{asBounds, boundsIn}
 use Rattle.zvt.specs.Fields.{boundsBy, fieldBounds}
+use Rattle.zvt.specs.List.{fieldValue}
 use Rattle.zvt.specs.Writing.{headBytes, valueBytes, RunReads, shortFieldOf, ListReads, listWritten, shortListOf}
 use Rattle.zvt.proofs.ShortRuns.{Alone, run-alone}
 
@@ -59,6 +60,7 @@ pub record FieldAt (s : List ℕ) (b : Bounds) (f : Field) : Type 0 where
   pub start : 1 ≤ b .from
   pub order : b .from ≤ b .to
   pub within : b .to ≤ length s
+  pub value : fieldValue f ≡ part (b .from) (b .to) s
   pub plainly : b .nested ≡ false → f ≡ plain (getD s 0 0) (part (b .from) (b .to) s)
   pub run : b .nested ≡ true → (form : Form) × (os : Objs) × (f ≡ container form os) × Alone (part (b .from) (b .to) s) os
 
@@ -73,6 +75,7 @@ bounds-fit a v run s h = rw (le-ltb (length s) (a + v) h)
 plain-at : (s : List ℕ) (a v : ℕ) (o : FieldRead) → 1 ≤ a → a + v ≤ length s
     → o ≡ record { field = plain (getD s 0 0) (part a (a + v) s); size = a + v; count = 0 }
     → (b : Bounds) × (boundsIn 0 1 a v false s ≡ got b) × (b .to ≡ o .size) × FieldAt s b (o .field)
+unfolding fieldValue
 plain-at s a v o l h e = (
   record { tag = 1; from = a; to = a + v; nested = false },
   bounds-fit a v false s h,
@@ -81,13 +84,14 @@ plain-at s a v o l h e = (
     start = l;
     order = omega arith;
     within = h;
+    value = ap (λ (x : FieldRead). fieldValue (x .field)) e;
     plainly = λ _. ap (λ (x : FieldRead). x .field) e;
     run = λ t. absurd (let z : _≡_ {A = ℕ} 0 1 = cc in omega arith);
   },
 )
 
 field-at : (s : List ℕ) (format : Format) (o : FieldRead) → Bytes s → fieldBy (getD s 0 0) 0 0 s format ≡ got o → Bounded s format o
-unfolding fieldBy boundsBy
+unfolding fieldBy boundsBy fieldValue
 field-at s Unknown o bs e = absurd (got-not-refused (sym e))
 field-at s (Fixed k) o bs e =
     let p = plain-got (getD s 0 0) 0 0 1 k s o e in
@@ -101,7 +105,9 @@ field-at s Container o bs e =
     let p = container-got 0 0 s o e in
     let l = p .0 in
     let a = 1 + formSize (l .form) in
-    let alone = run-alone 4 0 (0 + a) (part a (a + l .value) s) (p .1) (bytes-part a (a + l .value) s bs) (omega arith) (omega arith) (p .4) in (
+    let value = part a (a + l .value) s in
+    let vs = bytes-part a (a + l .value) s bs in
+    let alone = run-alone 4 0 (0 + a) value (p .1) vs (omega arith) (omega arith) (p .4) in (
       record { tag = 1; from = a; to = a + l .value; nested = true },
       then-on _ l (p .2) ∙ bounds-fit a (l .value) true s (p .3),
       ap (λ (x : FieldRead). x .size) (sym (p .5)),
@@ -109,6 +115,7 @@ field-at s Container o bs e =
         start = omega arith;
         order = omega arith;
         within = p .3;
+        value = ap (λ (x : FieldRead). fieldValue (x .field)) (p .5) ∙ run-sound 4 0 (0 + a) value (p .1) vs (p .4) .0;
         plainly = λ t. absurd (let z : _≡_ {A = ℕ} 0 1 = cc in omega arith);
         run = λ _. (l .form, p .1 .objs, ap (λ (x : FieldRead). x .field) (p .5), alone);
       },
@@ -135,6 +142,7 @@ pub record FirstField (s : List ℕ) (r : ListRead) (b : Bounds) : Type 0 where
   pub bounds : boundsBy 0 s (formatOf (getD s 0 0)) ≡ got b
   pub field : Field
   pub at : FieldAt s b field
+  pub id : fieldId field ≡ getD s 0 0
   pub bytes : fieldBytes field ≡ take (b .to) s
   pub short : fieldBytes (shortField field) ≡ shortFieldOf b s
   pub rest : ListRead
@@ -156,6 +164,7 @@ first-field s r bs e l =
         bounds = at .1;
         field = o .field;
         at = at .3;
+        id = sound .id;
         bytes = rw (at .2) (sound .bytes);
         short = field-short s b o (at .3) sound (at .2);
         rest = record { fields = q .0 .fields; count = 0 + countFields (q .0 .fields) };
