@@ -19,7 +19,7 @@ Inv-loop s at seen₀ i₀ objects₀ spare₀ seen i objects spare =
 abbrev μ-loop : tie.MeasureT-loop
 μ-loop s at seen₀ i₀ objects₀ spare₀ seen i objects spare = length s - i
 
--- the place where a field is read: the loop's head, the arguments
+-- where a field is read, and how the function began
 abbrev Turn : Type 0
 Turn = tie.After-read-field-arg Inv-loop μ-loop
 
