@@ -9,3 +9,4 @@ pub mod FieldBytes
 pub mod FieldShort
 pub mod MessageBytes
 pub mod MessageShort
+pub mod DigitLaws
