@@ -1,0 +1,2 @@
+-- The laws of the course, by subject.
+pub mod Commands
