@@ -1,13 +1,11 @@
 -- What opening writes is a message, and reads back as what was asked. Assumes nothing.
 use mathlib.Core.Path.{_≡_, refl}
-use mathlib.Core.Bool.{true, _&&_, and-eq-true-iff}
-use mathlib.Core.Logic.{_↔_}
+use mathlib.Core.Bool.{true}
 use mathlib.Core.List.{List, [], _∷_, _++_}
-use Prim.Native.Nat.{ℕ, _≤_}
+use Prim.Native.Nat.{ℕ}
 use native.Mathlib.Omega.{arith}
 use lib.ListN.{length}
-use lib.Dec.{leb}
-use borrow.Author.Tests.{leb-true, le-leb}
+use borrow.Author.Tests.{leb-true}
 use Rattle.messages.specs.declared.Format.the-variants.{Fixed}
 use Rattle.messages.specs.Reading.{got, among}
 use Rattle.messages.specs.Fields.{Field, plain, formatOf, fieldId, countField, countFields}
@@ -17,6 +15,7 @@ use Rattle.messages.specs.Grammar.{Decimals, SizeOk, FieldOk, ListOk, FieldsOk,
 use Rattle.messages.specs.Digits.{digitBytesOf, numberOf}
 use Rattle.messages.specs.Values.{found, valueIn, fieldValue}
 use Rattle.messages.proofs.DigitLaws.{digits-size, digits-decimal, number-same}
+use Rattle.messages.proofs.Numbers.{between}
 use Rattle.messages.proofs.MessageBytes.{read-complete}
 use Rattle.course.specs.Numbers.{amountOk, receiptOk, passwordOk}
 use Rattle.course.specs.Commands.{money, saleCommand, refundCommand, reversalCommand, saleBytes, refundBytes, reversalBytes}
@@ -95,12 +94,6 @@ FieldIs fs id n = (value : List ℕ) × (valueIn id fs ≡ found value) × (numb
 -- "fields 04, 49", "Currency written is always 0978"
 abbrev pub MoneyIs : List Field → ℕ → Type 0
 MoneyIs fs amount = FieldIs fs 0x04 amount × (valueIn 0x49 fs ≡ found (0x09 ∷ (0x78 ∷ [])))
-
-pub between : (n top : ℕ) → (leb 1 n && leb n top ≡ true) ↔ ((1 ≤ n) × (n ≤ top))
-between n top = (
-  λ h. let k = and-eq-true-iff (leb 1 n) (leb n top) .0 h in (leb-true 1 n (k .0), leb-true n top (k .1)),
-  λ k. rw (le-leb 1 n (k .0), le-leb n top (k .1)),
-)
 
 password-same : (password : ℕ) → passwordOk password ≡ true → numberOf (digitBytesOf 3 password) ≡ password
 password-same password h = number-same 3 password (omega (arith, leb-true password 999_999 h))
