@@ -3,3 +3,4 @@ pub mod Commands
 pub mod LastSale
 pub mod Rows
 pub mod Refusals
+pub mod Cases
