@@ -10,3 +10,4 @@ pub mod FieldShort
 pub mod MessageBytes
 pub mod MessageShort
 pub mod DigitLaws
+pub mod Numbers
