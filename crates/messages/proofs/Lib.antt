@@ -1,2 +1,13 @@
 -- The laws of the definitions, by subject.
 pub mod Readings
+pub mod ObjectSteps
+pub mod Lengths
+pub mod ObjectShort
+pub mod ObjectBytes
+pub mod FieldSteps
+pub mod FieldBytes
+pub mod FieldShort
+pub mod MessageBytes
+pub mod MessageShort
+pub mod DigitLaws
+pub mod Numbers

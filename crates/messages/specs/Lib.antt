@@ -6,3 +6,5 @@ pub mod Message
 pub mod Writing
 pub mod Shortest
 pub mod Grammar
+pub mod Digits
+pub mod Values

@@ -1,0 +1,76 @@
+-- What the readers of fields answer, by the definitions of crate messages. Definitions only.
+use Prim.Native.Nat.{ℕ, _+_, _-_}
+use mathlib.Core.Bool.{Bool, true, false}
+use mathlib.Core.List.{List, []}
+use lib.ListN.{length, getD, drop}
+use Rattle.messages.specs.declared.Format.{Format}
+use Rattle.messages.specs.declared.Format.the-variants.{Unknown, Fixed, Digits, Container}
+use Rattle.messages.specs.Reading.{Reading, got, refused, no, pick, unless, andThen, part}
+use Rattle.messages.specs.Objects.{formSize, lenOf}
+use Rattle.messages.specs.Fields.{formatOf, unknown, holdsDigits, digitsOf, unlessUndecimal, digitsIn, Field, plain, FieldRead, ListRead, fieldBy, listOf}
+use Rattle.messages.specs.Writing.{fieldBytes, listBytes}
+use Rattle.messages.specs.Shortest.{shortField, shortList}
+use Rattle.zvt.specs.declared.objects.Bounds.{Bounds}
+use Rattle.zvt.specs.declared.objects.BoundsRead.{BoundsRead}
+use Rattle.zvt.specs.declared.objects.Tally.{Tally}
+use Rattle.zvt.specs.declared.objects.PartRead.{PartRead}
+use Rattle.zvt.specs.declared.fields.DigitsRead.{DigitsRead}
+use Rattle.zvt.specs.declared.fields.DigitsRead.the-variants.{Number, Refused as digits-refused}
+use Rattle.zvt.specs.declared.fields.Decimals.{Decimals}
+use Rattle.zvt.specs.declared.fields.Decimals.the-variants.{All, Refused as decimals-refused}
+use Rattle.zvt.specs.Objects.{asBounds, asPart, boundsIn}
+
+unfoldable pub asDigits : Reading ℕ → DigitsRead
+asDigits (got v) = Number v
+asDigits (refused r) = digits-refused r
+
+unfoldable pub digitsAnswer : ℕ → ℕ → List ℕ → DigitsRead
+digitsAnswer d at s = asDigits (digitsOf d 0 at s)
+
+unfoldable pub asDecimals : Reading (List ℕ) → Decimals
+asDecimals (got s) = All
+asDecimals (refused r) = decimals-refused r
+
+unfoldable pub decimalsAnswer : ℕ → List ℕ → Decimals
+decimalsAnswer at s = asDecimals (unlessUndecimal at s (got s))
+
+-- where the parts of a field lie, by the format of its id
+unfoldable pub boundsBy : ℕ → List ℕ → Format → Reading Bounds
+boundsBy at s Unknown = refused (no 5 at)
+boundsBy at s (Fixed k) = boundsIn at 1 1 k false s
+boundsBy at s (Digits d) = andThen (digitsOf d 0 (at + 1) (drop 1 s)) λ v. boundsIn at 1 (1 + d) v false s
+boundsBy at s Container = andThen (lenOf (at + 1) (drop 1 s)) λ l. boundsIn at 1 (1 + formSize (l .form)) (l .value) true s
+
+unfoldable pub fieldBounds : ℕ → List ℕ → BoundsRead
+fieldBounds at s = asBounds (boundsBy at s (formatOf (getD s 0 0)))
+
+-- how many bytes fewer the shortest writing takes
+unfoldable pub spareField : Field → ℕ
+spareField f = length (fieldBytes f) - length (fieldBytes (shortField f))
+
+unfoldable pub spareList : List Field → ℕ
+spareList fs = length (listBytes fs) - length (listBytes (shortList fs))
+
+unfoldable pub fieldTally : FieldRead → Tally
+fieldTally o = record { size = o .size; objects = o .count; spare = spareField (o .field) }
+
+unfoldable pub listTally : List ℕ → ListRead → Tally
+listTally s r = record { size = length s; objects = r .count; spare = spareList (r .fields) }
+
+-- the field of plain bytes that lie there
+unfoldable pub plainAnswer : ℕ → ℕ → Bounds → List ℕ → PartRead
+plainAnswer n at b s =
+    let value = part (b .from) (b .to) s in
+    asPart fieldTally (digitsIn (getD s 0 0) (at + b .from) value (got (record { field = plain (getD s 0 0) value; size = b .to; count = n })))
+
+-- the field that s begins with, whose id stood before or did not
+unfoldable pub fieldWhen : Bool → ℕ → ℕ → List ℕ → Reading FieldRead
+fieldWhen twice n at s =
+    let id = getD s 0 0 in
+    unless (unknown (formatOf id)) (no 5 at) (unless twice (no 7 at) (fieldBy id n at s (formatOf id)))
+
+unfoldable pub fieldAnswer : Bool → ℕ → ℕ → List ℕ → PartRead
+fieldAnswer twice n at s = asPart fieldTally (fieldWhen twice n at s)
+
+unfoldable pub listAnswer : ℕ → List ℕ → PartRead
+listAnswer at s = asPart (listTally s) (listOf [] 0 at s)

@@ -1,0 +1,89 @@
+-- The fields of a message's list, and where each value lies in the message. Definitions only.
+use Prim.Native.Nat.{ℕ, zero, suc, _+_, _-_, _≤_}
+use mathlib.Core.List.{List, [], _∷_}
+use lib.ListN.{length}
+use lib.Dec.{eqb}
+use Rattle.messages.specs.Reading.{Reading, got, refused, pick, part}
+use Rattle.messages.specs.Fields.{Field, fieldId, ListRead, listOf}
+use Rattle.messages.specs.Message.{headerSize, Body, bytes, listed, Message, readOf}
+use Rattle.messages.specs.Writing.{fieldBytes, messageBytes}
+use Rattle.messages.specs.Values.{fieldValue, isStatus}
+use Rattle.zvt.specs.declared.Listed.{Listed}
+use Rattle.zvt.specs.declared.FieldAnswer.{FieldAnswer}
+use Rattle.zvt.specs.declared.FieldAnswer.the-variants.{Field as listed-field, End}
+use Rattle.zvt.specs.declared.list.ListPlace.{ListPlace}
+use Rattle.zvt.specs.declared.list.ListPlace.the-variants.{Nowhere, Between}
+use Rattle.zvt.specs.Writing.{ListReads}
+
+-- a field that begins at place at: a value ends where its field ends
+unfoldable pub listedAt : ℕ → Field → Listed
+listedAt at f =
+    let to = at + length (fieldBytes f) in
+    record { id = fieldId f; from = to - length (fieldValue f); to = to }
+
+-- the fields of a list that begins at place at
+unfoldable pub listedFrom : ℕ → List Field → List Listed
+listedFrom at [] = []
+listedFrom at (f ∷ fs) = listedAt at f ∷ listedFrom (at + length (fieldBytes f)) fs
+
+unfoldable pub listedBody : ℕ → Body → List Listed
+listedBody at (bytes s) = []
+listedBody at (listed password fs) = listedFrom (at + length password) fs
+
+unfoldable pub listedMessage : Reading Message → List Listed
+listedMessage (got m) = listedBody (headerSize (m .long)) (m .body)
+listedMessage (refused f) = []
+
+-- the first, the one at place k, the first with that id
+unfoldable pub firstListed : List Listed → FieldAnswer
+firstListed [] = End
+firstListed (l ∷ ls) = listed-field l
+
+unfoldable pub nthListed : ℕ → List Listed → FieldAnswer
+nthListed k [] = End
+nthListed zero (l ∷ ls) = listed-field l
+nthListed (suc k) (l ∷ ls) = nthListed k ls
+
+unfoldable pub namedListed : ℕ → List Listed → FieldAnswer
+namedListed id [] = End
+namedListed id (l ∷ ls) = pick (eqb (l .id) id) (listed-field l) (namedListed id ls)
+
+-- the fields of the message that s is; none where it is refused or its body is plain
+unfoldable pub fieldAnswer : ℕ → List ℕ → FieldAnswer
+fieldAnswer k s = nthListed k (listedMessage (readOf s))
+
+-- the list between two places of s
+unfoldable pub listFields : Reading ListRead → List Field
+listFields (got r) = r .fields
+listFields (refused f) = []
+
+unfoldable pub fieldsBetween : ℕ → ℕ → List ℕ → List Field
+fieldsBetween a e s = listFields (listOf [] 0 0 (part a e s))
+
+unfoldable pub listedIn : ℕ → ℕ → List ℕ → List Listed
+listedIn a e s = listedFrom a (fieldsBetween a e s)
+
+pub record ListIn (a e : ℕ) (s : List ℕ) : Type 0 where
+  pub order : a ≤ e
+  pub inside : e ≤ length s
+  pub short : e ≤ a + 4096
+  pub reads : ListReads (part a e s)
+
+-- where a message's list lies
+unfoldable pub bodyPlace : ℕ → Body → ℕ → ListPlace
+bodyPlace at (bytes s) end = Nowhere
+bodyPlace at (listed password fs) end = Between (at + length password) end
+
+unfoldable pub messagePlace : Reading Message → ListPlace
+messagePlace (got m) = bodyPlace (headerSize (m .long)) (m .body) (length (messageBytes m))
+messagePlace (refused f) = Nowhere
+
+unfoldable pub listPlace : List ℕ → ListPlace
+listPlace s = messagePlace (readOf s)
+
+unfoldable pub placeOfStatus : Reading Message → ListPlace
+placeOfStatus (got m) = pick (isStatus m) (messagePlace (got m)) Nowhere
+placeOfStatus (refused f) = Nowhere
+
+unfoldable pub statusPlace : List ℕ → ListPlace
+statusPlace s = placeOfStatus (readOf s)

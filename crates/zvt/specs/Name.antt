@@ -1,0 +1,51 @@
+-- Document 01, 'Data objects': "The card name for a receipt". Definitions only.
+use Prim.Native.Nat.{ℕ, _+_}
+use mathlib.Core.List.{List, [], _∷_}
+use lib.ListN.{length}
+use lib.Dec.{eqb}
+use Rattle.messages.specs.Reading.{Reading, got, refused, pick, part}
+use Rattle.messages.specs.Message.{Message, readOf}
+use Rattle.zvt.specs.declared.FieldAnswer.{FieldAnswer}
+use Rattle.zvt.specs.declared.FieldAnswer.the-variants.{Field as listed-field, End}
+use Rattle.messages.specs.Values.{isStatus}
+use Rattle.zvt.specs.List.{listedMessage, namedListed}
+
+-- "up to its first zero byte"
+unfoldable pub upToZero : List ℕ → List ℕ
+upToZero [] = []
+upToZero (b ∷ s) = pick (eqb b 0) [] (b ∷ upToZero s)
+
+-- where the name is: part of the status information, or the till's own
+pub data NameAt : Type 0 where
+  own : NameAt
+  between : ℕ → ℕ → NameAt
+
+-- "the list has no field 8B or the name is empty"
+unfoldable pub sizedName : ℕ → ℕ → NameAt
+sizedName a k = pick (eqb k 0) own (between a (a + k))
+
+unfoldable pub nameIn : List ℕ → FieldAnswer → NameAt
+nameIn s End = own
+nameIn s (listed-field l) = sizedName (l .from) (length (upToZero (part (l .from) (l .to) s)))
+
+-- "When the bytes are not an accepted 04 0F message .."
+unfoldable pub nameOf : List ℕ → Reading Message → NameAt
+nameOf s (got m) = pick (isStatus m) (nameIn s (namedListed 0x8B (listedMessage (got m)))) own
+nameOf s (refused f) = own
+
+unfoldable pub nameAt : List ℕ → NameAt
+nameAt s = nameOf s (readOf s)
+
+-- "the whole of the till's own name, lent beside the message, is the answer"
+unfoldable pub nameBytes : List ℕ → List ℕ → NameAt → List ℕ
+nameBytes s till own = till
+nameBytes s till (between a e) = part a e s
+
+unfoldable pub cardName : List ℕ → List ℕ → List ℕ
+cardName s till = nameBytes s till (nameAt s)
+
+-- "Thus the part handed back lies in the status information or in the till's own name, never in a copy." Where it lies, from where
+-- those two lie: a block of memory, and a place in it
+unfoldable pub namePlace : ℕ × ℕ → ℕ × ℕ → NameAt → ℕ × ℕ
+namePlace s till own = till
+namePlace s till (between a e) = (s .0, a + s .1)

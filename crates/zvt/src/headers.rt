@@ -1,0 +1,91 @@
+// The header of a message: class byte, instruction byte, length.
+use crate::Header;
+use messages::Fault;
+use messages::Place;
+ghost use mathlib.Core.Path.{_≡_};
+ghost use Rattle.zvt.specs.Header.{fitting, firstHeader, wholeAnswer};
+
+pub enum HeaderRead {
+    Header(Header),
+    Refused(Fault),
+}
+
+// The header, where its body keeps the limit and lies in s.
+pub fn fitted(s: &[u8], h: Header) -> HeaderRead
+    ensures { λ r. ⌜ r ≡ fitting h (now (s .entry)) ⌝ }
+{
+    if 4096 < h.length {
+        return HeaderRead::Refused(Fault {
+            number: 2,
+            place: Place::Nowhere,
+        });
+    }
+    if s.len() < h.start || s.len() - h.start < h.length {
+        return HeaderRead::Refused(Fault {
+            number: 1,
+            place: Place::Nowhere,
+        });
+    }
+    HeaderRead::Header(h)
+}
+
+// The header of the message that s begins with.
+pub fn header_of(s: &[u8]) -> HeaderRead
+    ensures { λ r. ⌜ r ≡ firstHeader (now (s .entry)) ⌝ }
+{
+    let cut = Fault {
+        number: 1,
+        place: Place::Nowhere,
+    };
+    if s.len() < 3 {
+        return HeaderRead::Refused(cut);
+    }
+    let class = s[0];
+    let instruction = s[1];
+    let b = s[2];
+    if b != 0xFF {
+        let length = b as usize;
+        return fitted(
+            s,
+            Header {
+                class,
+                instruction,
+                start: 3,
+                length,
+            },
+        );
+    }
+    if s.len() < 5 {
+        return HeaderRead::Refused(cut);
+    }
+    let low = s[3] as usize;
+    let high = s[4] as usize;
+    let length = high * 256 + low;
+    fitted(
+        s,
+        Header {
+            class,
+            instruction,
+            start: 5,
+            length,
+        },
+    )
+}
+
+// The header of the message that s is.
+pub fn whole_header(s: &[u8]) -> HeaderRead
+    ensures { λ r. ⌜ r ≡ wholeAnswer (now (s .entry)) ⌝ }
+{
+    match header_of(s) {
+        HeaderRead::Refused(f) => HeaderRead::Refused(f),
+        HeaderRead::Header(h) => {
+            if h.length < s.len() - h.start {
+                return HeaderRead::Refused(Fault {
+                    number: 3,
+                    place: Place::Nowhere,
+                });
+            }
+            HeaderRead::Header(h)
+        }
+    }
+}

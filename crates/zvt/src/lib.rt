@@ -1,0 +1,219 @@
+// The reader of ZVT messages: what the bytes of a terminal say, the same message with every length shortest, and the digits that
+// a till writes. Each function says in its contract which definition gives its answer.
+mod body;
+mod digits;
+mod fields;
+mod format;
+mod headers;
+mod list;
+mod name;
+mod objects;
+mod values;
+mod writing;
+
+use headers::HeaderRead;
+use list::ListPlace;
+use messages::Refusal;
+use messages::Status;
+use messages::ToldAmount;
+use messages::ToldCode;
+use messages::ToldReceipt;
+use objects::PartRead;
+ghost use mathlib.Core.Path.{_≡_};
+ghost use lib.ListN.{length};
+ghost use Rattle.zvt.specs.Answers.{headerAnswer, readAnswer, firstAnswer};
+ghost use Rattle.messages.specs.Digits.{digitBytesOf};
+ghost use Rattle.zvt.specs.List.{fieldAnswer};
+ghost use Rattle.zvt.specs.Name.{nameAt, cardName, namePlace};
+ghost use Rattle.messages.specs.Values.{statusOf};
+ghost use Rattle.zvt.specs.Writing.{shortenAnswer, shortenLeaves};
+
+// The pair of class and instruction, where the body starts and how long it is.
+pub struct Header {
+    pub class: u8,
+    pub instruction: u8,
+    pub start: usize,
+    pub length: usize,
+}
+
+// An accepted message: beside its header the number of its data objects, and whether every length in it was shortest.
+pub struct Message {
+    pub class: u8,
+    pub instruction: u8,
+    pub start: usize,
+    pub length: usize,
+    pub objects: u8,
+    pub shortest: bool,
+}
+
+pub enum HeaderAnswer {
+    Header(Header),
+    Refused(Refusal),
+}
+
+pub enum ReadAnswer {
+    Accepted(Message),
+    Refused(Refusal),
+}
+
+// The first message, and where the next begins.
+pub enum FirstAnswer {
+    Accepted(Message, usize),
+    Refused(Refusal),
+}
+
+// How many bytes were written.
+pub enum ShortenAnswer {
+    Written(usize),
+    Refused(Refusal),
+}
+
+// A field of a list: its id, and where its value lies in the message, from and to.
+pub struct Listed {
+    pub id: u8,
+    pub from: usize,
+    pub to: usize,
+}
+
+pub enum FieldAnswer {
+    End,
+    Field(Listed),
+}
+
+// The header of the message that s is.
+pub fn read_header(s: &[u8]) -> HeaderAnswer
+    ensures { λ r. ⌜ r ≡ headerAnswer (now (s .entry)) ⌝ }
+{
+    match headers::whole_header(s) {
+        HeaderRead::Refused(f) => HeaderAnswer::Refused(Refusal { number: f.number }),
+        HeaderRead::Header(h) => HeaderAnswer::Header(h),
+    }
+}
+
+// The message that s is.
+pub fn read(s: &[u8]) -> ReadAnswer
+    ensures { λ r. ⌜ r ≡ readAnswer (now (s .entry)) ⌝ }
+{
+    match headers::whole_header(s) {
+        HeaderRead::Refused(f) => ReadAnswer::Refused(Refusal { number: f.number }),
+        HeaderRead::Header(h) => match body::body_in(s, h) {
+            PartRead::Refused(f) => ReadAnswer::Refused(Refusal { number: f.number }),
+            PartRead::Part(t) => ReadAnswer::Accepted(body::message_of(h, t)),
+        },
+    }
+}
+
+// The message that s begins with.
+pub fn read_first(s: &[u8]) -> FirstAnswer
+    ensures { λ r. ⌜ r ≡ firstAnswer (now (s .entry)) ⌝ }
+{
+    match headers::header_of(s) {
+        HeaderRead::Refused(f) => FirstAnswer::Refused(Refusal { number: f.number }),
+        HeaderRead::Header(h) => match body::body_in(s, h) {
+            PartRead::Refused(f) => FirstAnswer::Refused(Refusal { number: f.number }),
+            PartRead::Part(t) => {
+                let next = h.start + h.length;
+                FirstAnswer::Accepted(body::message_of(h, t), next)
+            }
+        },
+    }
+}
+
+// Writes the message that s is with every length shortest.
+pub fn shorten(s: &[u8], out: &mut [u8]) -> ShortenAnswer
+    ensures answer { λ r. ⌜ r ≡ shortenAnswer (length (now (out .entry))) (now (s .entry)) ⌝ }
+    ensures lent { λ _. ⌜ now (out .exit) ≡ shortenLeaves (now (s .entry)) (now (out .entry)) ⌝ }
+{
+    match headers::whole_header(s) {
+        HeaderRead::Refused(f) => ShortenAnswer::Refused(Refusal { number: f.number }),
+        HeaderRead::Header(h) => match body::body_in(s, h) {
+            PartRead::Refused(f) => ShortenAnswer::Refused(Refusal { number: f.number }),
+            PartRead::Part(t) => {
+                let size = writing::message_size(h.length - t.spare);
+                if out.len() < size {
+                    return ShortenAnswer::Refused(Refusal { number: 11 });
+                }
+                writing::put_message(s, h, &mut out[..size]);
+                ShortenAnswer::Written(size)
+            }
+        },
+    }
+}
+
+// Field number k, from 0, of the list of the message that s is.
+pub fn field_at(s: &[u8], k: usize) -> FieldAnswer
+    ensures { λ r. ⌜ r ≡ fieldAnswer k (now (s .entry)) ⌝ }
+{
+    match list::list_place(s) {
+        ListPlace::Nowhere => FieldAnswer::End,
+        ListPlace::Between(from, end) => list::nth(s, from, end, k),
+    }
+}
+
+// What the status information that s is tells; nothing of any other bytes.
+pub fn read_status(s: &[u8]) -> Status
+    ensures { λ r. ⌜ r ≡ statusOf (now (s .entry)) ⌝ }
+{
+    match list::status_place(s) {
+        ListPlace::Nowhere => Status {
+            code: ToldCode::Missing,
+            amount: ToldAmount::Missing,
+            receipt: ToldReceipt::Missing,
+        },
+        ListPlace::Between(from, end) => Status {
+            code: values::code_in(s, from, end),
+            amount: values::amount_in(s, from, end),
+            receipt: values::receipt_in(s, from, end),
+        },
+    }
+}
+
+// The card name of the status information that s is, or the till's own name.
+pub fn card_name<'a>(s: &'a [u8], own: &'a [u8]) -> &'a [u8]
+    ensures bytes { λ r. ⌜ now r ≡ cardName (now (s .entry)) (now (own .entry)) ⌝ }
+    ensures place { λ r. ⌜ r .ptr ≡ namePlace (s .entry .ptr) (own .entry .ptr) (nameAt (now (s .entry))) ⌝ }
+{
+    match list::status_place(s) {
+        ListPlace::Nowhere => own,
+        ListPlace::Between(from, end) => match list::named(s, from, end, 0x8B) {
+            FieldAnswer::End => own,
+            FieldAnswer::Field(f) => {
+                let a = f.from;
+                let e = f.to;
+                let size = name::name_size(&s[a..e]);
+                if size == 0 {
+                    return own;
+                }
+                let to = a + size;
+                &s[a..to]
+            }
+        },
+    }
+}
+
+// The last twelve digits of an amount.
+pub fn amount_bytes(n: u64) -> [u8; 6]
+    ensures { λ r. ⌜ r ≡ digitBytesOf 6 n ⌝ }
+{
+    let mut b = [0u8; 6];
+    digits::put_digits(n, &mut b);
+    b
+}
+
+// The last six digits of a password.
+pub fn password_bytes(n: u32) -> [u8; 3]
+    ensures { λ r. ⌜ r ≡ digitBytesOf 3 n ⌝ }
+{
+    let mut b = [0u8; 3];
+    digits::put_digits(n as u64, &mut b);
+    b
+}
+
+// The last four digits of a receipt number.
+pub fn receipt_bytes(n: u16) -> [u8; 2]
+    ensures { λ r. ⌜ r ≡ digitBytesOf 2 n ⌝ }
+{
+    let mut b = [0u8; 2];
+    digits::put_digits(n as u64, &mut b);
+    b
+}

@@ -1,0 +1,113 @@
+// The fields of an accepted message's list, one at a time and by their id.
+use crate::FieldAnswer;
+use crate::Listed;
+use crate::ReadAnswer;
+use crate::fields::field_bounds;
+use crate::format::format_of;
+use crate::format::layout_of;
+use crate::objects::BoundsRead;
+use messages::Layout;
+ghost use mathlib.Core.Path.{_≡_};
+ghost use Prim.Native.Nat.{_+_, _≤_};
+ghost use lib.ListN.{length};
+ghost use Rattle.zvt.specs.List.{ListIn, listPlace, statusPlace, firstListed, nthListed, namedListed, listedIn};
+
+// Where a message's list lies, from and to, if it has one.
+pub enum ListPlace {
+    Nowhere,
+    Between(usize, usize),
+}
+
+pub fn list_place(s: &[u8]) -> ListPlace
+    ensures { λ r. ⌜ r ≡ listPlace (now (s .entry)) ⌝ }
+{
+    match crate::read(s) {
+        ReadAnswer::Refused(_) => ListPlace::Nowhere,
+        ReadAnswer::Accepted(m) => {
+            let start = m.start;
+            let end = s.len();
+            match layout_of(m.class, m.instruction) {
+                Layout::Plain => ListPlace::Nowhere,
+                Layout::List => ListPlace::Between(start, end),
+                Layout::Secured => ListPlace::Between(start + 3, end),
+            }
+        }
+    }
+}
+
+// The same, of a status information only.
+pub fn status_place(s: &[u8]) -> ListPlace
+    ensures { λ r. ⌜ r ≡ statusPlace (now (s .entry)) ⌝ }
+{
+    match crate::read(s) {
+        ReadAnswer::Refused(_) => ListPlace::Nowhere,
+        ReadAnswer::Accepted(m) => {
+            if m.class != 0x04 {
+                return ListPlace::Nowhere;
+            }
+            if m.instruction != 0x0F {
+                return ListPlace::Nowhere;
+            }
+            ListPlace::Between(m.start, s.len())
+        }
+    }
+}
+
+// The field at place at of a list that goes up to end.
+pub fn field_from(s: &[u8], at: usize, end: usize) -> FieldAnswer
+    requires { ⌜ ListIn at end (now s) ⌝ }
+    ensures { λ r. ⌜ r ≡ firstListed (listedIn at end (now (s .entry))) ⌝ }
+{
+    if at == end {
+        return FieldAnswer::End;
+    }
+    let id = s[at];
+    match field_bounds(&s[at..end], 0, format_of(id)) {
+        BoundsRead::Refused(_) => FieldAnswer::End,
+        BoundsRead::Bounds(b) => {
+            let from = at + b.from;
+            let to = at + b.to;
+            FieldAnswer::Field(Listed { id, from, to })
+        }
+    }
+}
+
+// The field number k of a list, counted from 0.
+pub fn nth(s: &[u8], from: usize, end: usize, k: usize) -> FieldAnswer
+    requires { ⌜ ListIn from end (now s) ⌝ }
+    ensures { λ r. ⌜ r ≡ nthListed k (listedIn from end (now (s .entry))) ⌝ }
+{
+    let mut at = from;
+    let mut left = k;
+    loop {
+        match field_from(s, at, end) {
+            FieldAnswer::End => return FieldAnswer::End,
+            FieldAnswer::Field(f) => {
+                if left == 0 {
+                    return FieldAnswer::Field(f);
+                }
+                left -= 1;
+                at = f.to;
+            }
+        }
+    }
+}
+
+// The field of a list that has that id.
+pub fn named(s: &[u8], from: usize, end: usize, id: u8) -> FieldAnswer
+    requires { ⌜ ListIn from end (now s) ⌝ }
+    ensures { λ r. ⌜ r ≡ namedListed id (listedIn from end (now (s .entry))) ⌝ }
+{
+    let mut at = from;
+    loop {
+        match field_from(s, at, end) {
+            FieldAnswer::End => return FieldAnswer::End,
+            FieldAnswer::Field(f) => {
+                if f.id == id {
+                    return FieldAnswer::Field(f);
+                }
+                at = f.to;
+            }
+        }
+    }
+}

@@ -1,0 +1,256 @@
+// Data objects: a run of objects, each tag, length, value; the value of some is again a run.
+use messages::Fault;
+use messages::Place;
+ghost use mathlib.Core.Path.{_≡_};
+ghost use Prim.Native.Nat.{_+_, _-_, _≤_};
+ghost use lib.ListN.{length};
+ghost use Rattle.messages.specs.Objects.{formSize};
+ghost use Rattle.messages.specs.Shortest.{formFor};
+ghost use Rattle.zvt.specs.Objects.{tagAnswer, lenAnswer, within, headAnswer, tallyOf, oneAnswer, runAnswer};
+
+// How many bytes a tag takes.
+pub enum TagRead {
+    Size(usize),
+    Refused(Fault),
+}
+
+// How many bytes a length takes, and the length.
+pub enum LenRead {
+    Len(usize, usize),
+    Refused(Fault),
+}
+
+// Where the parts of an object or a field lie: the tag or id ends at tag, the value goes from from up to to. A nested value is a
+// run of objects.
+pub struct Bounds {
+    pub tag: usize,
+    pub from: usize,
+    pub to: usize,
+    pub nested: bool,
+}
+
+pub enum BoundsRead {
+    Bounds(Bounds),
+    Refused(Fault),
+}
+
+// What is known of bytes that were read: how many, the objects begun by their end, and how many bytes fewer they take when
+// every length is shortest.
+pub struct Tally {
+    pub size: usize,
+    pub objects: u8,
+    pub spare: usize,
+}
+
+pub enum PartRead {
+    Part(Tally),
+    Refused(Fault),
+}
+
+pub fn tag_size(s: &[u8], at: usize) -> TagRead
+    requires { ⌜ at + length (now s) ≤ 4101 ⌝ }
+    ensures { λ r. ⌜ r ≡ tagAnswer at (now (s .entry)) ⌝ }
+{
+    if s.len() == 0 {
+        return TagRead::Refused(Fault {
+            number: 1,
+            place: Place::At(at),
+        });
+    }
+    if s[0] & 0x1F != 0x1F {
+        return TagRead::Size(1);
+    }
+    let second = at + 1;
+    if s.len() == 1 {
+        return TagRead::Refused(Fault {
+            number: 1,
+            place: Place::At(second),
+        });
+    }
+    if s[1] & 0x80 != 0 {
+        TagRead::Refused(Fault {
+            number: 8,
+            place: Place::At(second),
+        })
+    } else {
+        TagRead::Size(2)
+    }
+}
+
+pub fn len_of(s: &[u8], at: usize) -> LenRead
+    requires { ⌜ at + length (now s) ≤ 4101 ⌝ }
+    ensures { λ r. ⌜ r ≡ lenAnswer at (now (s .entry)) ⌝ }
+{
+    let end = at + s.len();
+    if s.len() == 0 {
+        return LenRead::Refused(Fault {
+            number: 1,
+            place: Place::At(end),
+        });
+    }
+    let b = s[0];
+    if b < 0x80 {
+        let bare = b as usize;
+        return LenRead::Len(1, bare);
+    }
+    if b == 0x81 {
+        if s.len() < 2 {
+            return LenRead::Refused(Fault {
+                number: 1,
+                place: Place::At(end),
+            });
+        }
+        let one = s[1] as usize;
+        return LenRead::Len(2, one);
+    }
+    if b == 0x82 {
+        if s.len() < 3 {
+            return LenRead::Refused(Fault {
+                number: 1,
+                place: Place::At(end),
+            });
+        }
+        let high = s[1] as usize;
+        let low = s[2] as usize;
+        let two = high * 256 + low;
+        return LenRead::Len(3, two);
+    }
+    LenRead::Refused(Fault {
+        number: 4,
+        place: Place::At(at),
+    })
+}
+
+// A value of v bytes that begins at from: it ends within s.
+pub fn bounds_in(s: &[u8], at: usize, tag: usize, from: usize, v: usize, nested: bool) -> BoundsRead
+    requires { ⌜ (at + length (now s) ≤ 4101) × (from ≤ length (now s)) ⌝ }
+    ensures { λ r. ⌜ r ≡ within at tag from v nested (now (s .entry)) ⌝ }
+{
+    if s.len() - from < v {
+        let end = at + s.len();
+        return BoundsRead::Refused(Fault {
+            number: 1,
+            place: Place::At(end),
+        });
+    }
+    let to = from + v;
+    BoundsRead::Bounds(Bounds {
+        tag,
+        from,
+        to,
+        nested,
+    })
+}
+
+// The bounds of the object that s begins with.
+pub fn head_of(s: &[u8], at: usize) -> BoundsRead
+    requires { ⌜ at + length (now s) ≤ 4101 ⌝ }
+    ensures { λ r. ⌜ r ≡ headAnswer at (now (s .entry)) ⌝ }
+{
+    match tag_size(s, at) {
+        TagRead::Refused(f) => BoundsRead::Refused(f),
+        TagRead::Size(tag) => match len_of(&s[tag..], at + tag) {
+            LenRead::Refused(f) => BoundsRead::Refused(f),
+            LenRead::Len(size, v) => {
+                let from = tag + size;
+                if s[0] & 0x20 != 0 {
+                    bounds_in(s, at, tag, from, v, true)
+                } else {
+                    bounds_in(s, at, tag, from, v, false)
+                }
+            }
+        },
+    }
+}
+
+// How many bytes the shortest length of v bytes takes.
+pub fn form_size(v: usize) -> usize
+    ensures { λ r. ⌜ r ≡ formSize (formFor v) ⌝ }
+{
+    if v < 128 {
+        return 1;
+    }
+    if v < 256 {
+        return 2;
+    }
+    3
+}
+
+// The tally of an object or a container whose value takes saved bytes fewer when it is shortest.
+pub fn tally_of(b: Bounds, objects: u8, saved: usize) -> Tally
+    requires { ⌜ (b .tag + formSize (formFor (b .to - b .from - saved)) ≤ b .from) × (b .from + saved ≤ b .to) ⌝ }
+    ensures { λ r. ⌜ r ≡ tallyOf b objects saved ⌝ }
+{
+    let v = b.to - b.from - saved;
+    let short = b.tag + form_size(v) + v;
+    Tally {
+        size: b.to,
+        objects,
+        spare: b.to - short,
+    }
+}
+
+// Reads a run, with left levels left and after n objects.
+pub fn read_run(s: &[u8], at: usize, left: u8, n: u8) -> PartRead
+    requires { ⌜ at + length (now s) ≤ 4101 ⌝ }
+    ensures { λ r. ⌜ r ≡ runAnswer left n at (now (s .entry)) ⌝ }
+{
+    if s.len() == 0 {
+        return PartRead::Part(Tally {
+            size: 0,
+            objects: n,
+            spare: 0,
+        });
+    }
+    match read_one(s, at, left, n) {
+        PartRead::Refused(f) => PartRead::Refused(f),
+        PartRead::Part(o) => {
+            let e = o.size;
+            match read_run(&s[e..], at + e, left, o.objects) {
+                PartRead::Refused(f) => PartRead::Refused(f),
+                PartRead::Part(r) => {
+                    let spare = o.spare + r.spare;
+                    PartRead::Part(Tally {
+                        size: s.len(),
+                        objects: r.objects,
+                        spare,
+                    })
+                }
+            }
+        }
+    }
+}
+
+// Reads the object that s begins with.
+pub fn read_one(s: &[u8], at: usize, left: u8, n: u8) -> PartRead
+    requires { ⌜ at + length (now s) ≤ 4101 ⌝ }
+    ensures { λ r. ⌜ r ≡ oneAnswer left n at (now (s .entry)) ⌝ }
+{
+    if 64 <= n {
+        return PartRead::Refused(Fault {
+            number: 10,
+            place: Place::At(at),
+        });
+    }
+    if left == 0 {
+        return PartRead::Refused(Fault {
+            number: 9,
+            place: Place::At(at),
+        });
+    }
+    let count = n + 1;
+    match head_of(s, at) {
+        BoundsRead::Refused(f) => PartRead::Refused(f),
+        BoundsRead::Bounds(b) => {
+            if !b.nested {
+                return PartRead::Part(tally_of(b, count, 0));
+            }
+            let from = b.from;
+            let to = b.to;
+            match read_run(&s[from..to], at + from, left - 1, count) {
+                PartRead::Refused(f) => PartRead::Refused(f),
+                PartRead::Part(r) => PartRead::Part(tally_of(b, r.objects, r.spare)),
+            }
+        }
+    }
+}
