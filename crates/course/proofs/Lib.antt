@@ -1,0 +1,2 @@
+-- The laws of runs, by subject.
+pub mod Calls
