@@ -1,2 +1,3 @@
 -- The laws of runs, by subject.
 pub mod Calls
+pub mod Lanes
