@@ -202,6 +202,10 @@ tell s c t =
 unfoldable pub opening : Call → ℕ
 opening c = pick (opens c) 1 0
 
+pub opening-is : (c : Call) (b : Bool) → opens c ≡ b → opening c ≡ pick b 1 0
+unfolding opening
+opening-is c b e = rw e
+
 places-total : (ls : List Lane) → places ls ≡ total place ls
 unfolding places total
 places-total [] = refl

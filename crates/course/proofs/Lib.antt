@@ -1,3 +1,4 @@
 -- The laws of runs, by subject.
 pub mod Calls
 pub mod Lanes
+pub mod Runs
