@@ -2,3 +2,6 @@
 pub mod Calls
 pub mod Lanes
 pub mod Runs
+pub mod Payment
+pub mod Kept
+pub mod Book
