@@ -104,7 +104,7 @@ kept-with s p past c kept h ys x e now blocks lines =
 
     calls : (k : ℕ) → callsOf k (past ++ (c ∷ [])) ≡ callsOf k (joined (p .ended ++ ys)) ++ getD (set (p .ongoing) (laneOf c) x) k []
     calls k =
-        rw (having-append laneOf k past, kept .calls k, joined-append, having-append laneOf k (joined (p .ended)), append-assoc, append-assoc, at k)
+        rw (having-append laneOf k past, kept .calls k, joined-append, having-append laneOf k (joined (p .ended)), append-assoc (callsOf k (joined (p .ended))) (getD (p .ongoing) k []), append-assoc, at k)
         (ap (λ (z : List Call). callsOf k (joined (p .ended)) ++ z) (go k (eqb (laneOf c) k) refl (rw (← now .its k, ← having-append laneOf k (joined ys) x, e) (its-more (getD (p .ongoing) (laneOf c) []) c (kept .each (laneOf c) .its) k))))
 
 -- an accepted call goes on with its lane's payment, or ends it
@@ -155,7 +155,7 @@ kept-run s p past [] kept h = rw append-nil kept
 kept-run s p past (c ∷ cs) kept h =
     rw append-snoc at (kept-run (step s c) (withCall s p c) (past ++ (c ∷ [])) cs (kept-step s p past c kept (h .0)) (h .1))
 
-all-same : {A : Type 0} (n k : ℕ) (a : A) → getD (replicate n a) k a ≡ a
+pub all-same : {A : Type 0} (n k : ℕ) (a : A) → getD (replicate n a) k a ≡ a
 all-same zero k a = refl
 all-same (suc n) zero a = refl
 all-same (suc n) (suc k) a = all-same n k a

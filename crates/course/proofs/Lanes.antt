@@ -206,7 +206,7 @@ pub opening-is : (c : Call) (b : Bool) → opens c ≡ b → opening c ≡ pick 
 unfolding opening
 opening-is c b e = rw e
 
-places-total : (ls : List Lane) → places ls ≡ total place ls
+pub places-total : (ls : List Lane) → places ls ≡ total place ls
 unfolding places total
 places-total [] = refl
 places-total (l ∷ ls) = omega (arith, places-total ls)

@@ -5,3 +5,4 @@ pub mod Runs
 pub mod Payment
 pub mod Kept
 pub mod Book
+pub mod Order
