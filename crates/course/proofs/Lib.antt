@@ -6,3 +6,4 @@ pub mod Payment
 pub mod Kept
 pub mod Book
 pub mod Order
+pub mod Net
