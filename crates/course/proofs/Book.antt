@@ -37,7 +37,8 @@ unfolding linesOf
 lines-grow ls [] = ([], sym (append-nil ls))
 lines-grow ls (p ∷ ps) = let g = lines-grow (ls ++ (lineOf ls p ∷ [])) ps in (lineOf ls p ∷ g .0, g .1 ∙ append-snoc ls (lineOf ls p) (g .0))
 
-line-at : (ls : List Line) (ps : List (List Call)) (j n : ℕ) → length ls + j ≡ n → j < length ps → getD (linesOf ls ps) n blankLine ≡ lineOf (take n (linesOf ls ps)) (getD ps j [])
+line-at : (ls : List Line) (ps : List (List Call)) (j n : ℕ) → length ls + j ≡ n → j < length ps
+    → getD (linesOf ls ps) n blankLine ≡ lineOf (take n (linesOf ls ps)) (getD ps j [])
 unfolding linesOf
 line-at ls [] j n e h = absurd (omega arith)
 line-at ls (p ∷ ps) zero n e h =
@@ -70,7 +71,8 @@ unfolding Says begun total place isIdle
 says-one k w [] h = (refl, rw h)
 says-one k w (o ∷ ds) h = (begins-one (o ∷ ds) (h .1) .0, rw (h .2))
 
-total-alike : {A B : Type 0} (f : A → ℕ) (g : B → ℕ) (d : A) (e : B) (xs : List A) (ys : List B) → length xs ≡ length ys → ((k : ℕ) → f (getD xs k d) ≡ g (getD ys k e))
+total-alike : {A B : Type 0} (f : A → ℕ) (g : B → ℕ) (d : A) (e : B) (xs : List A) (ys : List B)
+    → length xs ≡ length ys → ((k : ℕ) → f (getD xs k d) ≡ g (getD ys k e))
     → total f xs ≡ total g ys
 unfolding total
 total-alike f g d e [] [] l h = refl
@@ -131,4 +133,12 @@ openings-same cs h =
     let k = kept cs h in
     let ended = paymentsOf cs .ended in
     let ongoing = paymentsOf cs .ongoing in
-    rw total-append (omega (arith, openings-joined ended, openings-joined ongoing, blocks-count [] ended (k .blocks), total-alike openings begun [] [] ongoing ongoing refl (λ i. says-one i _ _ (k .each i .says) .0), every-opening cs h .number))
+    rw total-append (omega (
+      arith,
+      openings-joined ended,
+      openings-joined ongoing,
+      blocks-count [] ended (k .blocks),
+      total-alike openings begun [] [] ongoing ongoing refl
+          (λ i. says-one i _ _ (k .each i .says) .0),
+      every-opening cs h .number,
+    ))

@@ -173,7 +173,8 @@ module _ (l : Lane) (i : ℕ) (s : List ℕ) where
       (λ _. refuses _)))
       (λ _. refuses _)
 
-  reported : (st : Status) → remembered (l .status) (message i s) ≡ orElse (st .code) st (l .status) → isIdle (l .phase) ≡ false → Goes (reportedBy l st (st .code))
+  reported : (st : Status) → remembered (l .status) (message i s) ≡ orElse (st .code) st (l .status)
+      → isIdle (l .phase) ≡ false → Goes (reportedBy l st (st .code))
   unfolding reportedBy orElse
   reported st e idle = go (st .code) e
     where
@@ -185,7 +186,8 @@ module _ (l : Lane) (i : ℕ) (s : List ℕ) where
   unfolding movedBy verdict verdictOf remembered statusOf statusFields
   moved m r idle =
       pick-test Goes (pairIs (m .class) (m .instruction) 0x06 0x0F)
-      (λ e. let p = both (m .class) (m .instruction) 0x06 0x0F e in closes (completedBy l (l .status .code)) (completed-closes l _) (rw (r, p .0, p .1) (completed-running l _)))
+      (λ e. let p = both (m .class) (m .instruction) 0x06 0x0F e in
+      closes (completedBy l (l .status .code)) (completed-closes l _) (rw (r, p .0, p .1) (completed-running l _)))
       (λ _. pick-test Goes (pairIs (m .class) (m .instruction) 0x06 0x1E)
       (λ e. let p = both (m .class) (m .instruction) 0x06 0x1E e in closes (abortedBy (m .body)) (aborted-closes (m .body)) (rw (r, p .0, p .1)))
       (λ _. pick-test Goes (pairIs (m .class) (m .instruction) 0x04 0x0F)
@@ -194,7 +196,9 @@ module _ (l : Lane) (i : ℕ) (s : List ℕ) where
 
   running : (h : Header) → isIdle (l .phase) ≡ false → Goes (heardRunning l s h)
   unfolding heardRunning afterBody
-  running h idle = pick-test Goes (among (0x04FF ∷ 0x06D1 ∷ 0x06D3 ∷ 0x040F ∷ 0x061E ∷ 0x060F ∷ []) (h .class * 256 + h .instruction)) (λ _. go (readOf s) refl) (λ _. refuses _)
+  running h idle =
+      pick-test Goes (among (0x04FF ∷ 0x06D1 ∷ 0x06D3 ∷ 0x040F ∷ 0x061E ∷ 0x060F ∷ []) (h .class * 256 + h .instruction))
+      (λ _. go (readOf s) refl) (λ _. refuses _)
     where
       go : (r : Reading Message) → readOf s ≡ r → Goes (afterBody l r)
       go (refused f) e = refuses _
@@ -215,5 +219,7 @@ unfolding opens moves heard lostBy verdict Goes
 later l ls (sale i amount) e = let z : _≡_ {A = ℕ} 0 1 = cc in absurd (omega arith)
 later l ls (refund i password amount) e = let z : _≡_ {A = ℕ} 0 1 = cc in absurd (omega arith)
 later l ls (reversal i password receipt) e = let z : _≡_ {A = ℕ} 0 1 = cc in absurd (omega arith)
-later l ls (message i s) e = pick-test (λ m. Passes m → (isIdle (l .phase) ≡ false) × Later l (message i s) m) (isIdle (l .phase)) (λ _ h. absurd h) (λ o h. (o, heard-goes l i s o (wholeHeader s) refl h))
-later l ls (lost i) e = pick-test (λ m. Passes m → (isIdle (l .phase) ≡ false) × Later l (lost i) m) (isIdle (l .phase)) (λ _ h. absurd h) (λ o _. (o, refl))
+later l ls (message i s) e = pick-test (λ m. Passes m → (isIdle (l .phase) ≡ false) × Later l (message i s) m)
+    (isIdle (l .phase)) (λ _ h. absurd h) (λ o h. (o, heard-goes l i s o (wholeHeader s) refl h))
+later l ls (lost i) e = pick-test (λ m. Passes m → (isIdle (l .phase) ≡ false) × Later l (lost i) m)
+    (isIdle (l .phase)) (λ _ h. absurd h) (λ o _. (o, refl))

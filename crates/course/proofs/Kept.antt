@@ -77,8 +77,10 @@ abbrev turn : State → Call → Moved
 turn s c = moves (mine s c .lane) (mine s c .lines) c
 
 -- the payment with the call stands in ys, ended, or in x, still open
-kept-with : (s : State) (p : Payments) (past : List Call) (c : Call) → Kept s p past → Accepts s c → (ys : List (List Call)) (x : List Call) → joined ys ++ x ≡ grown p c
-    → Open (laneOf c) (after (mine s c) c) x → Blocks [] (p .ended ++ ys) → s .lines ++ linesFrom (laneOf c) (mine s c .lane) (turn s c) ≡ linesOf [] (p .ended ++ ys)
+kept-with : (s : State) (p : Payments) (past : List Call) (c : Call) → Kept s p past → Accepts s c
+    → (ys : List (List Call)) (x : List Call) → joined ys ++ x ≡ grown p c
+    → Open (laneOf c) (after (mine s c) c) x → Blocks [] (p .ended ++ ys)
+    → s .lines ++ linesFrom (laneOf c) (mine s c .lane) (turn s c) ≡ linesOf [] (p .ended ++ ys)
     → Kept (step s c) (record { ended = p .ended ++ ys; ongoing = set (p .ongoing) (laneOf c) x }) (past ++ (c ∷ []))
 unfolding step having
 kept-with s p past c kept h ys x e now blocks lines =
@@ -104,13 +106,24 @@ kept-with s p past c kept h ys x e now blocks lines =
 
     calls : (k : ℕ) → callsOf k (past ++ (c ∷ [])) ≡ callsOf k (joined (p .ended ++ ys)) ++ getD (set (p .ongoing) (laneOf c) x) k []
     calls k =
-        rw (having-append laneOf k past, kept .calls k, joined-append, having-append laneOf k (joined (p .ended)), append-assoc (callsOf k (joined (p .ended))) (getD (p .ongoing) k []), append-assoc, at k)
-        (ap (λ (z : List Call). callsOf k (joined (p .ended)) ++ z) (go k (eqb (laneOf c) k) refl (rw (← now .its k, ← having-append laneOf k (joined ys) x, e) (its-more (getD (p .ongoing) (laneOf c) []) c (kept .each (laneOf c) .its) k))))
+        rw (
+          having-append laneOf k past,
+          kept .calls k,
+          joined-append,
+          having-append laneOf k (joined (p .ended)),
+          append-assoc (callsOf k (joined (p .ended))) (getD (p .ongoing) k []),
+          append-assoc,
+          at k,
+        )
+        (ap (λ (z : List Call). callsOf k (joined (p .ended)) ++ z)
+        (go k (eqb (laneOf c) k) refl (rw (← now .its k, ← having-append laneOf k (joined ys) x, e)
+        (its-more (getD (p .ongoing) (laneOf c) []) c (kept .each (laneOf c) .its) k))))
 
 -- an accepted call goes on with its lane's payment, or ends it
 kept-step : (s : State) (p : Payments) (past : List Call) (c : Call) → Kept s p past → Accepts s c → Kept (step s c) (withCall s p c) (past ++ (c ∷ []))
 unfolding withCall endsIn laneAfter linesFrom after joined Goes
-kept-step s p past c kept h = rw (moves-local (mine s c .lane) (s .lines) c) (go (turn s c) refl (goes i w q c (now .says) refl (rw moves-local at (told s c h .moved))))
+kept-step s p past c kept h = rw (moves-local (mine s c .lane) (s .lines) c)
+    (go (turn s c) refl (goes i w q c (now .says) refl (rw moves-local at (told s c h .moved))))
   where
     i : ℕ
     i = laneOf c
@@ -127,7 +140,8 @@ kept-step s p past c kept h = rw (moves-local (mine s c .lane) (s .lines) c) (go
     brings : Brings i (w .lines) (q ++ (c ∷ [])) (laneAfter (w .lane) (turn s c)) (linesFrom i (w .lane) (turn s c))
     brings = brings-more (w .lines) q (w .lane) c (now .brings)
 
-    on : (n : Lane) → laneAfter (w .lane) (turn s c) ≡ n → linesFrom i (w .lane) (turn s c) ≡ [] → Says i (record { lane = n; lines = w .lines }) (q ++ (c ∷ []))
+    on : (n : Lane) → laneAfter (w .lane) (turn s c) ≡ n → linesFrom i (w .lane) (turn s c) ≡ []
+        → Says i (record { lane = n; lines = w .lines }) (q ++ (c ∷ []))
         → Kept (step s c) (record { ended = p .ended; ongoing = set (p .ongoing) i (q ++ (c ∷ [])) }) (past ++ (c ∷ []))
     on n e f g =
         rw (append-nil (p .ended)) at
@@ -135,19 +149,24 @@ kept-step s p past c kept h = rw (moves-local (mine s c .lane) (s .lines) c) (go
         (rw (e, f, append-nil (w .lines)) (record { its = its-more q c (now .its); brings = rw (e, f) at brings; says = g }))
         (rw (append-nil (p .ended)) (kept .blocks)) (rw (f, append-nil (s .lines), append-nil (p .ended)) (kept .lines)))
 
-    ended : laneAfter (w .lane) (turn s c) ≡ idleLane → (x : Line) → linesFrom i (w .lane) (turn s c) ≡ x ∷ [] → Begins (q ++ (c ∷ [])) → x ≡ lineOf (s .lines) (q ++ (c ∷ []))
+    ended : laneAfter (w .lane) (turn s c) ≡ idleLane → (x : Line) → linesFrom i (w .lane) (turn s c) ≡ x ∷ []
+        → Begins (q ++ (c ∷ [])) → x ≡ lineOf (s .lines) (q ++ (c ∷ []))
         → Kept (step s c) (record { ended = p .ended ++ ((q ++ (c ∷ [])) ∷ []); ongoing = set (p .ongoing) i [] }) (past ++ (c ∷ []))
     ended e x f b l =
         kept-with s p past c kept h ((q ++ (c ∷ [])) ∷ []) [] (simp append-nil) (rw e (open-none i _))
-        (blocks-snoc [] (p .ended) (q ++ (c ∷ [])) (kept .blocks) (rw (← kept .lines) (record { lane = i; small = told s c h .lane; its = its-more q c (now .its); begins = b; brings = rw (e, f, l) at brings })))
+        (blocks-snoc [] (p .ended) (q ++ (c ∷ [])) (kept .blocks)
+        (rw (← kept .lines) (record { lane = i; small = told s c h .lane; its = its-more q c (now .its); begins = b; brings = rw (e, f, l) at brings })))
         (rw (f, l, lines-snoc, ← kept .lines))
 
     go : (m : Moved) → turn s c ≡ m → Goes i w (q ++ (c ∷ [])) m
-        → Kept (step s c) (pick (endsIn m) (record { ended = p .ended ++ ((q ++ (c ∷ [])) ∷ []); ongoing = set (p .ongoing) i [] }) (record { ended = p .ended; ongoing = set (p .ongoing) i (q ++ (c ∷ [])) })) (past ++ (c ∷ []))
+        → Kept (step s c) (pick (endsIn m)
+        (record { ended = p .ended ++ ((q ++ (c ∷ [])) ∷ []); ongoing = set (p .ongoing) i [] })
+        (record { ended = p .ended; ongoing = set (p .ongoing) i (q ++ (c ∷ [])) })) (past ++ (c ∷ []))
     go (Refused r) e g = absurd g
     go Stays e g = on (w .lane) (ap (laneAfter (w .lane)) e) (ap (linesFrom i (w .lane)) e) g
     go (Becomes n) e g = on n (ap (laneAfter (w .lane)) e) (ap (linesFrom i (w .lane)) e) g
-    go (Ends outcome settled code) e g = ended (ap (laneAfter (w .lane)) e) (lineAt i (w .lane) outcome settled code) (ap (linesFrom i (w .lane)) e) (g .0) (g .1 (s .lines) refl)
+    go (Ends outcome settled code) e g = ended (ap (laneAfter (w .lane)) e) (lineAt i (w .lane) outcome settled code)
+        (ap (linesFrom i (w .lane)) e) (g .0) (g .1 (s .lines) refl)
 
 kept-run : (s : State) (p : Payments) (past cs : List Call) → Kept s p past → Accepted s cs → Kept (run s cs) (paymentsFrom s p cs) (past ++ cs)
 unfolding run paymentsFrom Accepted

@@ -32,7 +32,8 @@ unfolding having
 having-append f k [] ys = refl
 having-append f k (x ∷ xs) ys = rw (having-append f k xs ys) (go (eqb (f x) k))
   where
-    go : (b : Bool) → pick b (x ∷ (having f k xs ++ having f k ys)) (having f k xs ++ having f k ys) ≡ pick b (x ∷ having f k xs) (having f k xs) ++ having f k ys
+    go : (b : Bool) → pick b (x ∷ (having f k xs ++ having f k ys)) (having f k xs ++ having f k ys)
+        ≡ pick b (x ∷ having f k xs) (having f k xs) ++ having f k ys
     go true = refl
     go false = refl
 
@@ -116,13 +117,25 @@ own-same : (s : State) (c : Call) → laneOf c < length (s .lanes) → own (lane
 unfolding step after
 own-same s c h =
     let l = laneAt (s .lanes) (laneOf c) in
-    rw (getD-set-same (s .lanes) (laneOf c) (laneAfter l (moves l (s .lines) c)) idleLane h, having-append, lines-own, eq-eqb (laneOf c) (laneOf c) refl, moves-local l (s .lines) c)
+    rw (
+      getD-set-same (s .lanes) (laneOf c) (laneAfter l (moves l (s .lines) c)) idleLane h,
+      having-append,
+      lines-own,
+      eq-eqb (laneOf c) (laneOf c) refl,
+      moves-local l (s .lines) c,
+    )
 
 own-other : (s : State) (c : Call) (k : ℕ) → (laneOf c ≡ k → ⊥) → own k (step s c) ≡ own k s
 unfolding step
 own-other s c k n =
     let l = laneAt (s .lanes) (laneOf c) in
-    rw (getD-set-other (s .lanes) (laneOf c) k (laneAfter l (moves l (s .lines) c)) idleLane (λ e. n (sym e)), having-append, lines-own, ne-eqb (laneOf c) k n, append-nil)
+    rw (
+      getD-set-other (s .lanes) (laneOf c) k (laneAfter l (moves l (s .lines) c)) idleLane (λ e. n (sym e)),
+      having-append,
+      lines-own,
+      ne-eqb (laneOf c) k n,
+      append-nil,
+    )
 
 pub isolation : (s : State) (c : Call) (k : ℕ) → (laneOf c ≡ k → ⊥)
     → (laneAt (step s c .lanes) k ≡ laneAt (s .lanes) k) × (ofLane k (step s c .lines) ≡ ofLane k (s .lines))
@@ -144,7 +157,8 @@ one-line s c = go (moves l (s .lines) c)
     l : Lane
     l = laneAt (s .lanes) (laneOf c)
 
-    go : (m : Moved) → (s .lines ++ linesFrom (laneOf c) l m ≡ s .lines) ⊎ ((x : Line) × (x .lane ≡ laneOf c) × (s .lines ++ linesFrom (laneOf c) l m ≡ s .lines ++ (x ∷ [])))
+    go : (m : Moved) → (s .lines ++ linesFrom (laneOf c) l m ≡ s .lines)
+        ⊎ ((x : Line) × (x .lane ≡ laneOf c) × (s .lines ++ linesFrom (laneOf c) l m ≡ s .lines ++ (x ∷ [])))
     go (Refused r) = inl (append-nil _)
     go Stays = inl (append-nil _)
     go (Becomes n) = inl (append-nil _)
@@ -237,4 +251,8 @@ load-step s c e h =
     let l = laneAt (s .lanes) (laneOf c) in
     let m = moves l (s .lines) c in
     let t = told s c h in
-    simp (length-append, places-total) (omega (arith, total-set place (s .lanes) (laneOf c) (laneAfter l m) idleLane (omega arith), kept (laneOf c) l (s .lines) c (t .moved)))
+    simp (length-append, places-total) (omega (
+      arith,
+      total-set place (s .lanes) (laneOf c) (laneAfter l m) idleLane (omega arith),
+      kept (laneOf c) l (s .lines) c (t .moved),
+    ))

@@ -26,7 +26,11 @@ one-of : (k i : ℕ) (os : List (List Call)) → ((j : ℕ) → (j ≡ i → ⊥
 unfolding joined having
 one-of k i [] h = refl
 one-of k zero (o ∷ os) h =
-    rw (having-append laneOf k o, one-of k (length os) os (λ j n. h (suc j) (λ e. omega arith)), List·getD-eq-default os [] {n = length os} (omega arith)) (append-nil _)
+    rw (
+      having-append laneOf k o,
+      one-of k (length os) os (λ j n. h (suc j) (λ e. omega arith)),
+      List·getD-eq-default os [] {n = length os} (omega arith),
+    ) (append-nil _)
 one-of k (suc i) (o ∷ os) h = rw (having-append laneOf k o, h 0 (λ e. omega arith)) (one-of k i os (λ j n. h (suc j) (λ e. n (omega arith))))
 
 pub same-calls : (cs : List Call) → Accepted fresh cs → (k : ℕ) → callsOf k (oneByOne cs) ≡ callsOf k cs
@@ -34,7 +38,12 @@ unfolding oneByOne
 same-calls cs h k =
     let p = paymentsOf cs in
     let r = kept cs h in
-    rw (having-append laneOf k (joined (p .ended)), one-of k k (p .ongoing) (λ j n. r .each j .its k ∙ rw (ne-eqb j k n)), r .each k .its k, eq-eqb k k refl) (sym (r .calls k))
+    rw (
+      having-append laneOf k (joined (p .ended)),
+      one-of k k (p .ongoing) (λ j n. r .each j .its k ∙ rw (ne-eqb j k n)),
+      r .each k .its k,
+      eq-eqb k k refl,
+    ) (sym (r .calls k))
 
 -- ---- the lines are the same, in the same order
 
@@ -73,7 +82,14 @@ pub order : (cs : List Call) → Accepted fresh cs
 unfolding fresh load places place isIdle
 order cs h = (
   accepted,
-  ap₂ (λ (ls : List Lane) (xs : List Line). record { lanes = ls; lines = xs }) lanes (as-long _ _ (more .0) (more .1) (omega (arith, count cs h .0, count (oneByOne cs) accepted .0, openings-same cs h, ap places lanes))),
+  ap₂ (λ (ls : List Lane) (xs : List Line). record { lanes = ls; lines = xs }) lanes
+      (as-long _ _ (more .0) (more .1) (omega (
+        arith,
+        count cs h .0,
+        count (oneByOne cs) accepted .0,
+        openings-same cs h,
+        ap places lanes,
+      ))),
   λ k. replies-alone fresh (oneByOne cs) k refl accepted ∙ ap (repliesAlone (own k fresh)) (same-calls cs h k) ∙ sym (replies-alone fresh cs k refl h),
 )
   where

@@ -80,7 +80,8 @@ goes k w (o ∷ ds) c says at pass = go (opens c) refl
 
     go : (b : Bool) → opens c ≡ b → Goes k w (o ∷ (ds ++ (c ∷ []))) (moves (w .lane) (w .lines) c)
     go true e = let z : _≡_ {A = ℕ} 0 1 = cc (opened (w .lane) (w .lines) c e pass .0, says .2) in absurd (omega arith)
-    go false e = then (moves (w .lane) (w .lines) c) (rw total-append (omega (arith, says .1 .1, opening-is c false e))) (later (w .lane) (w .lines) c e pass .1)
+    go false e = then (moves (w .lane) (w .lines) c) (rw total-append (omega (arith, says .1 .1, opening-is c false e)))
+        (later (w .lane) (w .lines) c e pass .1)
 
 -- ---- its calls together
 
@@ -113,7 +114,8 @@ pub open-none : (k : ℕ) (ls : List Line) → Open k (record { lane = idleLane;
 unfolding having Says
 open-none k ls = record { its = λ j. none (eqb k j); brings = brings-none k ls; says = refl }
 
-pub its-more : (q : List Call) (c : Call) → ((j : ℕ) → callsOf j q ≡ pick (eqb (laneOf c) j) q []) → (j : ℕ) → callsOf j (q ++ (c ∷ [])) ≡ pick (eqb (laneOf c) j) (q ++ (c ∷ [])) []
+pub its-more : (q : List Call) (c : Call) → ((j : ℕ) → callsOf j q ≡ pick (eqb (laneOf c) j) q [])
+    → (j : ℕ) → callsOf j (q ++ (c ∷ [])) ≡ pick (eqb (laneOf c) j) (q ++ (c ∷ [])) []
 unfolding having
 its-more q c its j = rw (having-append, its j) (go (eqb (laneOf c) j))
   where

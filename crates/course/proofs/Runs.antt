@@ -87,7 +87,8 @@ unfolding run Accepted alone having
 run-alone s [] k e h = refl
 run-alone s (c ∷ cs) k e h =
     run-alone (step s c) cs k (lanes-step s c ∙ e) (h .1)
-    ∙ by-lane s c (omega (arith, told s c (h .0) .lane)) (λ j b o. alone o (callsOf j cs) ≡ alone (own j s) (pick b (c ∷ callsOf j cs) (callsOf j cs))) refl (λ j n. refl) k
+    ∙ by-lane s c (omega (arith, told s c (h .0) .lane))
+    (λ j b o. alone o (callsOf j cs) ≡ alone (own j s) (pick b (c ∷ callsOf j cs) (callsOf j cs))) refl (λ j n. refl) k
 
 pub replies-alone : (s : State) (cs : List Call) (k : ℕ) → length (s .lanes) ≡ 8 → Accepted s cs → repliesTo k s cs ≡ repliesAlone (own k s) (callsOf k cs)
 unfolding repliesTo repliesAlone replies wrote Accepted having
@@ -95,7 +96,9 @@ replies-alone s [] k e h = refl
 replies-alone s (c ∷ cs) k e h =
     let reply : Reply = record { call = c; wrote = writes (laneAt (s .lanes) (laneOf c)) c } in
     rw (replies-alone (step s c) cs k (lanes-step s c ∙ e) (h .1))
-    (by-lane s c (omega (arith, told s c (h .0) .lane)) (λ j b o. pick b (reply ∷ repliesAlone o (callsOf j cs)) (repliesAlone o (callsOf j cs)) ≡ repliesAlone (own j s) (pick b (c ∷ callsOf j cs) (callsOf j cs))) refl (λ j n. refl) k)
+    (by-lane s c (omega (arith, told s c (h .0) .lane))
+    (λ j b o. pick b (reply ∷ repliesAlone o (callsOf j cs)) (repliesAlone o (callsOf j cs))
+    ≡ repliesAlone (own j s) (pick b (c ∷ callsOf j cs) (callsOf j cs))) refl (λ j n. refl) k)
 
 pub accepted-alone : (s : State) (cs : List Call) (k : ℕ) → length (s .lanes) ≡ 8 → Accepted s cs → AcceptedAlone (own k s) (callsOf k cs)
 unfolding Accepted AcceptedAlone having
@@ -105,13 +108,15 @@ accepted-alone s (c ∷ cs) k e h =
     by-lane s c (omega (arith, t .lane)) (λ j b o. AcceptedAlone o (callsOf j cs) → AcceptedAlone (own j s) (pick b (c ∷ callsOf j cs) (callsOf j cs)))
     (λ a. (t .lane, rw moves-local at (t .moved), a)) (λ j n a. a) k (accepted-alone (step s c) cs k (lanes-step s c ∙ e) (h .1))
 
-pub accepted-from : (s : State) (cs : List Call) → length (s .lanes) ≡ 8 → ((k : ℕ) → AcceptedAlone (own k s) (callsOf k cs)) → load s + openings cs ≤ 64 → Accepted s cs
+pub accepted-from : (s : State) (cs : List Call) → length (s .lanes) ≡ 8 → ((k : ℕ) → AcceptedAlone (own k s) (callsOf k cs))
+    → load s + openings cs ≤ 64 → Accepted s cs
 unfolding Accepted AcceptedAlone having total
 accepted-from s [] e al r = tt
 accepted-from s (c ∷ cs) e al r = (
   tell s c t,
   accepted-from (step s c) cs (lanes-step s c ∙ e)
-      (λ k. by-lane s c (omega (arith, t .lane)) (λ j b o. AcceptedAlone (own j s) (pick b (c ∷ callsOf j cs) (callsOf j cs)) → AcceptedAlone o (callsOf j cs)) (λ a. a .2) (λ j n a. a) k (al k))
+      (λ k. by-lane s c (omega (arith, t .lane))
+      (λ j b o. AcceptedAlone (own j s) (pick b (c ∷ callsOf j cs) (callsOf j cs)) → AcceptedAlone o (callsOf j cs)) (λ a. a .2) (λ j n a. a) k (al k))
       (omega (arith, load-step s c e (tell s c t))),
 )
   where
