@@ -1,6 +1,15 @@
--- The laws of the course, by subject.
+-- The laws of the course, by subject: what opening writes, the table of refusals, document 01's case of two lanes; then runs,
+-- payments, book, order and turnover.
 pub mod Commands
 pub mod LastSale
 pub mod Rows
 pub mod Refusals
 pub mod Cases
+pub mod Calls
+pub mod Lanes
+pub mod Runs
+pub mod Payment
+pub mod Kept
+pub mod Book
+pub mod Order
+pub mod Net
