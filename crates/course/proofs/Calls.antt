@@ -1,6 +1,6 @@
 -- What a call that is not refused does to its lane, by cases on the calls. No other law looks into the course itself. Assumes nothing.
 use mathlib.Core.Path.{_≡_, refl, ap, sym, _∙_}
-use mathlib.Core.Bool.{Bool, true, false, _&&_}
+use mathlib.Core.Bool.{Bool, true, false, _&&_, _||_}
 use mathlib.Core.List.{List, [], _∷_}
 use Prim.Native.Nat.{ℕ, _+_, _*_, _<_}
 use native.Mathlib.Omega.{arith}
@@ -23,7 +23,7 @@ use Rattle.course.specs.declared.Moved.{Moved}
 use Rattle.course.specs.declared.Moved.the-variants.{Refused, Stays, Becomes, Ends}
 use Rattle.course.specs.Lanes.{waitingLane, runningLane, reportedLane}
 use Rattle.course.specs.Course.{pairIs, heardWaiting, settledAs, completedBy, abortedBy, reportedBy, movedBy, afterBody, heardRunning, heardBy, afterHeader, isIdle, heard, lostBy, Ask, openedBy, Call, sale, refund, reversal, message, lost, opens, moves}
-use Rattle.course.specs.Payments.{askOf, orElse, remembered, verdictOf, verdict}
+use Rattle.course.specs.Payments.{endsBy, ends, askOf, orElse, remembered, verdictOf, verdict}
 
 -- not refused
 abbrev pub Passes : Moved → Type 0
@@ -223,3 +223,101 @@ later l ls (message i s) e = pick-test (λ m. Passes m → (isIdle (l .phase) �
     (isIdle (l .phase)) (λ _ h. absurd h) (λ o h. (o, heard-goes l i s o (wholeHeader s) refl h))
 later l ls (lost i) e = pick-test (λ m. Passes m → (isIdle (l .phase) ≡ false) × Later l (lost i) m)
     (isIdle (l .phase)) (λ _ h. absurd h) (λ o _. (o, refl))
+
+-- ---- whether a call ends its payment can be seen from the call alone
+
+unfoldable pub endsIn : Moved → Bool
+endsIn (Refused r) = false
+endsIn Stays = false
+endsIn (Becomes l) = false
+endsIn (Ends outcome settled code) = true
+
+closing-ends : (m : Moved) → Closing m → Passes m → endsIn m ≡ true
+unfolding endsIn
+closing-ends (Refused r) c p = absurd p
+closing-ends Stays c p = absurd c
+closing-ends (Becomes l) c p = absurd c
+closing-ends (Ends outcome settled code) c p = refl
+
+reported-open : (l : Lane) (st : Status) (t : ToldCode) → endsIn (reportedBy l st t) ≡ false
+unfolding endsIn reportedBy
+reported-open l st no-code = refl
+reported-open l st (Code c) = refl
+
+module _ (l : Lane) (s : List ℕ) where
+  Right : Moved → Type 0
+  Right m = Passes m → endsIn m ≡ endsBy (readOf s)
+
+  refused-right : (r : Refusal) → Right (Refused r)
+  unfolding Right
+  refused-right r p = absurd p
+
+  open-right : (m : Moved) → endsIn m ≡ false → endsBy (readOf s) ≡ false → Right m
+  unfolding Right
+  open-right m e f p = e ∙ sym f
+
+  end-right : (m : Moved) → Closing m → endsBy (readOf s) ≡ true → Right m
+  unfolding Right
+  end-right m c f p = closing-ends m c p ∙ sym f
+
+  waiting-ends : (h : Header) → wholeHeader s ≡ got h → Right (heardWaiting l h)
+  unfolding heardWaiting endsIn endsBy readOf
+  waiting-ends h w =
+      pick-test Right (eqb (h .size) 0)
+      (λ _. pick-test Right (pairIs (h .class) (h .instruction) 0x80 0x00)
+      (λ e. open-right _ refl (go (readOf s) refl (both (h .class) (h .instruction) 0x80 0x00 e .0)))
+      (λ _. pick-test Right (eqb (h .class) 0x84)
+      (λ e. end-right (Ends Declined 0 (h .instruction)) tt (ap endsBy (plain-read s h w (eqb-true _ _ e)) ∙ rw e))
+      (λ _. refused-right _)))
+      (λ _. refused-right _)
+    where
+      go : (r : Reading Message) → readOf s ≡ r → h .class ≡ 0x80 → endsBy r ≡ false
+      go (refused f) e c = refl
+      go (got m) e c = rw (of-header s h m (sym (then-on _ h w) ∙ e), c)
+
+  moved-ends : (m : Message) → readOf s ≡ got m → eqb (m .class) 0x84 ≡ false → Right (movedBy l m)
+  unfolding movedBy endsIn endsBy
+  moved-ends m r n =
+      pick-test Right (pairIs (m .class) (m .instruction) 0x06 0x0F)
+      (λ e. let q = both (m .class) (m .instruction) 0x06 0x0F e in end-right _ (completed-closes l _) (ap endsBy r ∙ rw (q .0, q .1)))
+      (λ a. pick-test Right (pairIs (m .class) (m .instruction) 0x06 0x1E)
+      (λ e. let q = both (m .class) (m .instruction) 0x06 0x1E e in end-right _ (aborted-closes (m .body)) (ap endsBy r ∙ rw (q .0, q .1)))
+      (λ b. pick-test Right (pairIs (m .class) (m .instruction) 0x04 0x0F)
+      (λ e. let q = both (m .class) (m .instruction) 0x04 0x0F e in open-right _ (reported-open l _ _) (ap endsBy r ∙ rw (q .0)))
+      (λ _. open-right Stays refl (ap endsBy r ∙ rw (n, b, a)))))
+
+  running-ends : (h : Header) → wholeHeader s ≡ got h → Right (heardRunning l s h)
+  unfolding heardRunning afterBody readOf
+  running-ends h w =
+      pick-test Right (among (0x04FF ∷ 0x06D1 ∷ 0x06D3 ∷ 0x040F ∷ 0x061E ∷ 0x060F ∷ []) (h .class * 256 + h .instruction))
+      (λ t. go (readOf s) refl t) (λ _. refused-right _)
+    where
+      -- none of the six begins with 84
+      not-84 : among (0x04FF ∷ 0x06D1 ∷ 0x06D3 ∷ 0x040F ∷ 0x061E ∷ 0x060F ∷ []) (h .class * 256 + h .instruction) ≡ true → h .class ≡ 0x84 → ⊥
+      not-84 t c =
+          let u = above (0x04FF ∷ 0x06D1 ∷ 0x06D3 ∷ 0x040F ∷ 0x061E ∷ 0x060F ∷ []) (h .class * 256 + h .instruction) (omega arith) in
+          let z : _≡_ {A = ℕ} 0 1 = cc in omega arith
+
+      go : (r : Reading Message) → readOf s ≡ r
+          → among (0x04FF ∷ 0x06D1 ∷ 0x06D3 ∷ 0x040F ∷ 0x061E ∷ 0x060F ∷ []) (h .class * 256 + h .instruction) ≡ true → Right (afterBody l r)
+      go (refused f) e t = refused-right _
+      go (got m) e t = moved-ends m e (rw (of-header s h m (sym (then-on _ h w) ∙ e)) (ne-eqb (h .class) 0x84 (not-84 t)))
+
+  heard-ends : (r : Reading Header) → wholeHeader s ≡ r → Right (afterHeader l s r)
+  unfolding afterHeader heardBy
+  heard-ends (refused f) w = refused-right _
+  heard-ends (got h) w = go (l .phase)
+    where
+      go : (p : Phase) → Right (heardBy p l s h)
+      go Idle = refused-right _
+      go Waiting = waiting-ends h w
+      go Running = running-ends h w
+
+pub ends-same : (l : Lane) (ls : List Line) (c : Call) → Passes (moves l ls c) → endsIn (moves l ls c) ≡ ends c
+unfolding moves ends endsIn heard lostBy Right
+ends-same l ls (sale i amount) = λ h. rw (by-ask l _ h .1)
+ends-same l ls (refund i password amount) = λ h. rw (by-ask l _ h .1)
+ends-same l ls (reversal i password receipt) = λ h. rw (by-ask l _ h .1)
+ends-same l ls (message i s) = pick-test (λ m. Passes m → endsIn m ≡ endsBy (readOf s))
+    (isIdle (l .phase)) (λ _ h. absurd h) (λ _. heard-ends l s (wholeHeader s) refl)
+ends-same l ls (lost i) = pick-test (λ m. Passes m → endsIn m ≡ true) (isIdle (l .phase)) (λ _ h. absurd h) (λ _ _. refl)

@@ -16,7 +16,8 @@ use Rattle.course.specs.declared.Moved.the-variants.{Refused, Stays, Bec
 use Rattle.course.specs.Lanes.{idleLane, lineAt}
 use Rattle.course.specs.Course.{Call, laneOf, moves}
 use Rattle.course.specs.Desk.{State, fresh, laneAfter, linesFrom, step, Accepts, Accepted, run}
-use Rattle.course.specs.Payments.{Payments, endsIn, withCall, paymentsFrom, paymentsOf, joined, lineOf, linesOf}
+use Rattle.course.specs.Payments.{Payments, withCall, paymentsFrom, paymentsOf, joined, lineOf, linesOf}
+use Rattle.course.proofs.Calls.{endsIn, ends-same}
 use Rattle.course.proofs.Lanes.{having, having-append, ofLane, callsOf, moves-local, Own, own, after, by-lane, told, lanes-step}
 use Rattle.course.proofs.Payment.{Begins, Says, Goes, goes, Brings, brings-more, Open, open-none, its-more}
 
@@ -120,10 +121,11 @@ kept-with s p past c kept h ys x e now blocks lines =
         (its-more (getD (p .ongoing) (laneOf c) []) c (kept .each (laneOf c) .its) k))))
 
 -- an accepted call goes on with its lane's payment, or ends it
-kept-step : (s : State) (p : Payments) (past : List Call) (c : Call) → Kept s p past → Accepts s c → Kept (step s c) (withCall s p c) (past ++ (c ∷ []))
+kept-step : (s : State) (p : Payments) (past : List Call) (c : Call) → Kept s p past → Accepts s c → Kept (step s c) (withCall p c) (past ++ (c ∷ []))
 unfolding withCall endsIn laneAfter linesFrom after joined Goes
-kept-step s p past c kept h = rw (moves-local (mine s c .lane) (s .lines) c)
-    (go (turn s c) refl (goes i w q c (now .says) refl (rw moves-local at (told s c h .moved))))
+kept-step s p past c kept h =
+    let passes = rw moves-local at (told s c h .moved) in
+    rw (← ends-same (w .lane) (w .lines) c passes) (go (turn s c) refl (goes i w q c (now .says) refl passes))
   where
     i : ℕ
     i = laneOf c
@@ -168,11 +170,11 @@ kept-step s p past c kept h = rw (moves-local (mine s c .lane) (s .lines) c)
     go (Ends outcome settled code) e g = ended (ap (laneAfter (w .lane)) e) (lineAt i (w .lane) outcome settled code)
         (ap (linesFrom i (w .lane)) e) (g .0) (g .1 (s .lines) refl)
 
-kept-run : (s : State) (p : Payments) (past cs : List Call) → Kept s p past → Accepted s cs → Kept (run s cs) (paymentsFrom s p cs) (past ++ cs)
+kept-run : (s : State) (p : Payments) (past cs : List Call) → Kept s p past → Accepted s cs → Kept (run s cs) (paymentsFrom p cs) (past ++ cs)
 unfolding run paymentsFrom Accepted
 kept-run s p past [] kept h = rw append-nil kept
 kept-run s p past (c ∷ cs) kept h =
-    rw append-snoc at (kept-run (step s c) (withCall s p c) (past ++ (c ∷ [])) cs (kept-step s p past c kept (h .0)) (h .1))
+    rw append-snoc at (kept-run (step s c) (withCall p c) (past ++ (c ∷ [])) cs (kept-step s p past c kept (h .0)) (h .1))
 
 pub all-same : {A : Type 0} (n k : ℕ) (a : A) → getD (replicate n a) k a ≡ a
 all-same zero k a = refl

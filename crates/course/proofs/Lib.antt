@@ -10,6 +10,6 @@ pub mod Lanes
 pub mod Runs
 pub mod Payment
 pub mod Kept
-pub mod Book
+pub mod DayBook
 pub mod Order
 pub mod Net
