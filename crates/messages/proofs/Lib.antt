@@ -9,3 +9,5 @@ pub mod FieldBytes
 pub mod FieldShort
 pub mod MessageBytes
 pub mod MessageShort
+pub mod DigitLaws
+pub mod Numbers

@@ -1,0 +1,3 @@
+-- The laws of the course, by subject.
+pub mod Commands
+pub mod LastSale
