@@ -1,3 +1,4 @@
 -- The laws of the course, by subject.
+pub mod Calls
 pub mod Commands
 pub mod LastSale
