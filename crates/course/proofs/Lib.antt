@@ -2,3 +2,5 @@
 pub mod Calls
 pub mod Commands
 pub mod LastSale
+pub mod Amounts
+pub mod Memory
