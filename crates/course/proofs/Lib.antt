@@ -4,3 +4,5 @@ pub mod Commands
 pub mod LastSale
 pub mod Amounts
 pub mod Memory
+pub mod Opening
+pub mod Sums

@@ -154,7 +154,7 @@ moveOf d c = moves (laneFor d c) (linesOfDesk d) c
 pub record Taken (d : Desk) (c : Call) (room : ℕ) : Type 0 where
   pub lane : laneOf c < 8
   pub passes : Passes (moveOf d c)
-  pub place : Roomy d (laneOf c)
+  pub few : opens c && leb 64 (load (view d)) ≡ false
   pub fits : length (writes (laneFor d c) c) ≤ room
 
 no-refusal : (m : Moved) (x : Decision) → unlessRefused m x ≡ accept → Passes m × (x ≡ accept)
@@ -169,9 +169,9 @@ no-pick true n x e = let z : _≡_ {A = ℕ} 0 1 = cc in absurd (omega arith)
 no-pick false n x e = (refl, e)
 
 module _ (d : Desk) (c : Call) (room : ℕ) where
-  pub taken : Valid d → decide (view d) c room ≡ accept → Taken d c room
+  pub taken : decide (view d) c room ≡ accept → Taken d c room
   unfolding decide view
-  taken v e =
+  taken e =
       let a = no-pick (leb 8 (laneOf c)) 12 _ e in
       let b = no-refusal (moveOf d c) _ (a .1) in
       let f = no-pick (opens c && leb 64 (load (view d))) 18 _ (b .1) in
@@ -179,13 +179,16 @@ module _ (d : Desk) (c : Call) (room : ℕ) where
       record {
         lane = leb-false 8 (laneOf c) (a .0);
         passes = b .0;
-        place = roomy (opens c) refl (f .0) (b .0);
+        few = f .0;
         fits = ltb-false room (length (writes (laneFor d c) c)) (g .0);
       }
+
+  taken-roomy : Valid d → Taken d c room → Roomy d (laneOf c)
+  taken-roomy v t = go (opens c) refl (t .few)
     where
-      roomy : (o : Bool) → opens c ≡ o → o && leb 64 (load (view d)) ≡ false → Passes (moveOf d c) → Roomy d (laneOf c)
-      roomy true o e p = omega (arith, leb-false 64 (load (view d)) e, load-is d v)
-      roomy false o e p = omega (arith, v .room, place-open (laneFor d c) (later (laneFor d c) (linesOfDesk d) c o p .0))
+      go : (o : Bool) → opens c ≡ o → o && leb 64 (load (view d)) ≡ false → Roomy d (laneOf c)
+      go true o e = omega (arith, leb-false 64 (load (view d)) e, load-is d v)
+      go false o e = omega (arith, v .room, place-open (laneFor d c) (later (laneFor d c) (linesOfDesk d) c o (t .passes) .0))
 
   -- ---- an answer
 
@@ -201,8 +204,8 @@ module _ (d : Desk) (c : Call) (room : ℕ) where
   pub follows : Valid d → decide (view d) c room ≡ accept → view (answerOf d c room .desk) ≡ step (view d) c
   unfolding step view
   follows v e =
-      let t = taken v e in
-      ap (λ (a : Answer). view (a .desk)) (accepted-answer e) ∙ moved-view d v (laneOf c) (t .lane) (t .place) (moveOf d c)
+      let t = taken e in
+      ap (λ (a : Answer). view (a .desk)) (accepted-answer e) ∙ moved-view d v (laneOf c) (t .lane) (taken-roomy v t) (moveOf d c)
 
   pub answer-valid : Valid d → NumbersFit c → Valid (answerOf d c room .desk)
   unfolding refusedAnswer
@@ -211,10 +214,10 @@ module _ (d : Desk) (c : Call) (room : ℕ) where
       go : (x : Decision) → decide (view d) c room ≡ x → Valid (answerOf d c room .desk)
       go (refuse k) e = rw (refused-same k e) v
       go accept e =
-          let t = taken v e in
+          let t = taken e in
           let i = laneOf c in
           rw (accepted-answer e)
-          (moved-valid d v i (t .lane) (t .place) (moveOf d c)
+          (moved-valid d v i (t .lane) (taken-roomy v t) (moveOf d c)
           (moves-fit (laneFor d c) (linesOfDesk d) c (v .asked i, v .told i) (take-all-fit (d .book .count) (d .book .lines) (v .settled)) n))
 
   -- every other lane stays as it was
