@@ -1,5 +1,10 @@
 -- The laws of the course, by subject.
 pub mod Calls
+pub mod Lanes
+pub mod Runs
+pub mod Payment
+pub mod Kept
+pub mod Book
 pub mod Commands
 pub mod LastSale
 pub mod Amounts
