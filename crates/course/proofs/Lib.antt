@@ -4,7 +4,9 @@ pub mod Lanes
 pub mod Runs
 pub mod Payment
 pub mod Kept
-pub mod Book
+pub mod BookLaws
+pub mod Order
+pub mod Net
 pub mod Commands
 pub mod LastSale
 pub mod Amounts

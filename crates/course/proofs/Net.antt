@@ -9,7 +9,7 @@ use Rattle.course.specs.Course.{Call}
 use Rattle.course.specs.Desk.{fresh, Accepted, run}
 use Rattle.course.specs.Payments.{paymentsOf, linesOf}
 use Rattle.course.specs.Turnover.{gains, losses, netOf}
-use Rattle.course.proofs.Book.{book}
+use Rattle.course.proofs.BookLaws.{book}
 
 pub turnover : (cs : List Call) → Accepted fresh cs
     → netOf (run fresh cs .lines) ≡ pos (gains (linesOf [] (paymentsOf cs .ended))) -ℤ pos (losses (linesOf [] (paymentsOf cs .ended)))

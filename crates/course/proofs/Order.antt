@@ -17,7 +17,7 @@ use Rattle.course.proofs.Lanes.{having, having-append, callsOf, Own, ow
 use Rattle.course.proofs.Runs.{run-append, lanes-run, count, alone, AcceptedAlone, repliesTo, repliesAlone, run-alone, replies-alone, accepted-alone, accepted-from}
 use Rattle.course.proofs.Payment.{Brings, idle-again}
 use Rattle.course.proofs.Kept.{Blocks, all-same, kept}
-use Rattle.course.proofs.Book.{book, openings-same}
+use Rattle.course.proofs.BookLaws.{book, openings-same}
 
 -- ---- the calls of a lane are the same, in the same order
 
