@@ -10,3 +10,5 @@ pub mod FieldShort
 pub mod MessageBytes
 pub mod MessageShort
 pub mod DigitLaws
+pub mod Numbers
+pub mod Told
