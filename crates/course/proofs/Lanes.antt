@@ -158,18 +158,18 @@ pub record Told (s : State) (c : Call) : Type 0 where
   pub moved : Passes (moves (laneAt (s .lanes) (laneOf c)) (s .lines) c)
   pub room : opens c ≡ true → load s < 64
 
-not-refused : (t : Bool) (n : ℕ) (d : Decision) → pick t (refuse n) d ≡ accept → (t ≡ false) × (d ≡ accept)
+pub not-refused : (t : Bool) (n : ℕ) (d : Decision) → pick t (refuse n) d ≡ accept → (t ≡ false) × (d ≡ accept)
 not-refused true n d e = let z : _≡_ {A = ℕ} 0 1 = cc in absurd (omega arith)
 not-refused false n d e = (refl, e)
 
-passed : (m : Moved) (d : Decision) → unlessRefused m d ≡ accept → Passes m × (d ≡ accept)
+pub passed : (m : Moved) (d : Decision) → unlessRefused m d ≡ accept → Passes m × (d ≡ accept)
 unfolding unlessRefused
 passed (Refused r) d e = let z : _≡_ {A = ℕ} 0 1 = cc in absurd (omega arith)
 passed Stays d e = (tt, e)
 passed (Becomes l) d e = (tt, e)
 passed (Ends outcome settled code) d e = (tt, e)
 
-passing : (m : Moved) (d : Decision) → Passes m → unlessRefused m d ≡ d
+pub passing : (m : Moved) (d : Decision) → Passes m → unlessRefused m d ≡ d
 unfolding unlessRefused
 passing (Refused r) d h = absurd h
 passing Stays d h = refl

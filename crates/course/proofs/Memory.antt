@@ -22,9 +22,10 @@ use Rattle.course.specs.declared.Answer.{Answer}
 use Rattle.course.specs.declared.Reply.the-variants.{Written}
 use Rattle.course.specs.Lanes.{blankLine, idleLane, lineAt}
 use Rattle.course.specs.Course.{isIdle, Call, laneOf, opens, moves, writes}
-use Rattle.course.specs.Desk.{fresh, laneAt, place, places, load, Decision, refuse, accept, unlessRefused, decide, laneAfter, linesFrom, step}
+use Rattle.course.specs.Desk.{fresh, laneAt, place, places, load, Decision, refuse, accept, decide, laneAfter, linesFrom, step}
 use Rattle.course.specs.Memory.{freshDesk, linesOfDesk, view, toldSmall, Valid, withLine, endedDesk, movedDesk, refusedAnswer, answerBy, answerOf, leavesBy, leavesOf, closeAnswer}
 use Rattle.course.proofs.Calls.{Passes, later}
+use Rattle.course.proofs.Lanes.{total-set, places-total, not-refused, passed}
 use Rattle.course.proofs.Amounts.{Small, LaneFits, LinesFit, Fits, NumbersFit, moves-fit}
 
 -- ---- lists
@@ -73,10 +74,7 @@ place-in (l ∷ ls) zero = omega arith
 place-in (l ∷ ls) (suc i) = omega (arith, place-in ls i)
 
 pub places-set : (ls : List Lane) (i : ℕ) (l : Lane) → i < length ls → places (set ls i l) + place (getD ls i idleLane) ≡ places ls + place l
-unfolding places
-places-set [] i l h = absurd (omega arith)
-places-set (x ∷ ls) zero l h = omega arith
-places-set (x ∷ ls) (suc i) l h = omega (arith, places-set ls i l (omega arith))
+places-set ls i l h = simp places-total (total-set place ls i l idleLane h)
 
 -- ---- what every desk is
 
@@ -157,25 +155,14 @@ pub record Taken (d : Desk) (c : Call) (room : ℕ) : Type 0 where
   pub few : opens c && leb 64 (load (view d)) ≡ false
   pub fits : length (writes (laneFor d c) c) ≤ room
 
-no-refusal : (m : Moved) (x : Decision) → unlessRefused m x ≡ accept → Passes m × (x ≡ accept)
-unfolding unlessRefused
-no-refusal (Refused r) x e = let z : _≡_ {A = ℕ} 0 1 = cc in absurd (omega arith)
-no-refusal Stays x e = (tt, e)
-no-refusal (Becomes l) x e = (tt, e)
-no-refusal (Ends outcome settled code) x e = (tt, e)
-
-no-pick : (b : Bool) (n : ℕ) (x : Decision) → pick b (refuse n) x ≡ accept → (b ≡ false) × (x ≡ accept)
-no-pick true n x e = let z : _≡_ {A = ℕ} 0 1 = cc in absurd (omega arith)
-no-pick false n x e = (refl, e)
-
 module _ (d : Desk) (c : Call) (room : ℕ) where
   pub taken : decide (view d) c room ≡ accept → Taken d c room
   unfolding decide view
   taken e =
-      let a = no-pick (leb 8 (laneOf c)) 12 _ e in
-      let b = no-refusal (moveOf d c) _ (a .1) in
-      let f = no-pick (opens c && leb 64 (load (view d))) 18 _ (b .1) in
-      let g = no-pick (ltb room (length (writes (laneFor d c) c))) 11 _ (f .1) in
+      let a = not-refused (leb 8 (laneOf c)) 12 _ e in
+      let b = passed (moveOf d c) _ (a .1) in
+      let f = not-refused (opens c && leb 64 (load (view d))) 18 _ (b .1) in
+      let g = not-refused (ltb room (length (writes (laneFor d c) c))) 11 _ (f .1) in
       record {
         lane = leb-false 8 (laneOf c) (a .0);
         passes = b .0;

@@ -24,11 +24,12 @@ use Rattle.course.specs.Numbers.{amountOk, receiptOk, passwordOk}
 use Rattle.course.specs.Lanes.{waitingLane}
 use Rattle.course.specs.Commands.{saleBytes, refundBytes, reversalBytes}
 use Rattle.course.specs.Course.{no, isIdle, heard, lostBy, isApproved, isSale, lastLine, Ask, openedBy, Call, sale, refund, reversal, message, lost, laneOf, opens, moves, answered, writes}
-use Rattle.course.specs.Desk.{laneAt, place, places, load, Decision, refuse, accept, unlessRefused, decide}
+use Rattle.course.specs.Desk.{laneAt, place, places, load, refuse, accept, unlessRefused, decide}
 use Rattle.course.specs.Memory.{linesOfDesk, view, Valid, movedDesk, refusedAnswer, answerOf, leavesOf, openingNumber, openAnswer, openLeaves}
 use Rattle.course.specs.Payments.{askOf}
 use Rattle.course.proofs.Moved.{the-type}
 use Rattle.course.proofs.Calls.{Passes, askedFor, opened}
+use Rattle.course.proofs.Lanes.{passing}
 use Rattle.course.proofs.Memory.{place-idle, place-open, place-in, load-is, laneFor, moveOf, taken, refused-same, accepted-answer, refused-leaves, accepted-leaves}
 
 -- ---- the number of an opening: 12, 13, 16, 17, 18, 11, or 0 for none
@@ -207,14 +208,6 @@ module _ (d : Desk) (i password receipt : ℕ) where
 
 -- ---- any other call, by its tests: 12, what the lane refuses, 11
 
--- a call that is not refused goes on
-passes-on : (m : Moved) (x : Decision) → Passes m → unlessRefused m x ≡ x
-unfolding unlessRefused
-passes-on (Refused r) x p = absurd p
-passes-on Stays x p = refl
-passes-on (Becomes l) x p = refl
-passes-on (Ends outcome settled code) x p = refl
-
 -- by the variant, as code that has ruled out the first one knows it
 pub passes-tag : (m : Moved) → OneOf (1 ∷ 2 ∷ 3 ∷ []) (tagOf the-type m) → Passes m
 passes-tag (Refused r) (inl e) = absurd (omega arith)
@@ -237,11 +230,11 @@ module _ (d : Desk) (c : Call) (room : ℕ) where
     module _ (o : opens c ≡ false) (p : Passes (moveOf d c)) where
       pub no-room : room < length (writes (laneFor d c) c) → decide (view d) c room ≡ refuse 11
       unfolding decide view
-      no-room k = rw (lt-leb 8 (laneOf c) h, passes-on (moveOf d c) _ p, o, lt-ltb room (length (writes (laneFor d c) c)) k)
+      no-room k = rw (lt-leb 8 (laneOf c) h, passing (moveOf d c) _ p, o, lt-ltb room (length (writes (laneFor d c) c)) k)
 
       pub goes-on : length (writes (laneFor d c) c) ≤ room → decide (view d) c room ≡ accept
       unfolding decide view
-      goes-on k = rw (lt-leb 8 (laneOf c) h, passes-on (moveOf d c) _ p, o, le-ltb room (length (writes (laneFor d c) c)) k)
+      goes-on k = rw (lt-leb 8 (laneOf c) h, passing (moveOf d c) _ p, o, le-ltb room (length (writes (laneFor d c) c)) k)
 
 -- refused with a number: desk and output as they were
 abbrev pub RefusedWith : Desk → Call → List ℕ → ℕ → Type 0
