@@ -9,7 +9,7 @@ use native.Mathlib.Omega.{arith}
 use lib.ListN.{length, getD, set, take, drop, replicate, length-set}
 use lib.Seq.{length-take-le, set-getD, take-suc-set, getD-set-other}
 use lib.Dec.{ltb, leb, eqb}
-use borrow.Author.Tests.{leb-false, ltb-false, eqb-true}
+use borrow.Author.Tests.{leb-false, ltb-false}
 use Rattle.messages.specs.Reading.{pick}
 use Rattle.messages.proofs.Readings.{pick-test}
 use Rattle.course.specs.declared.Lane.{Lane}
@@ -238,15 +238,4 @@ view-fresh = refl
 
 pub close-valid : (d : Desk) → Valid d → Valid (closeAnswer d .desk)
 unfolding closeAnswer refusedAnswer
-close-valid d v =
-    pick-test (λ (a : Answer). Valid (a .desk)) (eqb (places (d .lanes)) 0)
-    (λ e.
-    record {
-      lanes = v .lanes;
-      lines = fresh-valid .lines;
-      room = omega (arith, eqb-true (places (d .lanes)) 0 e);
-      asked = v .asked;
-      told = v .told;
-      settled = fresh-valid .settled;
-    })
-    (λ _. v)
+close-valid d v = pick-test (λ (a : Answer). Valid (a .desk)) (eqb (places (d .lanes)) 0) (λ _. fresh-valid) (λ _. v)
