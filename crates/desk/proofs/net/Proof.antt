@@ -1,6 +1,6 @@
 -- `desk::net` meets its contract. Assumes nothing.
-use Prim.Native.Nat.{_≤_, _<_, _-_, _^_}
 use mathlib.Core.Path.{_≡_, _∙_}
+use Prim.Native.Nat.{_≤_, _<_, _-_, _^_}
 use native.Mathlib.Omega.{arith}
 use lib.ListN.{getD, take}
 use mir.Facts.{toZ-ofZ}
@@ -13,6 +13,7 @@ use Rattle.desk.proofs.DeskLaws.{signed, difference-fits}
 use Rattle.desk.proofs.net.Statement.{statement}
 use Rattle.desk.proofs.net.Tie as tie
 
+-- plus and minus are the gains and losses of the first i lines
 abbrev Inv-loop : tie.InvT-loop
 Inv-loop book count plus₀ minus₀ i₀ plus minus i = (i ≤ count) × (plus ≡ gains (take i (book .lines))) × (minus ≡ losses (take i (book .lines)))
 

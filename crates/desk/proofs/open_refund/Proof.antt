@@ -1,6 +1,8 @@
 -- `desk::open_refund` meets its contract. Assumes nothing.
-use mathlib.Core.Path.{_∙_}
+use mathlib.Core.Path.{_≡_, _∙_}
+use mathlib.Core.Bool.{_&&_}
 use lib.ListN.{length}
+use Rattle.course.specs.Numbers.{amountOk, passwordOk}
 use Rattle.course.proofs.Opening.{refund-open, refund-leaves}
 use borrow.Author.Needs.{needs}
 use Rattle.desk.proofs.open_refund.Statement.{statement}
@@ -33,15 +35,16 @@ same-length c = search needs
 returns : tie.Need-returns
 returns c =
     let o = c .before .before in
-    let w = o .before .before .before in
-    let b = w .before .before in
-    let a = b .before .before .before .before .args in (
+    let l = o .before .before .before in
+    let b = l .before .before in
+    let a = b .before .before .before .before .args in
+    let w : b .both .result ≡ (passwordOk (a .password) && amountOk (a .amount)) =
+    b .both .ensures ∙ rw (b .before .before .password-ok .ensures, b .before .amount-ok .ensures) in (
       o .«open» .ensures .0
-          ∙ rw (b .both .ensures, b .before .before .password-ok .ensures, b .before .amount-ok .ensures, w .before .refund-bytes .ensures, w .waiting .ensures)
+          ∙ rw (w, l .before .refund-bytes .ensures, l .waiting .ensures)
           (refund-open (a .desk) (a .lane) (a .amount) (a .password) (length (a .out .now))),
       o .«open» .ensures .1
-          ∙ rw (b .both .ensures, b .before .before .password-ok .ensures, b .before .amount-ok .ensures, w .before .refund-bytes .ensures)
-          (refund-leaves (a .desk) (a .lane) (a .amount) (a .password) (a .out .now)),
+          ∙ rw (w, l .before .refund-bytes .ensures) (refund-leaves (a .desk) (a .lane) (a .amount) (a .password) (a .out .now)),
     )
 
 pub open-refund-spec : {M : Type 1} → statement M

@@ -1,5 +1,5 @@
 -- `desk::terminal` meets its contract. Assumes nothing.
-use mathlib.Core.Path.{_≡_, sym, _∙_}
+use mathlib.Core.Path.{sym, _∙_}
 use Prim.Native.Nat.{_<_}
 use Rattle.course.specs.Course.{heard}
 use Rattle.course.specs.Desk.{laneAt}

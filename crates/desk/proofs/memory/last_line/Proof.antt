@@ -1,7 +1,7 @@
 -- `desk::memory::last_line` meets its contract. Assumes nothing.
-use Prim.Native.Nat.{_≤_, _<_, _-_}
 use mathlib.Core.Path.{_≡_, sym, _∙_}
 use mathlib.Core.Logic.{⊎-elim}
+use Prim.Native.Nat.{_≤_, _<_, _-_}
 use native.Mathlib.Omega.{arith}
 use lib.ListN.{length, getD, take}
 use Rattle.course.specs.Lanes.{blankLine}
@@ -10,6 +10,7 @@ use Rattle.course.proofs.Sums.{last-take}
 use Rattle.desk.proofs.memory.last_line.Statement.{statement}
 use Rattle.desk.proofs.memory.last_line.Tie as tie
 
+-- last is the last line among the first i
 abbrev Inv-loop : tie.InvT-loop
 Inv-loop lane receipt b count last₀ i₀ last i = (i ≤ count) × (last ≡ lastLine lane receipt (take i (b .lines)))
 

@@ -1,6 +1,6 @@
 -- `desk::memory::places_in` meets its contract. Assumes nothing.
-use Prim.Native.Nat.{_≤_, _-_}
 use mathlib.Core.Path.{_≡_, _∙_, ap}
+use Prim.Native.Nat.{_≤_, _-_}
 use native.Mathlib.Omega.{arith}
 use lib.ListN.{take}
 use lib.Seq.{take-all}
@@ -10,6 +10,7 @@ use Rattle.course.proofs.Sums.{places-take, places-most}
 use Rattle.desk.proofs.memory.places_in.Statement.{statement}
 use Rattle.desk.proofs.memory.places_in.Tie as tie
 
+-- n is the places of the first i lanes
 abbrev Inv-loop : tie.InvT-loop
 Inv-loop d n₀ i₀ n i = (i ≤ 8) × (n ≡ places (take i (d .lanes)))
 
