@@ -180,18 +180,18 @@ module _ (d : Desk) (i amount : ℕ) where
   unfolding opens laneOf askOf
   sale-leaves = open-leaves d (sale i amount) refl
 
-  module _ (password : ℕ) where
-    pub refund-open : (room : ℕ)
-        → openAnswer d i (passwordOk password && amountOk amount) true (waitingLane Refund amount 0) (refundBytes password amount) room
-        ≡ answerOf d (refund i password amount) room
-    unfolding opens laneOf askOf
-    refund-open = open-answer d (refund i password amount) refl
+module _ (d : Desk) (i password amount : ℕ) where
+  pub refund-open : (room : ℕ)
+      → openAnswer d i (passwordOk password && amountOk amount) true (waitingLane Refund amount 0) (refundBytes password amount) room
+      ≡ answerOf d (refund i password amount) room
+  unfolding opens laneOf askOf
+  refund-open = open-answer d (refund i password amount) refl
 
-    pub refund-leaves : (out : List ℕ)
-        → openLeaves d i (passwordOk password && amountOk amount) true (refundBytes password amount) out
-        ≡ leavesOf d (refund i password amount) out
-    unfolding opens laneOf askOf
-    refund-leaves = open-leaves d (refund i password amount) refl
+  pub refund-leaves : (out : List ℕ)
+      → openLeaves d i (passwordOk password && amountOk amount) true (refundBytes password amount) out
+      ≡ leavesOf d (refund i password amount) out
+  unfolding opens laneOf askOf
+  refund-leaves = open-leaves d (refund i password amount) refl
 
 module _ (d : Desk) (i password receipt : ℕ) where
   pub reversal-open : (room : ℕ) → let last = lastLine i receipt (linesOfDesk d) in
