@@ -42,9 +42,9 @@ returns c =
     b .both .ensures ∙ rw (b .before .before .password-ok .ensures, b .before .amount-ok .ensures) in (
       o .«open» .ensures .0
           ∙ rw (w, l .before .refund-bytes .ensures, l .waiting .ensures)
-          (refund-open (a .desk) (a .lane) (a .amount) (a .password) (length (a .out .now))),
+          (refund-open (a .desk) (a .lane) (a .password) (a .amount) (length (a .out .now))),
       o .«open» .ensures .1
-          ∙ rw (w, l .before .refund-bytes .ensures) (refund-leaves (a .desk) (a .lane) (a .amount) (a .password) (a .out .now)),
+          ∙ rw (w, l .before .refund-bytes .ensures) (refund-leaves (a .desk) (a .lane) (a .password) (a .amount) (a .out .now)),
     )
 
 pub open-refund-spec : {M : Type 1} → statement M
