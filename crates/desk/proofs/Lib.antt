@@ -1,2 +1,3 @@
--- Laws that the proofs of the desk's functions share.
+-- The laws that the proofs of the functions cite, by subject.
+pub mod HearLaws
 pub mod DeskLaws
