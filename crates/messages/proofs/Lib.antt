@@ -11,3 +11,4 @@ pub mod MessageBytes
 pub mod MessageShort
 pub mod DigitLaws
 pub mod Numbers
+pub mod Told

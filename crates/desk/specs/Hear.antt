@@ -1,0 +1,54 @@
+-- What the steps of hearing a message answer. Definitions only.
+use mathlib.Core.Path.{_≡_}
+use Prim.Native.Nat.{ℕ, _+_, _*_}
+use mathlib.Core.Bool.{Bool, false}
+use mathlib.Core.List.{List, [], _∷_, _++_}
+use lib.ListN.{length, getD, drop}
+use lib.Dec.{eqb}
+use Rattle.messages.specs.Reading.{pick, among}
+use Rattle.messages.specs.Message.{Header as MessageHeader}
+use Rattle.messages.specs.Values.{statusOf}
+use Rattle.messages.specs.declared.Status.{Status}
+use Rattle.zvt.specs.Answers.{readAnswer}
+use Rattle.zvt.specs.declared.Header.{Header}
+use Rattle.zvt.specs.declared.Message.{Message}
+use Rattle.zvt.specs.declared.ReadAnswer.the-variants.{Accepted}
+use Rattle.course.specs.declared.Lane.{Lane}
+use Rattle.course.specs.declared.Moved.{Moved}
+use Rattle.course.specs.declared.Moved.the-variants.{Stays, Ends}
+use Rattle.course.specs.declared.Outcome.the-variants.{Declined}
+use Rattle.course.specs.Commands.{replyBytes}
+use Rattle.course.specs.Course.{no, runningPairs, heardWaiting, heardRunning, completedBy, reportedBy}
+
+-- the bytes were read as that message
+unfoldable pub ReadIn : Message → List ℕ → Type 0
+ReadIn m s = readAnswer s ≡ Accepted m
+
+-- a header by its pair and its body's length
+unfoldable pub headerBy : Header → MessageHeader
+headerBy h = record { class = h .class; instruction = h .instruction; long = false; size = h .length }
+
+unfoldable pub inCourse : ℕ → ℕ → Bool
+inCourse class instruction = among runningPairs (class * 256 + instruction)
+
+unfoldable pub waitingMoved : Lane → Header → Moved
+waitingMoved l h = heardWaiting l (headerBy h)
+
+unfoldable pub runningMoved : Lane → Header → List ℕ → Moved
+runningMoved l h s = heardRunning l s (headerBy h)
+
+unfoldable pub abortedIn : Message → List ℕ → Moved
+abortedIn m s = pick (eqb (m .length) 0) (no 1) (Ends Declined 0 (getD s (m .start) 0))
+
+unfoldable pub reportedAs : Lane → Status → Moved
+reportedAs l status = reportedBy l status (status .code)
+
+unfoldable pub movedAs : Lane → Message → List ℕ → Moved
+movedAs l m s =
+    pick (eqb (m .class) 0x06)
+    (pick (eqb (m .instruction) 0x0F) (completedBy l (l .status .code)) (pick (eqb (m .instruction) 0x1E) (abortedIn m s) Stays))
+    (pick (eqb (m .instruction) 0x0F) (reportedAs l (statusOf s)) Stays)
+
+-- what a reply of so many bytes leaves in the output
+unfoldable pub replied : ℕ → List ℕ → List ℕ
+replied size out = pick (eqb size 3) (replyBytes ++ drop 3 out) out

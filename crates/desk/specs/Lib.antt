@@ -1,0 +1,2 @@
+-- What the steps behind the desk's functions answer. The functions' own answers stand in crate course, specs/Memory.antt.
+pub mod Hear
