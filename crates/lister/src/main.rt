@@ -18,7 +18,7 @@ fn list(s: &[u8]) {
     let mut out = [0u8; LINE];
     let mut at: usize = 0;
     for listed in 0..LINES {
-        match listing::line(&s[at..], listed, &mut out) {
+        match listing::next_line(&s[at..], listed, &mut out) {
             Line::Last(size) => {
                 print(size, &mut out);
                 return;
