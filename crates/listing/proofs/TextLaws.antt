@@ -6,7 +6,7 @@ use Prim.Native.Nat.{ℕ, zero, suc, _+_, _-_, _*_, _/_, _%_, _^_, _≤_, _<_}
 use native.Mathlib.Nat.{mod-eq-of-lt, div-lt-iff-lt-mul, le-div-iff-mul-le, pow-suc, one-le-pow, mod-lt}
 use native.Mathlib.Numerals.{add-one}
 use native.Mathlib.Omega.{arith}
-use borrow.Author.Tests.{lt-ltb, le-ltb}
+use borrow.Author.Tests.{lt-ltb, le-ltb, ltb-true}
 use lib.ListN.{length, drop, set, getD, length-set, drop-of-length-le}
 use lib.Seq.{drop-cons}
 use lib.Dec.{ltb}
@@ -51,6 +51,24 @@ pub write-room : (w : List ℕ) (t : Text) → length ((write w t) .bytes) ≡ l
 unfolding write one
 write-room [] t = refl
 write-room (b ∷ w) t = write-room w (one b t) ∙ one-room b t
+
+one-in : (b : ℕ) (t : Text) → t .at ≤ length (t .bytes) → (one b t) .at ≤ length ((one b t) .bytes)
+unfolding one
+one-in b t h = go (ltb (t .at) (length (t .bytes))) refl
+  where
+    go : (x : Bool) → ltb (t .at) (length (t .bytes)) ≡ x
+        → (pick x (text (t .at + 1) (set (t .bytes) (t .at) b)) t) .at ≤ length ((pick x (text (t .at + 1) (set (t .bytes) (t .at) b)) t) .bytes)
+    go true e = omega (arith, ltb-true (t .at) (length (t .bytes)) e, length-set (t .bytes) (t .at) b)
+    go false e = h
+
+write-in : (w : List ℕ) (t : Text) → t .at ≤ length (t .bytes) → (write w t) .at ≤ length ((write w t) .bytes)
+unfolding write
+write-in [] t h = h
+write-in (b ∷ w) t h = write-in w (one b t) (one-in b t h)
+
+pub written-in : (w : List ℕ) (at : ℕ) (entry : List ℕ) (r : ℕ) (exit : List ℕ) → text r exit ≡ write w (text at entry) → at ≤ length entry → r ≤ length exit
+written-in w at entry r exit e h =
+    omega (arith, write-in w (text at entry) h, ap (λ (t : Text). t .at) e, ap (λ (t : Text). length (t .bytes)) e)
 
 pub write-none : (v : List ℕ) (i : ℕ) (t : Text) → length v ≤ i → write (drop i v) t ≡ t
 unfolding write

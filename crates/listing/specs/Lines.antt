@@ -1,5 +1,5 @@
 -- Document 01, end of 'Both sides of each edge': the lines that the lister prints. Definitions only.
-use Prim.Native.Nat.{ℕ, _+_}
+use Prim.Native.Nat.{ℕ, _+_, _≤_}
 use mathlib.Core.Path.{_≡_}
 use mathlib.Core.Bool.{Bool, true, false}
 use mathlib.Core.List.{List, [], _∷_, _++_}
@@ -80,6 +80,11 @@ asLine size (last w) = Last size
 pub record Shown (n : Next) (entry : List ℕ) (r : Line) (exit : List ℕ) : Type 0 where
   pub answer : r ≡ asLine ((write (lineText n) (text 0 entry)) .at) n
   pub left : exit ≡ (write (lineText n) (text 0 entry)) .bytes
+
+-- the text lies in the buffer, and the message, which is not empty, in the input
+unfoldable pub Bounded : List ℕ → List ℕ → Line → Type 0
+Bounded s exit (message-line size next) = (size ≤ length exit) × (1 ≤ next) × (next ≤ length s) × (length s ≤ 65536)
+Bounded s exit (Last size) = size ≤ length exit
 
 -- the same text by what the reader answers: a message, and the fields of a list
 unfoldable pub listedText : List Listed → List ℕ

@@ -12,7 +12,7 @@ ghost use mathlib.Core.Path.{_≡_};
 ghost use Rattle.zvt.specs.List.{listedMessage};
 ghost use Rattle.messages.specs.Message.{readOf};
 ghost use Rattle.listing.specs.Text.{text, write};
-ghost use Rattle.listing.specs.Lines.{listedText, startText, sizeText, readText, endText, okText, refusedText, nextOf, Shown};
+ghost use Rattle.listing.specs.Lines.{listedText, startText, sizeText, readText, endText, okText, refusedText, nextOf, Shown, Bounded};
 
 // An input of more bytes is refused before its first message.
 pub const LIMIT: usize = 65536;
@@ -98,7 +98,8 @@ fn refused_line(count: u64, number: u8, out: &mut [u8]) -> usize
 
 // The line of the message that the rest of an input begins with, after count messages; or the last line.
 pub fn next_line(rest: &[u8], count: u32, out: &mut [u8]) -> Line
-    ensures { λ r. ⌜ Shown (nextOf count (now (rest .entry))) (now (out .entry)) r (now (out .exit)) ⌝ }
+    ensures text { λ r. ⌜ Shown (nextOf count (now (rest .entry))) (now (out .entry)) r (now (out .exit)) ⌝ }
+    ensures bounds { λ r. ⌜ Bounded (now (rest .entry)) (now (out .exit)) r ⌝ }
 {
     let listed = count as u64;
     if LIMIT < rest.len() {

@@ -3,6 +3,7 @@ use mathlib.Core.Path.{sym, _∙_}
 use native.Mathlib.Omega.{arith}
 use lib.Seq.{length-take-le}
 use Rattle.zvt.proofs.Slices.{bytes-of}
+use Rattle.listing.proofs.ShownLaws.{shown-so}
 use Rattle.listing.proofs.NextLaws.{shown-last, shown-message, next-over, next-none, next-refused, next-within, next-message}
 use borrow.Author.Needs.{needs}
 use Rattle.listing.proofs.next_line.Statement.{statement}
@@ -21,7 +22,7 @@ same-length : tie.Need-same-length
 same-length c = search needs
 
 returns : tie.Need-returns
-returns c = shown-last _ _ _ _ _ (next-over _ _ (omega arith)) (c .before .before .refused-line .ensures)
+returns c = shown-so _ _ _ _ _ (c .before .before .before .before .before .before .shared-slice-known .given) (shown-last _ _ _ _ _ (next-over _ _ (omega arith)) (c .before .before .refused-line .ensures))
 
 ok-line-requires : tie.Need-ok-line-requires
 ok-line-requires c κs = search needs
@@ -30,7 +31,7 @@ same-length-2 : tie.Need-same-length-2
 same-length-2 c = search needs
 
 returns-2 : tie.Need-returns-2
-returns-2 c = shown-last _ _ _ _ _ (next-none _ _ (omega arith)) (c .before .before .ok-line .ensures)
+returns-2 c = shown-so _ _ _ _ _ (c .before .before .before .before .before .before .before .shared-slice-known .given) (shown-last _ _ _ _ _ (next-none _ _ (omega arith)) (c .before .before .ok-line .ensures))
 
 read-first-requires : tie.Need-read-first-requires
 read-first-requires c κs = search needs
@@ -57,13 +58,13 @@ same-length-3 : tie.Need-same-length-3
 same-length-3 c = search needs
 
 returns-3 : tie.Need-returns-3
-returns-3 c = shown-last _ _ _ _ _ (next-refused _ _ (omega arith) (λ k. omega arith) _ (sym (c .before .before .before .before .before .before .before .read-first .ensures) ∙ c .before .before .before .before .before .f .given .1)) (c .before .before .refused-line2 .ensures)
+returns-3 c = shown-so _ _ _ _ _ (c .before .before .before .before .before .before .before .before .before .before .before .shared-slice-known .given) (shown-last _ _ _ _ _ (next-refused _ _ (omega arith) (λ k. omega arith) _ (sym (c .before .before .before .before .before .before .before .read-first .ensures) ∙ c .before .before .before .before .before .f .given .1)) (c .before .before .refused-line2 .ensures))
 
 same-length-4 : tie.Need-same-length-4
 same-length-4 c = search needs
 
 returns-4 : tie.Need-returns-4
-returns-4 c = shown-message _ _ _ _ _ _ (next-message _ (bytes-of _ (c .before .before .before .before .before .before .before .before .before .before .before .before .shared-slice-known .given)) _ _ (sym (c .before .before .before .before .before .before .before .before .read-first .ensures) ∙ c .before .before .before .before .before .before .m .given .1) _ (omega arith) (λ k. omega arith)) (c .before .before .message-line .ensures)
+returns-4 c = shown-so _ _ _ _ _ (c .before .before .before .before .before .before .before .before .before .before .before .before .shared-slice-known .given) (shown-message _ _ _ _ _ _ (next-message _ (bytes-of _ (c .before .before .before .before .before .before .before .before .before .before .before .before .shared-slice-known .given)) _ _ (sym (c .before .before .before .before .before .before .before .before .read-first .ensures) ∙ c .before .before .before .before .before .before .m .given .1) _ (omega arith) (λ k. omega arith)) (c .before .before .message-line .ensures))
 
 pub next-line-spec : {M : Type 1} → statement M
 next-line-spec =
