@@ -4,3 +4,8 @@ pub mod ObjectSteps
 pub mod Lengths
 pub mod ObjectShort
 pub mod ObjectBytes
+pub mod FieldSteps
+pub mod FieldBytes
+pub mod FieldShort
+pub mod MessageBytes
+pub mod MessageShort

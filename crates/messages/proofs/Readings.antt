@@ -20,6 +20,11 @@ unfolding unless
 unless-got true r x a e = absurd (got-not-refused (sym e))
 unless-got false r x a e = (refl, e)
 
+-- a reading goes on where the test did not hold
+pub unless-on : {A : Type 0} {t : Bool} (r : Fault) (x : Reading A) → t ≡ false → unless t r x ≡ x
+unfolding unless
+unless-on r x e = rw e
+
 -- what was read first, and what followed
 pub then-got : {A B : Type 0} (x : Reading A) (f : A → Reading B) (b : B) → andThen x f ≡ got b → (a : A) × (x ≡ got a) × (f a ≡ got b)
 unfolding andThen

@@ -2,13 +2,13 @@
 -- In every reading, at is the place in the message of the first byte of s.
 use Prim.Native.Nat.{ℕ, zero, suc, _+_, _-_, _*_, _/_, _%_}
 use mathlib.Core.Bool.{Bool, true, false, not, _&&_, _||_}
-use mathlib.Core.List.{List, [], _∷_, map}
+use mathlib.Core.List.{List, [], _∷_}
 use lib.ListN.{length, getD, drop}
 use lib.Dec.{ltb, leb}
 use Rattle.messages.specs.declared.Format.{Format}
 use Rattle.messages.specs.declared.Format.the-variants.{Unknown, Fixed, Digits, Container}
 use Rattle.messages.specs.Reading.{Reading, got, refused, no, pick, unless, andThen, part, among}
-use Rattle.messages.specs.Objects.{Form, formSize, Len, lenOf, Objs, countObjs, runOf}
+use Rattle.messages.specs.Objects.{Form, formSize, lenOf, Objs, countObjs, runOf}
 
 abbrev fromTo : ℕ → ℕ → ℕ → Bool
 fromTo a e id = leb a id && leb id e
@@ -90,7 +90,7 @@ pub record ListRead : Type 0 where
   pub fields : List Field
   pub count : ℕ
 
--- "value 1": v bytes, which begin at a and end within s
+-- "value 1": v bytes, which begin at element a of s and end within s
 unfoldable pub valueOf : ℕ → ℕ → ℕ → List ℕ → Reading (List ℕ)
 valueOf at a v s = unless (ltb (length s) (a + v)) (no 1 (at + length s)) (got (part a (a + v) s))
 

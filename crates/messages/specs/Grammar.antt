@@ -1,8 +1,9 @@
--- Which messages there are: the limits of document 01, with nothing of how a message is read. Definitions only.
+-- Which messages there are: the limits of document 01, with nothing of the order in which bytes are read. The laws say that the
+-- bytes s are accepted as m exactly when they are the bytes of m and m is one of these. Definitions only.
 use mathlib.Core.Path.{_≡_}
-use Prim.Native.Nat.{ℕ, zero, suc, _+_, _-_, _*_, _^_, _<_, _≤_}
+use Prim.Native.Nat.{ℕ, _-_, _^_, _<_, _≤_}
 use mathlib.Core.Bool.{Bool, true, false}
-use mathlib.Core.List.{List, [], _∷_, map}
+use mathlib.Core.List.{List, [], _∷_}
 use lib.ListN.{length, getD}
 use Rattle.messages.specs.declared.Format.{Format}
 use Rattle.messages.specs.declared.Format.the-variants.{Unknown, Fixed, Digits, Container}
@@ -14,7 +15,7 @@ use Rattle.messages.specs.Fields.{formatOf, decimal, holdsDigits, Field,
 use Rattle.messages.specs.Message.{layoutOf, Body, bytes, listed, Message}
 use Rattle.messages.specs.Writing.{runBytes, bodyBytes}
 
--- every element a byte
+-- every element a byte: what a slice of bytes is
 unfoldable pub Bytes : List ℕ → Type 0
 Bytes s = (i : ℕ) → getD s i 0 < 256
 
@@ -54,7 +55,7 @@ SizeOk (Fixed k) v = v ≡ k
 SizeOk (Digits d) v = v < 10 ^ d
 SizeOk Container v = ⊥
 
--- "Nesting 4."
+-- a value of the right size, digits where digits must be; "Nesting 4."
 unfoldable pub FieldOk : Field → Type 0
 FieldOk (plain id value) = SizeOk (formatOf id) (length value) × (holdsDigits id ≡ true → Decimals value)
 FieldOk (container form os) = FormOk form (length (runBytes os)) × RunOk os 4

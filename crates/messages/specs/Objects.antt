@@ -1,7 +1,7 @@
 -- Document 01, 'Data objects': tag, length, value, and the runs of objects in a container and in an object. Definitions only.
 -- In every reading, at is the place in the message of the first byte of s.
 use Prim.Native.Nat.{ℕ, zero, suc, _+_, _-_, _*_, _/_, _%_}
-use mathlib.Core.Bool.{Bool, true, false}
+use mathlib.Core.Bool.{Bool}
 use mathlib.Core.List.{List, [], _∷_}
 use lib.ListN.{length, getD, take, drop}
 use lib.Dec.{ltb, leb, eqb}
@@ -37,6 +37,7 @@ formSize bare = 1
 formSize one = 2
 formSize two = 3
 
+-- how a length is written, and the length
 pub record Len : Type 0 where
   pub form : Form
   pub value : ℕ
@@ -57,7 +58,7 @@ lenOf at (b ∷ s) =
     pick (ltb b 0x80) (got (record { form = bare; value = b }))
     (pick (eqb b 0x81) (oneByte (at + 1) s) (pick (eqb b 0x82) (twoBytes (at + 1) s) (refused (no 4 at))))
 
--- the bytes before the value, and how long the value is
+-- how many bytes the tag takes, how the length is written, and how many bytes the value takes
 pub record Head : Type 0 where
   pub tag : ℕ
   pub form : Form

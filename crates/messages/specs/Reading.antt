@@ -11,7 +11,8 @@ pub data Reading (A : Type 0) : Type 0 where
   got : A → Reading A
   refused : Fault → Reading A
 
--- document 01's number, at a byte of the message
+-- document 01's number, at a place in the message. The places are those of document 02's first request; until it lands the
+-- public answers leave them out, as document 01 says: "Each refusal returns its number only".
 abbrev pub no : ℕ → ℕ → Fault
 no number at = record { number = number; place = At at }
 

@@ -1,7 +1,8 @@
 // The types that the definitions of a message and the code that reads one both name. The definitions stand in specs/, their laws
 // in proofs/; the code stands in crate zvt.
 
-// A byte of the message, counted from 0 at its start. A refusal of a header names none.
+// A place in the message, counted from 0 at its start; number 1 names the place behind the last byte that was there. A refusal of
+// a header names none. The public answers have the number only: document 02's first request asks for the place.
 pub enum Place {
     Nowhere,
     At(usize),

@@ -56,18 +56,10 @@ pub fn holds_digits(id: u8) -> bool
 pub fn layout_of(class: u8, instruction: u8) -> Layout
     ensures { λ r. ⌜ r ≡ layoutOf class instruction ⌝ }
 {
-    if class == 0x04 {
-        if instruction == 0x0F {
-            return Layout::List;
-        }
-        return Layout::Plain;
-    }
-    if class != 0x06 {
-        return Layout::Plain;
-    }
-    match instruction {
-        0x01 | 0x0F | 0xD3 => Layout::List,
-        0x21 | 0x30 | 0x31 | 0x50 => Layout::Secured,
+    let pair = class as usize * 256 + instruction as usize;
+    match pair {
+        0x0601 | 0x040F | 0x060F | 0x06D3 => Layout::List,
+        0x0621 | 0x0630 | 0x0631 | 0x0650 => Layout::Secured,
         _ => Layout::Plain,
     }
 }

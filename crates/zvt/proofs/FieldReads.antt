@@ -1,0 +1,208 @@
+-- What the reader of a field answers, by where the value lies. Assumes nothing.
+use mathlib.Core.Path.{_≡_, refl, sym, ap, _∙_}
+use mathlib.Core.Bool.{Bool, true, false}
+use mathlib.Core.List.{List}
+use Prim.Native.Nat.{ℕ, _+_, _-_, _≤_}
+use native.Mathlib.Omega.{arith}
+use lib.ListN.{length, getD, drop}
+use borrow.Author.Tests.{ltb-false}
+use Rattle.messages.specs.declared.Fault.{Fault}
+use Rattle.messages.specs.declared.Format.{Format}
+use Rattle.messages.specs.declared.Format.the-variants.{Unknown, Fixed, Digits, Container}
+use Rattle.messages.specs.Reading.{Reading, got, refused, no, unless, andThen, part}
+use Rattle.messages.specs.Objects.{formSize, Len, lenOf, RunRead, runOf}
+use Rattle.messages.specs.Fields.{formatOf, unknown, digitsOf, digitsIn, plain, container, FieldRead, valueOf, plainOf, containerOf, fieldBy}
+use Rattle.messages.specs.Writing.{runBytes, fieldBytes}
+use Rattle.messages.specs.Shortest.{formFor, shortRun, shortField}
+use Rattle.messages.specs.Grammar.{Bytes}
+use Rattle.messages.proofs.Readings.{got-same, got-not-refused, unless-got, unless-on, then-got, then-on, then-stop}
+use Rattle.messages.proofs.ObjectSteps.{part-length}
+use Rattle.messages.proofs.ObjectBytes.{bytes-drop, bytes-part}
+use Rattle.messages.proofs.Lengths.{sized-size, len-sound}
+use Rattle.zvt.specs.declared.objects.Bounds.{Bounds}
+use Rattle.zvt.specs.declared.objects.BoundsRead.the-variants.{Bounds as bounds-read, Refused as bounds-refused}
+use Rattle.zvt.specs.declared.objects.Tally.{Tally}
+use Rattle.zvt.specs.declared.objects.PartRead.{PartRead}
+use Rattle.zvt.specs.declared.objects.PartRead.the-variants.{Part, Refused as part-refused}
+use Rattle.zvt.specs.Objects.{asBounds, asPart, boundsIn, spareRun, tallyOf, runTally, runAnswer}
+use Rattle.zvt.specs.Fields.{boundsBy, fieldBounds, spareField, fieldTally, plainAnswer, fieldWhen, fieldAnswer}
+use Rattle.zvt.proofs.RunLaws.{part-got, part-stopped, spare-read, tally-is, Fits, tally-fits}
+
+-- ---- readings that stop alike
+cut-alike : {A B : Type 0} (t : Bool) (q r : Fault) (x : A) (y : B) → unless t q (got x) ≡ refused r → unless t q (got y) ≡ refused r
+unfolding unless
+cut-alike true q r x y e = cc
+cut-alike false q r x y e = absurd (got-not-refused e)
+
+both-stop : {A B C : Type 0} (x : Reading A) (f : A → Reading B) (g : A → Reading C) (r : Fault)
+    → ((a : A) → f a ≡ refused r → g a ≡ refused r) → andThen x f ≡ refused r → andThen x g ≡ refused r
+unfolding andThen
+both-stop (got a) f g r h e = h a e
+both-stop (refused q) f g r h e = cc
+
+-- ---- bounds that were found, and not
+found : (x : Reading Bounds) (b : Bounds) → asBounds x ≡ bounds-read b → x ≡ got b
+unfolding asBounds
+found (got a) b e = cc
+found (refused r) b e = absurd (let z : _≡_ {A = ℕ} 0 1 = cc in omega arith)
+
+not-found : (x : Reading Bounds) (r : Fault) → asBounds x ≡ bounds-refused r → x ≡ refused r
+unfolding asBounds
+not-found (got a) r e = absurd (let z : _≡_ {A = ℕ} 0 1 = cc in omega arith)
+not-found (refused q) r e = cc
+
+module _ (at a v : ℕ) (run : Bool) (s : List ℕ) where
+  no-value : (r : Fault) → boundsIn at 1 a v run s ≡ refused r → valueOf at a v s ≡ refused r
+  unfolding boundsIn valueOf
+  no-value r e = cut-alike _ _ r _ _ e
+
+  value-found : (b : Bounds) → boundsIn at 1 a v run s ≡ got b
+      → (a + v ≤ length s) × (record { tag = 1; from = a; to = a + v; nested = run } ≡ b) × (valueOf at a v s ≡ got (part a (a + v) s))
+  unfolding boundsIn valueOf
+  value-found b e = let k = unless-got _ _ _ b e in (ltb-false _ _ (k .0), got-same (k .1), unless-on _ _ (k .0))
+
+  lies-found : (b : Bounds) → boundsIn at 1 a v run s ≡ got b → (b .from ≤ b .to) × (b .to ≤ length s)
+  lies-found b e = let k = value-found b e in rw (sym (k .1)) (omega arith, k .0)
+
+-- ---- the field by the format of its id
+by-lies : (at : ℕ) (s : List ℕ) (f : Format) (b : Bounds) → boundsBy at s f ≡ got b → (b .from ≤ b .to) × (b .to ≤ length s)
+unfolding boundsBy
+by-lies at s Unknown b e = absurd (got-not-refused (sym e))
+by-lies at s (Fixed k) b e = lies-found at 1 k false s b e
+by-lies at s (Digits d) b e =
+    let k = then-got (digitsOf d 0 (at + 1) (drop 1 s)) _ b e in lies-found at (1 + d) (k .0) false s b (k .2)
+by-lies at s Container b e =
+    let k = then-got (lenOf (at + 1) (drop 1 s)) _ b e in lies-found at (1 + formSize (k .0 .form)) (k .0 .value) true s b (k .2)
+
+module _ (id n at : ℕ) (s : List ℕ) where
+  by-stopped : (f : Format) (r : Fault) → boundsBy at s f ≡ refused r → fieldBy id n at s f ≡ refused r
+  unfolding boundsBy fieldBy plainOf containerOf
+  by-stopped Unknown r e = cc
+  by-stopped (Fixed k) r e = then-stop _ r (no-value at 1 k false s r e)
+  by-stopped (Digits d) r e = both-stop _ _ _ r (λ v h. then-stop _ r (no-value at (1 + d) v false s r h)) e
+  by-stopped Container r e = both-stop _ _ _ r (λ l h. then-stop _ r (no-value at (1 + formSize (l .form)) (l .value) true s r h)) e
+
+  abbrev plainAt : Bounds → Reading FieldRead
+  plainAt b =
+      digitsIn id (at + b .from) (part (b .from) (b .to) s) (got (record { field = plain id (part (b .from) (b .to) s); size = b .to; count = n }))
+
+  plain-found : (a v : ℕ) (b : Bounds) → boundsIn at 1 a v false s ≡ got b → plainOf id n at a v s ≡ plainAt b
+  unfolding plainOf
+  plain-found a v b e = let k = value-found at a v false s b e in rw (sym (k .1)) (then-on _ _ (k .2))
+
+  by-plain : (f : Format) (b : Bounds) → boundsBy at s f ≡ got b → b .nested ≡ false → fieldBy id n at s f ≡ plainAt b
+  unfolding boundsBy fieldBy
+  by-plain Unknown b e h = absurd (got-not-refused (sym e))
+  by-plain (Fixed k) b e h = plain-found 1 k b e
+  by-plain (Digits d) b e h =
+      let k = then-got (digitsOf d 0 (at + 1) (drop 1 s)) _ b e in then-on _ _ (k .1) ∙ plain-found (1 + d) (k .0) b (k .2)
+  by-plain Container b e h =
+      let k = then-got (lenOf (at + 1) (drop 1 s)) _ b e in
+      let i = value-found at (1 + formSize (k .0 .form)) (k .0 .value) true s b (k .2) in
+      absurd (let z : _≡_ {A = ℕ} 0 1 = cc in omega arith)
+
+  -- a container's length, and its run still to be read
+  pub record Contained (f : Format) (b : Bounds) : Type 0 where
+    pub len : Len
+    pub read : lenOf (at + 1) (drop 1 s) ≡ got len
+    pub tag : b .tag ≡ 1
+    pub from : b .from ≡ 1 + formSize (len .form)
+    pub to : b .to ≡ b .from + len .value
+    pub then :
+        fieldBy id n at s f
+        ≡ andThen (runOf 4 n (at + b .from) (part (b .from) (b .to) s)) λ r.
+        got (record { field = container (len .form) (r .objs); size = b .to; count = r .count })
+
+  by-container : (f : Format) (b : Bounds) → boundsBy at s f ≡ got b → b .nested ≡ true → Contained f b
+  unfolding boundsBy fieldBy containerOf
+  by-container Unknown b e h = absurd (got-not-refused (sym e))
+  by-container (Fixed k) b e h =
+      let i = value-found at 1 k false s b e in absurd (let z : _≡_ {A = ℕ} 0 1 = cc in omega arith)
+  by-container (Digits d) b e h =
+      let k = then-got (digitsOf d 0 (at + 1) (drop 1 s)) _ b e in
+      let i = value-found at (1 + d) (k .0) false s b (k .2) in
+      absurd (let z : _≡_ {A = ℕ} 0 1 = cc in omega arith)
+  by-container Container b e h =
+      let k = then-got (lenOf (at + 1) (drop 1 s)) _ b e in
+      let i = value-found at (1 + formSize (k .0 .form)) (k .0 .value) true s b (k .2) in
+      rw (sym (i .1))
+      (record { len = k .0; read = k .1; tag = refl; from = refl; to = refl; then = then-on _ _ (k .1) ∙ then-on _ _ (i .2) })
+
+-- ---- the answer for a field
+when-by : (id n at : ℕ) (s : List ℕ) (f : Format)
+    → unless (unknown f) (no 5 at) (unless false (no 7 at) (fieldBy id n at s f)) ≡ fieldBy id n at s f
+unfolding unless unknown fieldBy
+when-by id n at s Unknown = refl
+when-by id n at s (Fixed k) = refl
+when-by id n at s (Digits d) = refl
+when-by id n at s Container = refl
+
+pub field-unknown : (twice : Bool) (n at : ℕ) (s : List ℕ) → formatOf (getD s 0 0) ≡ Unknown → fieldAnswer twice n at s ≡ part-refused (no 5 at)
+unfolding fieldAnswer fieldWhen unless unknown asPart
+field-unknown twice n at s e = rw e
+
+pub field-twice : (twice : Bool) (n at : ℕ) (s : List ℕ) → unknown (formatOf (getD s 0 0)) ≡ false → twice ≡ true
+    → fieldAnswer twice n at s ≡ part-refused (no 7 at)
+unfolding fieldAnswer fieldWhen unless asPart
+field-twice twice n at s e f = rw (e, f)
+
+pub field-value : (at : ℕ) (s : List ℕ) (b : Bounds) → fieldBounds at s ≡ bounds-read b → (b .from ≤ b .to) × (b .to ≤ length s)
+unfolding fieldBounds
+field-value at s b e = by-lies at s (formatOf (getD s 0 0)) b (found _ b e)
+
+-- the container that lies there is answered by its tally
+abbrev pub Answered : Bool → ℕ → ℕ → List ℕ → Bounds → ℕ → ℕ → Type 0
+Answered twice n at s b objects saved = Fits b saved × (fieldAnswer twice n at s ≡ Part (tallyOf b objects saved))
+
+module _ (twice : Bool) (n at : ℕ) (s : List ℕ) (once : twice ≡ false) where
+  abbrev format : Format
+  format = formatOf (getD s 0 0)
+
+  by-format : (x : Reading FieldRead) → fieldBy (getD s 0 0) n at s format ≡ x → fieldAnswer twice n at s ≡ asPart fieldTally x
+  unfolding fieldAnswer fieldWhen
+  by-format x e = ap (asPart fieldTally) (rw once (when-by (getD s 0 0) n at s format) ∙ e)
+
+  pub field-no-bounds : (r : Fault) → fieldBounds at s ≡ bounds-refused r → fieldAnswer twice n at s ≡ part-refused r
+  unfolding fieldBounds asPart
+  field-no-bounds r e = by-format _ (by-stopped (getD s 0 0) n at s format r (not-found _ r e))
+
+  pub field-plain : (b : Bounds) → fieldBounds at s ≡ bounds-read b → b .nested ≡ false → fieldAnswer twice n at s ≡ plainAnswer n at b s
+  unfolding fieldBounds plainAnswer
+  field-plain b e h = by-format _ (by-plain (getD s 0 0) n at s format b (found _ b e) h)
+
+  module _ (b : Bounds) (bounds : fieldBounds at s ≡ bounds-read b) (h : b .nested ≡ true) where
+    -- the answer for the run inside
+    abbrev inner : PartRead
+    inner = runAnswer 4 n (at + b .from) (part (b .from) (b .to) s)
+
+    contained : Contained (getD s 0 0) n at s format b
+    unfolding fieldBounds
+    contained = by-container (getD s 0 0) n at s format b (found _ b bounds) h
+
+    pub field-no-inner : (r : Fault) → inner ≡ part-refused r → fieldAnswer twice n at s ≡ part-refused r
+    unfolding runAnswer asPart
+    field-no-inner r e = by-format _ (contained .then ∙ then-stop _ r (part-stopped _ _ r e))
+
+    container-tally : Bytes s → (r : RunRead) → runOf 4 n (at + b .from) (part (b .from) (b .to) s) ≡ got r
+        → Answered twice n at s b (r .count) (spareRun (r .objs))
+    unfolding asPart fieldTally spareField fieldBytes shortField
+    container-tally bs r e =
+        let c = contained in
+        let l = c .len in
+        let f = len-sound (at + 1) (drop 1 s) l (bytes-drop 1 s bs) (c .read) in
+        let i = spare-read 4 n (at + b .from) (part (b .from) (b .to) s) r (bytes-part (b .from) (b .to) s bs) e in
+        let w = field-value at s b bounds in
+        let v : length (part (b .from) (b .to) s) ≡ l .value = omega (arith, part-length s (b .from) (b .to) (w .0) (w .1)) in
+        let short = runBytes (shortRun (r .objs)) in (
+          tally-fits b (l .form) (l .value) (spareRun (r .objs)) (f .1) (omega arith) (c .to) (omega arith),
+          by-format _ (c .then ∙ then-on _ r e)
+              ∙ ap Part (tally-is b (r .count) (spareRun (r .objs)) _ _ (length short)
+              (omega (arith, sized-size (l .form) (runBytes (r .objs)))) (omega arith)
+              (omega (arith, sized-size (formFor (length short)) short))),
+        )
+
+    pub field-container : Bytes s → (r : Tally) → inner ≡ Part r → Answered twice n at s b (r .objects) (r .spare)
+    unfolding runAnswer runTally
+    field-container bs =
+        part-got (runTally (part (b .from) (b .to) s)) (runOf 4 n (at + b .from) (part (b .from) (b .to) s))
+        (λ r. Answered twice n at s b (r .objects) (r .spare)) (container-tally bs)

@@ -1,0 +1,145 @@
+-- What the public readers of a message answer, by the header and the tally of the body. Assumes nothing.
+use mathlib.Core.Path.{_≡_, refl, ap, _∙_}
+use mathlib.Core.Bool.{Bool, true, false, not, _||_, and-comm, or-true, or-false}
+use mathlib.Core.List.{List}
+use Prim.Native.Nat.{ℕ, _+_, _<_, _≤_}
+use native.Mathlib.Omega.{arith}
+use lib.ListN.{length}
+use lib.Dec.{leb, eqb}
+use borrow.Author.Tests.{eq-eqb, ne-eqb, le-leb, lt-leb}
+use Rattle.messages.specs.declared.Fault.{Fault}
+use Rattle.messages.specs.declared.Layout.{Layout}
+use Rattle.messages.specs.Reading.{got, refused, part}
+use Rattle.messages.specs.Message.{Header as MessageHeader, headerSize, start, end, layoutOf, Body, bodyOf, Message as MessageTree, messageOf, headerOf, readOf, firstOf, countOf}
+use Rattle.messages.specs.Writing.{bodyBytes, messageBytes}
+use Rattle.messages.specs.Shortest.{isShortBody, isShort}
+use Rattle.messages.specs.Grammar.{Bytes, LayoutOk}
+use Rattle.messages.proofs.Readings.{then-on, then-stop}
+use Rattle.messages.proofs.ObjectSteps.{part-length}
+use Rattle.messages.proofs.ObjectBytes.{bytes-part}
+use Rattle.messages.proofs.FieldSteps.{header-in}
+use Rattle.messages.proofs.MessageBytes.{body-sound, message-size}
+use Rattle.messages.proofs.MessageShort.{body-shorter, body-exactly}
+use Rattle.zvt.specs.declared.Header.{Header}
+use Rattle.zvt.specs.declared.Message.{Message}
+use Rattle.zvt.specs.declared.Refusal.{Refusal}
+use Rattle.zvt.specs.declared.headers.HeaderRead.the-variants.{Header as header-read, Refused as header-refused}
+use Rattle.zvt.specs.declared.objects.Tally.{Tally}
+use Rattle.zvt.specs.declared.objects.PartRead.the-variants.{Part, Refused as part-refused}
+use Rattle.zvt.specs.declared.ReadAnswer.the-variants.{Accepted, Refused}
+use Rattle.zvt.specs.declared.FirstAnswer.the-variants.{Accepted as first-accepted, Refused as first-refused}
+use Rattle.zvt.specs.Header.{headerIn, firstHeader, wholeAnswer}
+use Rattle.zvt.specs.Body.{spareBody, bodyTally, bodyAnswer, bodyIn, described}
+use Rattle.zvt.specs.Answers.{refusalOf, messageAnswer, asReadAnswer, readAnswer, asFirstAnswer, firstAnswer}
+use Rattle.zvt.proofs.HeaderLaws.{first-got, first-stopped, whole-got, whole-first, whole-stopped}
+use Rattle.zvt.proofs.RunLaws.{part-got, part-stopped}
+
+-- ---- whether every length was shortest
+abbrev pub describedAs : Header → Tally → Bool → Message
+describedAs h t shortest =
+    record { class = h .class; instruction = h .instruction; start = h .start; length = h .length; objects = t .objects; shortest = shortest }
+
+pub described-spare : (h : Header) (t : Tally) → (t .spare ≡ 0 → ⊥) → describedAs h t false ≡ described h t
+unfolding described
+described-spare h t n = rw (ne-eqb (t .spare) 0 n)
+
+pub described-full : (h : Header) (t : Tally) → t .spare ≡ 0 → 255 ≤ h .length → describedAs h t true ≡ described h t
+unfolding described
+described-full h t e l = rw (eq-eqb (t .spare) 0 e, le-leb 255 (h .length) l, or-true)
+
+pub described-start : (h : Header) (t : Tally) (b : Bool) → t .spare ≡ 0 → h .length < 255 → eqb (h .start) 3 ≡ b
+    → describedAs h t b ≡ described h t
+unfolding described
+described-start h t b e l f = rw (eq-eqb (t .spare) 0 e, lt-leb 255 (h .length) l, or-false, f)
+
+-- a body takes no byte fewer exactly where it is shortest
+spare-short : (l : Layout) (b : Body) → LayoutOk l b → eqb (spareBody b) 0 ≡ isShortBody b
+unfolding spareBody
+spare-short l b ok = go (isShortBody b) refl
+  where
+    go : (t : Bool) → isShortBody b ≡ t → eqb (spareBody b) 0 ≡ t
+    go true f = eq-eqb (spareBody b) 0 (omega (arith, body-exactly l b ok .1 f))
+    go false f =
+        ne-eqb (spareBody b) 0 λ n.
+        let s : isShortBody b ≡ true = body-exactly l b ok .0 (omega (arith, body-shorter l b ok)) in
+        let z : _≡_ {A = ℕ} 0 1 = cc in
+        omega arith
+
+starts-at : (long : Bool) → eqb (headerSize long) 3 ≡ not long
+starts-at true = refl
+starts-at false = refl
+
+-- ---- the message of a header
+module _ (s : List ℕ) (m : MessageHeader) where
+  abbrev inside : List ℕ
+  inside = part (start m) (end m) s
+
+  abbrev layout : Layout
+  layout = layoutOf (m .class) (m .instruction)
+
+  pub message-stopped : (r : Fault) → bodyIn (headerIn m) s ≡ part-refused r → messageOf s m ≡ refused r
+  unfolding bodyIn headerIn bodyAnswer messageOf
+  message-stopped r e = then-stop _ r (part-stopped (bodyTally inside) (bodyOf (start m) inside layout) r e)
+
+  abbrev pub Described : Tally → Type 0
+  Described t =
+      (w : MessageTree) × (messageOf s m ≡ got w) × (messageAnswer w ≡ described (headerIn m) t) × (length (messageBytes w) ≡ end m)
+
+  module _ (bs : Bytes s) (e : headerOf s ≡ got m) where
+    body-described : (b : Body) → bodyOf (start m) inside layout ≡ got b → Described (bodyTally inside b)
+    unfolding messageOf messageAnswer described headerIn bodyTally countOf isShort
+    body-described b f =
+        let w : MessageTree = record { class = m .class; instruction = m .instruction; long = m .long; body = b } in
+        let g = body-sound (start m) inside layout b (bytes-part (start m) (end m) s bs) f in
+        let there = part-length s (start m) (end m) (omega arith) (header-in s m e .1) in
+        let size : length (bodyBytes b) ≡ m .size = omega (arith, ap length (g .0)) in
+        let short = spare-short layout b (g .1) in
+        let at = starts-at (m .long) in
+        let swap = and-comm (not (m .long) || leb 255 (m .size)) (isShortBody b) in
+        (w, then-on _ b f, rw (size, short, at, swap), omega (arith, message-size w))
+
+    pub message-read : (t : Tally) → bodyIn (headerIn m) s ≡ Part t → Described t
+    unfolding bodyIn headerIn bodyAnswer
+    message-read t f = part-got (bodyTally inside) (bodyOf (start m) inside layout) Described body-described t f
+
+-- ---- the message that s is
+abbrev numbered : Fault → Refusal
+numbered r = record { number = r .number }
+
+pub read-no-header : (s : List ℕ) (r : Fault) → wholeAnswer s ≡ header-refused r → readAnswer s ≡ Refused (numbered r)
+unfolding readAnswer readOf asReadAnswer refusalOf
+read-no-header s r e = ap asReadAnswer (then-stop _ r (whole-stopped s r e))
+
+module _ (s : List ℕ) (h : Header) (e : wholeAnswer s ≡ header-read h) where
+  pub read-no-body : (r : Fault) → bodyIn h s ≡ part-refused r → readAnswer s ≡ Refused (numbered r)
+  unfolding readAnswer readOf asReadAnswer refusalOf
+  read-no-body r f =
+      let g = whole-got s h e in
+      ap asReadAnswer (then-on _ (g .0) (g .1) ∙ message-stopped s (g .0) r (rw (g .2) f))
+
+  pub read-accepted : Bytes s → (t : Tally) → bodyIn h s ≡ Part t → readAnswer s ≡ Accepted (described h t)
+  unfolding readAnswer readOf asReadAnswer
+  read-accepted bs t f =
+      let g = whole-got s h e in
+      let d = message-read s (g .0) bs (whole-first s (g .0) (g .1)) t (rw (g .2) f) in
+      ap asReadAnswer (then-on _ (g .0) (g .1) ∙ d .1) ∙ ap Accepted (d .2 ∙ ap (λ (x : Header). described x t) (g .2))
+
+-- ---- the message that s begins with
+pub first-no-header : (s : List ℕ) (r : Fault) → firstHeader s ≡ header-refused r → firstAnswer s ≡ first-refused (numbered r)
+unfolding firstAnswer firstOf asFirstAnswer refusalOf
+first-no-header s r e = ap asFirstAnswer (then-stop _ r (first-stopped s r e))
+
+module _ (s : List ℕ) (h : Header) (e : firstHeader s ≡ header-read h) where
+  pub first-no-body : (r : Fault) → bodyIn h s ≡ part-refused r → firstAnswer s ≡ first-refused (numbered r)
+  unfolding firstAnswer firstOf asFirstAnswer refusalOf
+  first-no-body r f =
+      let g = first-got s h e in
+      ap asFirstAnswer (then-on _ (g .0) (g .1) ∙ message-stopped s (g .0) r (rw (g .2) f))
+
+  pub first-taken : Bytes s → (t : Tally) → bodyIn h s ≡ Part t → firstAnswer s ≡ first-accepted (described h t) (h .start + h .length)
+  unfolding firstAnswer firstOf asFirstAnswer headerIn
+  first-taken bs t f =
+      let g = first-got s h e in
+      let d = message-read s (g .0) bs (g .1) t (rw (g .2) f) in
+      ap asFirstAnswer (then-on _ (g .0) (g .1) ∙ d .1)
+      ∙ rw (d .2, d .3) (ap (λ (x : Header). first-accepted (described x t) (x .start + x .length)) (g .2))

@@ -1,0 +1,254 @@
+-- What the readers of objects and runs answer, case by case, with the bytes saved. Assumes nothing.
+use mathlib.Core.Path.{_≡_, refl, ap, _∙_, subst}
+use mathlib.Core.Bool.{true, false}
+use mathlib.Core.List.{List}
+use Prim.Native.Nat.{ℕ, _+_, _-_, _<_, _≤_}
+use native.Mathlib.Omega.{arith}
+use lib.ListN.{length, getD, take, drop, length-append}
+use lib.Seq.{length-take-le}
+use borrow.Author.Tests.{le-leb, lt-leb, eq-eqb, ne-eqb}
+use Rattle.messages.specs.declared.Fault.{Fault}
+use Rattle.messages.specs.Reading.{Reading, got, refused, no, unless, andThen, part}
+use Rattle.messages.specs.Objects.{nested, Form, formSize, Head, from, to, headOf}
+use Rattle.messages.specs.Objects.{Obj, Objs, more, OneRead, RunRead, insideOf, oneBy, oneOf, runOf}
+use Rattle.messages.specs.Writing.{objBytes, runBytes}
+use Rattle.messages.specs.Shortest.{formFor, shortObj, shortRun}
+use Rattle.messages.specs.Grammar.{Bytes, FormOk, ObjOk, RunOk}
+use Rattle.messages.proofs.Readings.{then-on, then-stop, pick-true, pick-false}
+use Rattle.messages.proofs.ObjectSteps.{tail, part-length, head-got, head-in, branchOf, leafOf, one-in, run-none, run-step}
+use Rattle.messages.proofs.Lengths.{object-size, len-sound, form-shorter}
+use Rattle.messages.proofs.ObjectShort.{obj-shorter, run-shorter}
+use Rattle.messages.proofs.ObjectBytes.{bytes-drop, bytes-part, run-sound, one-sound}
+use Rattle.zvt.specs.declared.objects.Bounds.{Bounds}
+use Rattle.zvt.specs.declared.objects.BoundsRead.{BoundsRead}
+use Rattle.zvt.specs.declared.objects.BoundsRead.the-variants.{Bounds as bounds-read, Refused as bounds-refused}
+use Rattle.zvt.specs.declared.objects.Tally.{Tally}
+use Rattle.zvt.specs.declared.objects.PartRead.{PartRead}
+use Rattle.zvt.specs.declared.objects.PartRead.the-variants.{Part, Refused as part-refused}
+use Rattle.zvt.specs.Objects.{asBounds, asPart, boundsOf, headAnswer, spareObj, spareRun}
+use Rattle.zvt.specs.Objects.{tallyOf, oneTally, runTally, oneAnswer, runAnswer}
+
+-- ---- an answer goes back to what was read
+pub part-got : {A : Type 0} (f : A → Tally) (x : Reading A) (P : Tally → Type 0) → ((a : A) → x ≡ got a → P (f a))
+    → (t : Tally) → asPart f x ≡ Part t → P t
+unfolding asPart
+part-got f (got a) P h t e = subst P (let g : f a ≡ t = cc in g) (h a refl)
+part-got f (refused r) P h t e = absurd (let z : _≡_ {A = ℕ} 0 1 = cc in omega arith)
+
+pub part-stopped : {A : Type 0} (f : A → Tally) (x : Reading A) (r : Fault) → asPart f x ≡ part-refused r → x ≡ refused r
+unfolding asPart
+part-stopped f (got a) r e = absurd (let z : _≡_ {A = ℕ} 0 1 = cc in omega arith)
+part-stopped f (refused q) r e = cc
+
+abbrev boundsFrom : List ℕ → Reading Head → BoundsRead
+boundsFrom s x = asBounds (andThen x λ h. got (boundsOf s h))
+
+bounds-got : (s : List ℕ) (x : Reading Head) (P : Bounds → Type 0) → ((h : Head) → x ≡ got h → P (boundsOf s h))
+    → (b : Bounds) → boundsFrom s x ≡ bounds-read b → P b
+unfolding asBounds andThen
+bounds-got s (got h) P f b e = subst P (let g : boundsOf s h ≡ b = cc in g) (f h refl)
+bounds-got s (refused r) P f b e = absurd (let z : _≡_ {A = ℕ} 0 1 = cc in omega arith)
+
+bounds-stopped : (s : List ℕ) (x : Reading Head) (r : Fault) → boundsFrom s x ≡ bounds-refused r → x ≡ refused r
+unfolding asBounds andThen
+bounds-stopped s (got h) r e = absurd (let z : _≡_ {A = ℕ} 0 1 = cc in omega arith)
+bounds-stopped s (refused q) r e = cc
+
+-- ---- the bytes saved
+spare-more : (o : Obj) (os : Objs) (left : ℕ) → ObjOk o left → RunOk os left → spareRun (more o os) ≡ spareObj o + spareRun os
+unfolding spareObj spareRun runBytes shortRun
+spare-more o os left a b =
+    omega (
+      arith,
+      obj-shorter o left a,
+      run-shorter os left b,
+      length-append (objBytes o) (runBytes os),
+      length-append (objBytes (shortObj o)) (runBytes (shortRun os)),
+    )
+
+-- a run that was read has as many bytes as it was read from, and shortest so many fewer
+pub spare-read : (left n at : ℕ) (s : List ℕ) (r : RunRead) → Bytes s → runOf left n at s ≡ got r
+    → (length (runBytes (r .objs)) ≡ length s) × (length (runBytes (shortRun (r .objs))) + spareRun (r .objs) ≡ length s)
+unfolding spareRun
+spare-read left n at s r b e =
+    let i = run-sound left n at s r b e in
+    let l = ap length (i .0) in
+    (l, omega (arith, run-shorter (r .objs) left (i .1)))
+
+-- the tally of an object or a container of whole bytes, short when its value is the shortest, of w bytes
+pub tally-is : (b : Bounds) (objects saved whole short w : ℕ) → whole ≡ b .to → b .to - b .from - saved ≡ w
+    → short ≡ b .tag + (formSize (formFor w) + w)
+    → _≡_ {A = Tally} (record { size = b .to; objects = objects; spare = whole - short }) (tallyOf b objects saved)
+unfolding tallyOf
+tally-is b objects saved whole short w e f g =
+    let k = ap (λ (x : ℕ). formSize (formFor x)) f in
+    ap (λ (x : ℕ). record { size = b .to; objects = objects; spare = x }) (omega arith)
+
+-- what a tally asks, with so many bytes saved
+abbrev pub Fits : Bounds → ℕ → Type 0
+Fits b saved = (b .tag + formSize (formFor (b .to - b .from - saved)) ≤ b .from) × (b .from + saved ≤ b .to)
+
+pub tally-fits : (b : Bounds) (form : Form) (v saved : ℕ) → FormOk form v → b .from ≡ b .tag + formSize form → b .to ≡ b .from + v → saved ≤ v
+    → Fits b saved
+tally-fits b form v saved ok e f l = (omega (arith, form-shorter form v (b .to - b .from - saved) ok (omega arith)), omega arith)
+
+-- ---- a run
+pub run-empty : (left n at : ℕ) (s : List ℕ) → length s ≡ 0 → runAnswer left n at s ≡ Part (record { size = 0; objects = n; spare = 0 })
+unfolding runAnswer asPart runTally spareRun runBytes shortRun
+run-empty left n at s h = rw (run-none left n at s h, h)
+
+-- the answer for what is left behind the first object
+abbrev after : ℕ → ℕ → List ℕ → Tally → PartRead
+after left at s o = runAnswer left (o .objects) (at + o .size) (take (length s - o .size) (drop (o .size) s))
+
+abbrev pub Goes : ℕ → ℕ → ℕ → List ℕ → Tally → Tally → Type 0
+Goes left n at s o r =
+    (o .spare + r .spare ≤ length s)
+    × (runAnswer left n at s ≡ Part (record { size = length s; objects = r .objects; spare = o .spare + r .spare }))
+
+module _ (left n at : ℕ) (s : List ℕ) (some : 0 < length s) where
+  pub run-no-first : (r : Fault) → oneAnswer left n at s ≡ part-refused r → runAnswer left n at s ≡ part-refused r
+  unfolding oneAnswer runAnswer asPart
+  run-no-first r e = ap (asPart (runTally s)) (run-step left n at s some ∙ then-stop _ r (part-stopped _ _ r e))
+
+  pub run-no-rest : (o : Tally) → oneAnswer left n at s ≡ Part o → (r : Fault) → after left at s o ≡ part-refused r
+      → runAnswer left n at s ≡ part-refused r
+  unfolding oneAnswer runAnswer asPart oneTally
+  run-no-rest =
+      part-got oneTally (oneOf left n at s) (λ o. (r : Fault) → after left at s o ≡ part-refused r → runAnswer left n at s ≡ part-refused r)
+      (λ o e r f.
+      ap (asPart (runTally s)) (run-step left n at s some ∙ then-on _ o e ∙ then-stop _ r (part-stopped _ _ r (rw tail at f))))
+
+  module _ (b : Bytes s) where
+    goes : (o : OneRead) → oneOf left n at s ≡ got o
+        → (r : RunRead) → runOf left (o .count) (at + o .size) (drop (o .size) s) ≡ got r
+        → Goes left n at s (oneTally o) (runTally (drop (o .size) s) r)
+    unfolding runAnswer asPart oneTally runTally
+    goes o e r f =
+        let g = one-sound left n at s o b e in
+        let i = run-sound left (o .count) (at + o .size) (drop (o .size) s) r (bytes-drop (o .size) s b) f in
+        let whole = run-step left n at s some ∙ then-on _ o e ∙ then-on _ r f in
+        let sum = spare-more (o .obj) (r .objs) left (g .1) (i .1) in (
+          omega (arith, spare-read left n at s _ b whole),
+          rw (whole, sum),
+        )
+
+    pub run-goes : (o : Tally) → oneAnswer left n at s ≡ Part o → (r : Tally) → after left at s o ≡ Part r → Goes left n at s o r
+    unfolding oneAnswer runAnswer oneTally
+    run-goes =
+        part-got oneTally (oneOf left n at s) (λ o. (r : Tally) → after left at s o ≡ Part r → Goes left n at s o r)
+        (λ o e r f.
+        part-got (runTally (drop (o .size) s)) (runOf left (o .count) (at + o .size) (drop (o .size) s)) (Goes left n at s (oneTally o))
+        (goes o e) r (rw tail at f))
+
+-- the object that a run begins with
+pub first-in : (left n at : ℕ) (s : List ℕ) (o : Tally) → oneAnswer left n at s ≡ Part o → (2 ≤ o .size) × (o .size ≤ length s)
+unfolding oneAnswer oneTally
+first-in left n at s = part-got oneTally (oneOf left n at s) (λ o. (2 ≤ o .size) × (o .size ≤ length s)) (λ o e. one-in left n at s o e)
+
+-- ---- an object
+pub one-full : (left n at : ℕ) (s : List ℕ) → 64 ≤ n → oneAnswer left n at s ≡ part-refused (no 10 at)
+unfolding oneAnswer asPart oneOf oneBy unless
+one-full left n at s h = rw (le-leb 64 n h)
+
+pub one-deep : (left n at : ℕ) (s : List ℕ) → n < 64 → left ≡ 0 → oneAnswer left n at s ≡ part-refused (no 9 at)
+unfolding oneAnswer asPart oneOf oneBy unless
+one-deep left n at s h e = rw (lt-leb 64 n h, eq-eqb left 0 e)
+
+-- the answer for the run inside an object
+abbrev inner : ℕ → ℕ → ℕ → List ℕ → Bounds → PartRead
+inner left n at s b = runAnswer (left - 1) (n + 1) (at + b .from) (part (b .from) (b .to) s)
+
+-- the object that lies there is answered by its tally
+abbrev pub Answered : ℕ → ℕ → ℕ → List ℕ → Bounds → ℕ → ℕ → Type 0
+Answered left n at s b objects saved = Fits b saved × (oneAnswer left n at s ≡ Part (tallyOf b objects saved))
+
+-- where the value lies
+pub value-in : (at : ℕ) (s : List ℕ) (b : Bounds) → headAnswer at s ≡ bounds-read b → (2 ≤ b .from) × (b .from ≤ b .to) × (b .to ≤ length s)
+unfolding headAnswer boundsOf
+value-in at s =
+    bounds-got s (headOf at s) (λ b. (2 ≤ b .from) × (b .from ≤ b .to) × (b .to ≤ length s))
+    (λ h e. let i = head-in at s h e in (i .1, omega arith, i .2))
+
+module _ (at : ℕ) (s : List ℕ) (h : Head) (b : Bytes s) (read : headOf at s ≡ got h) where
+  fits : (saved : ℕ) → saved ≤ h .value → Fits (boundsOf s h) saved
+  unfolding boundsOf
+  fits saved l =
+      let f = len-sound (at + h .tag) (drop (h .tag) s) _ (bytes-drop (h .tag) s b) (head-got at s h read .len) in
+      tally-fits (boundsOf s h) (h .form) (h .value) saved (f .1) refl refl l
+
+  tag-length : length (take (h .tag) s) ≡ h .tag
+  tag-length = let i = head-in at s h read in length-take-le (h .tag) s (omega arith)
+
+  value-length : length (part (from h) (to h) s) ≡ h .value
+  value-length = let i = head-in at s h read in omega (arith, part-length s (from h) (to h) (omega arith) (i .2))
+
+  leaf-tally : (n : ℕ) → oneTally (leafOf n s h) ≡ tallyOf (boundsOf s h) (n + 1) 0
+  unfolding oneTally objBytes shortObj spareObj boundsOf
+  leaf-tally n =
+      let tag = take (h .tag) s in
+      let value = part (from h) (to h) s in
+      let t = tag-length in
+      let v = value-length in
+      tally-is (boundsOf s h) (n + 1) 0 _ _ (length value) (omega (arith, object-size tag (h .form) value)) (omega arith)
+      (omega (arith, object-size tag (formFor (length value)) value))
+
+  branch-tally : (left n a : ℕ) (r : RunRead) → runOf left n a (part (from h) (to h) s) ≡ got r
+      → (spareRun (r .objs) ≤ h .value) × (oneTally (branchOf s h r) ≡ tallyOf (boundsOf s h) (r .count) (spareRun (r .objs)))
+  unfolding oneTally objBytes shortObj spareObj boundsOf
+  branch-tally left n a r e =
+      let i = spare-read left n a (part (from h) (to h) s) r (bytes-part (from h) (to h) s b) e in
+      let tag = take (h .tag) s in
+      let short = runBytes (shortRun (r .objs)) in
+      let t = tag-length in
+      let v = value-length in (
+        omega arith,
+        tally-is (boundsOf s h) (r .count) (spareRun (r .objs)) _ _ (length short)
+            (omega (arith, object-size tag (h .form) (runBytes (r .objs))))
+            (omega arith) (omega (arith, object-size tag (formFor (length short)) short)),
+      )
+
+module _ (left n at : ℕ) (s : List ℕ) (room : n < 64) (deep : left ≡ 0 → ⊥) where
+  at-head : oneOf left n at s ≡ andThen (headOf at s) (λ h. insideOf runOf left n at s h)
+  unfolding oneOf oneBy unless
+  at-head = rw (lt-leb 64 n room, ne-eqb left 0 deep)
+
+  pub one-no-head : (r : Fault) → headAnswer at s ≡ bounds-refused r → oneAnswer left n at s ≡ part-refused r
+  unfolding headAnswer oneAnswer asPart
+  one-no-head r e = ap (asPart oneTally) (at-head ∙ then-stop _ r (bounds-stopped s _ r e))
+
+  at-leaf : (h : Head) → headOf at s ≡ got h → nested (getD s 0 0) ≡ false → oneOf left n at s ≡ got (leafOf n s h)
+  unfolding insideOf
+  at-leaf h e f = at-head ∙ then-on _ h e ∙ pick-false _ _ f
+
+  at-branch : (h : Head) → headOf at s ≡ got h → nested (getD s 0 0) ≡ true
+      → oneOf left n at s ≡ andThen (runOf (left - 1) (n + 1) (at + from h) (part (from h) (to h) s)) (λ r. got (branchOf s h r))
+  unfolding insideOf
+  at-branch h e f = at-head ∙ then-on _ h e ∙ pick-true _ _ f
+
+  pub one-leaf : Bytes s → (b : Bounds) → headAnswer at s ≡ bounds-read b → b .nested ≡ false → Answered left n at s b (n + 1) 0
+  unfolding headAnswer oneAnswer asPart boundsOf
+  one-leaf bs =
+      bounds-got s (headOf at s) (λ b. b .nested ≡ false → Answered left n at s b (n + 1) 0)
+      (λ h e f. (fits at s h bs e 0 (omega arith), ap (asPart oneTally) (at-leaf h e f) ∙ ap Part (leaf-tally at s h bs e n)))
+
+  pub one-no-inner : (b : Bounds) → headAnswer at s ≡ bounds-read b → b .nested ≡ true → (r : Fault) → inner left n at s b ≡ part-refused r
+      → oneAnswer left n at s ≡ part-refused r
+  unfolding headAnswer oneAnswer runAnswer asPart boundsOf
+  one-no-inner =
+      bounds-got s (headOf at s)
+      (λ b. b .nested ≡ true → (r : Fault) → inner left n at s b ≡ part-refused r → oneAnswer left n at s ≡ part-refused r)
+      (λ h e f r g. ap (asPart oneTally) (at-branch h e f ∙ then-stop _ r (part-stopped _ _ r g)))
+
+  pub one-branch : Bytes s → (b : Bounds) → headAnswer at s ≡ bounds-read b → b .nested ≡ true → (r : Tally) → inner left n at s b ≡ Part r
+      → Answered left n at s b (r .objects) (r .spare)
+  unfolding headAnswer oneAnswer runAnswer asPart boundsOf runTally
+  one-branch bs =
+      bounds-got s (headOf at s)
+      (λ b. b .nested ≡ true → (r : Tally) → inner left n at s b ≡ Part r → Answered left n at s b (r .objects) (r .spare))
+      (λ h e f.
+      let t = part (from h) (to h) s in
+      part-got (runTally t) (runOf (left - 1) (n + 1) (at + from h) t) (λ r. Answered left n at s (boundsOf s h) (r .objects) (r .spare))
+      (λ r g.
+      let i = branch-tally at s h bs e (left - 1) (n + 1) (at + from h) r g in
+      (fits at s h bs e (spareRun (r .objs)) (i .0), ap (asPart oneTally) (at-branch h e f ∙ then-on _ r g) ∙ ap Part (i .1))))

@@ -1,0 +1,161 @@
+-- `zvt::fields::read_field` meets its contract. Assumes nothing.
+use mathlib.Core.Path.{_≡_, refl, sym, ap, _∙_}
+use mathlib.Core.Bool.{true, false, not, false≢true}
+use mathlib.Core.List.{[], _∷_}
+use Prim.Native.Nat.{_≤_}
+use native.Mathlib.Omega.{arith}
+use lib.ListN.{length}
+use lib.Dec.{eqb}
+use borrow.Author.Tests.{not-true, not-false}
+use denote.Enum.Declared.{tagOf}
+use Rattle.messages.specs.declared.Format.{Format}
+use Rattle.messages.specs.declared.Format.the-variants.{Unknown, Fixed, Digits, Container}
+use Rattle.messages.specs.Fields.{unknown}
+use Rattle.messages.specs.Grammar.{Bytes}
+use Rattle.messages.proofs.Format.{the-type}
+use Rattle.zvt.specs.declared.objects.Bounds.{Bounds}
+use Rattle.zvt.specs.declared.objects.BoundsRead.the-variants.{Bounds as bounds-read}
+use Rattle.zvt.specs.declared.objects.PartRead.the-variants.{Part}
+use Rattle.zvt.specs.Fields.{fieldBounds}
+use Rattle.zvt.proofs.Tables.{allIn, at-key}
+use Rattle.zvt.proofs.FieldReads.{Answered, field-unknown, field-twice, field-no-bounds, field-value, field-plain}
+use Rattle.zvt.proofs.FieldReads.{field-no-inner, field-container}
+use borrow.Author.Needs.{needs}
+use Rattle.zvt.proofs.fields.read_field.Statement.{statement}
+use Rattle.zvt.proofs.fields.read_field.Tie as tie
+
+-- a format other than the first
+known : (f : Format) → not (eqb (tagOf the-type f) 0) ≡ true → unknown f ≡ false
+unfolding unknown
+known Unknown h = absurd (false≢true h)
+known (Fixed k) h = refl
+known (Digits d) h = refl
+known Container h = refl
+
+-- bounds that were found, of an id that did not stand before
+abbrev once : tie.After-struct-known → tie.Else1
+once c = c .before .before .before .before .before
+
+abbrev begun : tie.After-struct-known → tie.Start
+begun c = once c .before .before .before .before .before
+
+abbrev bounds : tie.After-struct-known → Bounds
+bounds c = c .before .before .b .given .0 .0
+
+found : (c : tie.After-struct-known) → fieldBounds (begun c .args .at) (begun c .args .s .now) ≡ bounds-read (bounds c)
+found c = sym (c .before .before .before .before .field-bounds .ensures) ∙ c .before .before .b .given .1
+
+lies : (c : tie.After-struct-known) → (bounds c .from ≤ bounds c .to) × (bounds c .to ≤ length (begun c .args .s .now))
+lies c = field-value _ _ _ (found c)
+
+abbrev inside : tie.After-known-told4 → tie.Else2
+inside c = c .before .before .before .before .before
+
+is-container : (c : tie.After-known-told4)
+    → (let a = begun (inside c .before) .args in
+    Answered (a .twice) (a .n) (a .at) (a .s .now) (bounds (inside c .before))
+    (c .before .r .given .0 .0 .objects) (c .before .r .given .0 .0 .spare))
+unfolding Bytes
+is-container c =
+    let d = inside c .before in
+    field-container _ _ _ _ (once d .if1 .left) _ (found d) (not-false _ (inside c .if2 .left))
+    (λ i. omega (arith, once d .before .before .before .before .shared-slice-known .given i)) _
+    (sym (c .before .before .before .read-run .ensures) ∙ c .before .r .given .1)
+
+shared-slice-read-format-of : tie.Need-shared-slice-read-format-of
+shared-slice-read-format-of c = search needs
+
+format-of-requires : tie.Need-format-of-requires
+format-of-requires c κs = search needs
+
+enum-told : tie.Need-enum-told
+enum-told c = search needs
+
+returns : tie.Need-returns
+returns c = sym (field-unknown _ _ _ _ (sym (c .before .before .format-of .ensures) ∙ c .enum-told .given .1))
+
+returns-2 : tie.Need-returns-2
+unfolding allIn
+returns-2 c =
+    let other = at-key (λ k. not (eqb k 0)) (1 ∷ 2 ∷ 3 ∷ []) refl _ (c .before .match .keys2) in
+    sym (field-twice _ _ _ _ (ap unknown (sym (c .before .before .format-of .ensures)) ∙ known _ other) (c .if1 .taken))
+
+field-bounds-requires : tie.Need-field-bounds-requires
+field-bounds-requires c κs = search needs
+
+enum-known-f : tie.Need-enum-known-f
+enum-known-f c = search needs
+
+enum-known-b : tie.Need-enum-known-b
+enum-known-b c = search needs
+
+read-plain-requires : tie.Need-read-plain-requires
+read-plain-requires c κs = let h = lies (c .before) in search needs
+
+returns-3 : tie.Need-returns-3
+returns-3 c =
+    let d = c .before in
+    c .read-plain .ensures ∙ sym (field-plain _ _ _ _ (once (d .before) .if1 .left) _ (found (d .before)) (not-true _ (d .if2 .taken)))
+
+sub-read-run : tie.Need-sub-read-run
+sub-read-run c = lies (c .before) .0
+
+part-read-run-start : tie.Need-part-read-run-start
+part-read-run-start c = lies (c .before) .0
+
+part-read-run-end : tie.Need-part-read-run-end
+part-read-run-end c = lies (c .before) .1
+
+add-read-run : tie.Need-add-read-run
+add-read-run c = let h = lies (c .before .before) in omega arith
+
+read-run-requires : tie.Need-read-run-requires
+read-run-requires c κs = let h = lies (c .before .before) in omega (arith, c .read-run-arg .given .2)
+
+enum-known-f-2 : tie.Need-enum-known-f-2
+enum-known-f-2 c = search needs
+
+enum-known-r : tie.Need-enum-known-r
+enum-known-r c = search needs
+
+tally-of-requires : tie.Need-tally-of-requires
+tally-of-requires c κs = is-container c .0
+
+returns-4 : tie.Need-returns-4
+returns-4 c =
+    sym (field-no-bounds _ _ _ _ (c .before .before .before .before .if1 .left) _ (sym (c .before .before .before .field-bounds .ensures) ∙ c .before .f .given .1))
+
+returns-5 : tie.Need-returns-5
+returns-5 c =
+    let d = c .before .before .before .before .before in
+    sym (field-no-inner _ _ _ _ (once (d .before) .if1 .left) _ (found (d .before)) (not-false _ (d .if2 .left)) _
+    (sym (c .before .before .before .read-run .ensures) ∙ c .before .f2 .given .1))
+
+returns-6 : tie.Need-returns-6
+returns-6 c = ap Part (c .tally-of .ensures) ∙ sym (is-container (c .before) .1)
+
+pub read-field-spec : {M : Type 1} → statement M
+read-field-spec =
+    tie.close
+    (tie.spec
+    shared-slice-read-format-of
+    format-of-requires
+    enum-told
+    returns
+    returns-2
+    field-bounds-requires
+    enum-known-f
+    enum-known-b
+    read-plain-requires
+    returns-3
+    sub-read-run
+    part-read-run-start
+    part-read-run-end
+    add-read-run
+    read-run-requires
+    enum-known-f-2
+    enum-known-r
+    tally-of-requires
+    returns-4
+    returns-5
+    returns-6)

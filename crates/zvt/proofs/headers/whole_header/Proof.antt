@@ -1,0 +1,40 @@
+-- `zvt::headers::whole_header` meets its contract. Assumes nothing.
+use mathlib.Core.Path.{sym, _∙_}
+use native.Mathlib.Omega.{arith}
+use borrow.Author.Needs.{needs}
+use Rattle.zvt.proofs.HeaderLaws.{first-within, whole-none, whole-over, whole-in}
+use Rattle.zvt.proofs.headers.whole_header.Statement.{statement}
+use Rattle.zvt.proofs.headers.whole_header.Tie as tie
+
+header-of-requires : tie.Need-header-of-requires
+header-of-requires c κs = search needs
+
+enum-known-f : tie.Need-enum-known-f
+enum-known-f c = search needs
+
+enum-known-h : tie.Need-enum-known-h
+enum-known-h c = search needs
+
+sub-if1 : tie.Need-sub-if1
+sub-if1 c =
+    let called = c .before .before .before .before in
+    let w = first-within _ _ (sym (called .header-of .ensures) ∙ c .before .before .h .given .1) in
+    omega (arith, w .2)
+
+returns : tie.Need-returns
+returns c =
+    let called = c .before .before .before .before .before .before in
+    sym (whole-over _ _ (sym (called .header-of .ensures) ∙ c .before .before .before .before .h .given .1) (c .if1 .taken))
+
+returns-2 : tie.Need-returns-2
+returns-2 c = sym (whole-none _ _ (sym (c .before .before .before .header-of .ensures) ∙ c .before .f .given .1))
+
+returns-3 : tie.Need-returns-3
+returns-3 c =
+    let called = c .before .before .before .before .before .before in
+    sym (whole-in _ _ (sym (called .header-of .ensures) ∙ c .before .before .before .before .h .given .1) (c .if1 .left))
+
+pub whole-header-spec : {M : Type 1} → statement M
+whole-header-spec =
+    tie.close
+    (tie.spec header-of-requires enum-known-f enum-known-h sub-if1 returns returns-2 returns-3)

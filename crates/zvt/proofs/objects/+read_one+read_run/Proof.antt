@@ -1,0 +1,262 @@
+-- `zvt::objects::read_one` and `zvt::objects::read_run` meet their contracts. The measure is the length, twice, and one more for a
+-- run, which asks for an object of the same bytes. Assumes nothing.
+use mathlib.Core.Path.{_≡_, sym, ap, _∙_}
+use Prim.Native.Nat.{ℕ, _<_, _+_, _*_}
+use native.Mathlib.Omega.{arith}
+use lib.ListN.{length}
+use borrow.Author.Needs.{needs}
+use borrow.Author.Tests.{not-true, not-false}
+use borrow.Fn.Kinds.{In}
+use borrow.Fn.PlainCycle.{Measures, is, falls, and}
+use Rattle.messages.specs.Grammar.{Bytes}
+use Rattle.zvt.specs.Objects.{headAnswer, oneAnswer}
+use Rattle.zvt.specs.declared.objects.Bounds.{Bounds}
+use Rattle.zvt.specs.declared.objects.BoundsRead.the-variants.{Bounds as bounds-read}
+use Rattle.zvt.specs.declared.objects.PartRead.the-variants.{Part}
+use Rattle.zvt.proofs.RunLaws.{run-empty, run-no-first, run-no-rest, Goes, run-goes, first-in}
+use Rattle.zvt.proofs.RunLaws.{one-full, one-deep, value-in, Answered, one-no-head, one-leaf, one-no-inner, one-branch}
+use Rattle.zvt.proofs.objects.read_one.Reads as read-one
+use Rattle.zvt.proofs.objects.read_one.Kinds as read-one-kinds
+use Rattle.zvt.proofs.objects.+read_one+read_run.Lts-read_one as read-one-lts
+use Rattle.zvt.proofs.objects.read_run.Reads as read-run
+use Rattle.zvt.proofs.objects.read_run.Kinds as read-run-kinds
+use Rattle.zvt.proofs.objects.+read_one+read_run.Lts-read_run as read-run-lts
+use Rattle.zvt.proofs.objects.head_of.Reads as head-of-reads
+use Rattle.zvt.proofs.objects.tally_of.Reads as tally-of-reads
+use Rattle.zvt.proofs.objects.+read_one+read_run.{statement}
+use Rattle.zvt.proofs.objects.+read_one+read_run.Tie.{close}
+
+abbrev μ-one : Measures 1 read-one-kinds.ps ℕ
+μ-one κs a = length (a .0 .now) * 2
+
+abbrev μ-run : Measures 1 read-run-kinds.ps ℕ
+μ-run κs a = length (a .0 .now) * 2 + 1
+
+module _ (t : ℕ) where
+  abbrev one-at : In 1 read-one-kinds.ps
+  one-at = and 1 read-one-kinds.ps (is 1 read-one-kinds.ps μ-one t) read-one.Pre
+
+  abbrev one-below : In 1 read-one-kinds.ps
+  one-below = and 1 read-one-kinds.ps (falls 1 read-one-kinds.ps _<_ μ-one t) read-one.Pre
+
+  abbrev run-at : In 1 read-run-kinds.ps
+  run-at = and 1 read-run-kinds.ps (is 1 read-run-kinds.ps μ-run t) read-run.Pre
+
+  abbrev run-below : In 1 read-run-kinds.ps
+  run-below = and 1 read-run-kinds.ps (falls 1 read-run-kinds.ps _<_ μ-run t) read-run.Pre
+
+  abbrev one-claims : read-one-lts.Claims
+  one-claims = (head-of-reads.Asked, head-of-reads.Learnt, tally-of-reads.Asked, tally-of-reads.Learnt, run-below, read-run.Post)
+
+  abbrev run-claims : read-run-lts.Claims
+  run-claims = (one-below, read-one.Post, run-below, read-run.Post)
+
+  -- ---- an object
+  abbrev One : Type 0
+  One = read-one-lts.Start one-claims one-at read-one.Post
+
+  -- with room for it, and levels left
+  abbrev Room : Type 0
+  Room = read-one-lts.Else2 one-claims one-at read-one.Post
+
+  abbrev begun : Room → One
+  begun c = c .before .before .before
+
+  -- its head lies there
+  abbrev Found : Type 0
+  Found = read-one-lts.After-known-told2 one-claims one-at read-one.Post
+
+  abbrev room : Found → Room
+  room c = c .before .before .before .before
+
+  found : (c : Found) → headAnswer (begun (room c) .args .at) (begun (room c) .args .s .now) ≡ bounds-read (c .before .b .given .0 .0)
+  found c = sym (c .before .before .before .head-of .ensures) ∙ c .before .b .given .1
+
+  one-bytes : (c : Room) → Bytes (begun c .args .s .now)
+  unfolding Bytes
+  one-bytes c i = omega (arith, c .before .before .shared-slice-known .given i)
+
+  abbrev Is : One → Bounds → ℕ → ℕ → Type 0
+  Is a = Answered (a .args .left) (a .args .n) (a .args .at) (a .args .s .now)
+
+  is-leaf : (c : read-one-lts.Then3 one-claims one-at read-one.Post)
+      → Is (begun (room (c .before .before))) (c .before .before .before .b .given .0 .0) (begun (room (c .before .before)) .args .n + 1) 0
+  is-leaf c =
+      let d = c .before .before in
+      let e = room d in
+      one-leaf _ _ _ _ (e .before .if1 .left) (e .if2 .left) (one-bytes e) _ (found d) (not-true _ (c .if3 .taken))
+
+  abbrev inside : read-one-lts.After-known-told4 one-claims one-at read-one.Post → read-one-lts.Else3 one-claims one-at read-one.Post
+  inside c = c .before .before .before .before .before
+
+  is-branch : (c : read-one-lts.After-known-told4 one-claims one-at read-one.Post)
+      → Is (begun (room (inside c .before .before))) (inside c .before .before .before .b .given .0 .0) (c .before .r .given .0 .0 .objects)
+      (c .before .r .given .0 .0 .spare)
+  is-branch c =
+      let d = inside c .before .before in
+      let e = room d in
+      one-branch _ _ _ _ (e .before .if1 .left) (e .if2 .left) (one-bytes e) _ (found d) (not-false _ (inside c .if3 .left)) _
+      (sym (c .before .before .before .read-run .ensures) ∙ c .before .r .given .1)
+
+  one-returns : read-one-lts.Need-returns one-claims one-at read-one.Post
+  one-returns c = sym (one-full _ _ _ _ (c .if1 .taken))
+
+  one-returns-2 : read-one-lts.Need-returns-2 one-claims one-at read-one.Post
+  one-returns-2 c = sym (one-deep _ _ _ _ (c .before .if1 .left) (c .if2 .taken))
+
+  one-add-count : read-one-lts.Need-add-count one-claims one-at read-one.Post
+  one-add-count c = search needs
+
+  one-head-of-requires : read-one-lts.Need-head-of-requires one-claims one-at read-one.Post
+  one-head-of-requires c κs = search needs
+
+  one-enum-known-f : read-one-lts.Need-enum-known-f one-claims one-at read-one.Post
+  one-enum-known-f c = search needs
+
+  one-enum-known-b : read-one-lts.Need-enum-known-b one-claims one-at read-one.Post
+  one-enum-known-b c = search needs
+
+  one-tally-of-requires : read-one-lts.Need-tally-of-requires one-claims one-at read-one.Post
+  one-tally-of-requires c κs = is-leaf c .0
+
+  one-returns-3 : read-one-lts.Need-returns-3 one-claims one-at read-one.Post
+  one-returns-3 c = ap Part (c .tally-of .ensures) ∙ sym (is-leaf (c .before) .1)
+
+  one-sub-read-run : read-one-lts.Need-sub-read-run one-claims one-at read-one.Post
+  one-sub-read-run c = value-in _ _ _ (found (c .before .before)) .1
+
+  one-part-read-run-start : read-one-lts.Need-part-read-run-start one-claims one-at read-one.Post
+  one-part-read-run-start c = value-in _ _ _ (found (c .before .before)) .1
+
+  one-part-read-run-end : read-one-lts.Need-part-read-run-end one-claims one-at read-one.Post
+  one-part-read-run-end c = value-in _ _ _ (found (c .before .before)) .2
+
+  one-add-read-run : read-one-lts.Need-add-read-run one-claims one-at read-one.Post
+  one-add-read-run c = let h = value-in _ _ _ (found (c .before .before .before)) in omega arith
+
+  one-sub-read-run-2 : read-one-lts.Need-sub-read-run-2 one-claims one-at read-one.Post
+  one-sub-read-run-2 c = let h = room (c .before .before .before) .if2 .left in omega arith
+
+  one-read-run-requires : read-one-lts.Need-read-run-requires one-claims one-at read-one.Post
+  one-read-run-requires c κs =
+      let d = c .before .before .before in
+      let h = value-in _ _ _ (found d) in
+      (omega (arith, c .read-run-arg .given .2, begun (room d) .pre .0), omega arith)
+
+  one-enum-known-f-2 : read-one-lts.Need-enum-known-f-2 one-claims one-at read-one.Post
+  one-enum-known-f-2 c = search needs
+
+  one-enum-known-r : read-one-lts.Need-enum-known-r one-claims one-at read-one.Post
+  one-enum-known-r c = search needs
+
+  one-tally-of-requires-2 : read-one-lts.Need-tally-of-requires-2 one-claims one-at read-one.Post
+  one-tally-of-requires-2 c κs = is-branch c .0
+
+  one-returns-4 : read-one-lts.Need-returns-4 one-claims one-at read-one.Post
+  one-returns-4 c =
+      let d = c .before .before .before .before in
+      sym (one-no-head _ _ _ _ (d .before .if1 .left) (d .if2 .left) _
+      (sym (c .before .before .before .head-of .ensures) ∙ c .before .f .given .1))
+
+  one-returns-5 : read-one-lts.Need-returns-5 one-claims one-at read-one.Post
+  one-returns-5 c =
+      let d = c .before .before .before .before .before in
+      let e = room (d .before .before) in
+      sym (one-no-inner _ _ _ _ (e .before .if1 .left) (e .if2 .left) _ (found (d .before .before)) (not-false _ (d .if3 .left)) _
+      (sym (c .before .before .before .read-run .ensures) ∙ c .before .f2 .given .1))
+
+  one-returns-6 : read-one-lts.Need-returns-6 one-claims one-at read-one.Post
+  one-returns-6 c = ap Part (c .tally-of2 .ensures) ∙ sym (is-branch (c .before) .1)
+
+  -- ---- a run
+  abbrev Run : Type 0
+  Run = read-run-lts.Start run-claims run-at read-run.Post
+
+  -- that is not empty, and has read its first object
+  abbrev First : Type 0
+  First = read-run-lts.After-known-told2 run-claims run-at read-run.Post
+
+  abbrev started : First → Run
+  started c = c .before .before .before .before .before .before
+
+  first : (c : First)
+      → oneAnswer (started c .args .left) (started c .args .n) (started c .args .at) (started c .args .s .now) ≡ Part (c .before .o .given .0 .0)
+  first c = sym (c .before .before .before .read-one .ensures) ∙ c .before .o .given .1
+
+  run-bytes : (c : First) → Bytes (started c .args .s .now)
+  unfolding Bytes
+  run-bytes c i = omega (arith, c .before .before .before .before .before .shared-slice-known .given i)
+
+  abbrev before-rest : read-run-lts.After-struct-known2 run-claims run-at read-run.Post → First
+  before-rest c = c .before .before .before .before .before .before .before
+
+  goes : (c : read-run-lts.After-struct-known2 run-claims run-at read-run.Post)
+      → let a = started (before-rest c) .args in
+      Goes (a .left) (a .n) (a .at) (a .s .now) (before-rest c .before .o .given .0 .0) (c .before .before .before .r .given .0 .0)
+  goes c =
+      let d = before-rest c in
+      run-goes _ _ _ _ (omega arith) (run-bytes d) _ (first d) _
+      (sym (c .before .before .before .before .before .read-run .ensures) ∙ c .before .before .before .r .given .1)
+
+  run-returns : read-run-lts.Need-returns run-claims run-at read-run.Post
+  run-returns c = sym (run-empty _ _ _ _ (c .if1 .taken))
+
+  run-read-one-requires : read-run-lts.Need-read-one-requires run-claims run-at read-run.Post
+  run-read-one-requires c κs = (omega (arith, c .before .before .pre .0), omega arith)
+
+  run-enum-known-f : read-run-lts.Need-enum-known-f run-claims run-at read-run.Post
+  run-enum-known-f c = search needs
+
+  run-enum-known-o : read-run-lts.Need-enum-known-o run-claims run-at read-run.Post
+  run-enum-known-o c = search needs
+
+  run-sub-read-run : read-run-lts.Need-sub-read-run run-claims run-at read-run.Post
+  run-sub-read-run c = first-in _ _ _ _ _ (first c) .1
+
+  run-part-read-run-start : read-run-lts.Need-part-read-run-start run-claims run-at read-run.Post
+  run-part-read-run-start c = first-in _ _ _ _ _ (first c) .1
+
+  run-part-read-run-end : read-run-lts.Need-part-read-run-end run-claims run-at read-run.Post
+  run-part-read-run-end c = search needs
+
+  run-add-read-run : read-run-lts.Need-add-read-run run-claims run-at read-run.Post
+  run-add-read-run c = let h = first-in _ _ _ _ _ (first (c .before)) in omega arith
+
+  run-read-run-requires : read-run-lts.Need-read-run-requires run-claims run-at read-run.Post
+  run-read-run-requires c κs =
+      let h = first-in _ _ _ _ _ (first (c .before)) in
+      (omega (arith, c .read-run-arg .given .2, started (c .before) .pre .0), omega arith)
+
+  run-enum-known-f-2 : read-run-lts.Need-enum-known-f-2 run-claims run-at read-run.Post
+  run-enum-known-f-2 c = search needs
+
+  run-enum-known-r : read-run-lts.Need-enum-known-r run-claims run-at read-run.Post
+  run-enum-known-r c = search needs
+
+  run-add-spare : read-run-lts.Need-add-spare run-claims run-at read-run.Post
+  run-add-spare c = let h = goes c .0 in omega arith
+
+  run-returns-2 : read-run-lts.Need-returns-2 run-claims run-at read-run.Post
+  run-returns-2 c =
+      sym (run-no-first _ _ _ _ (omega arith) _ (sym (c .before .before .before .read-one .ensures) ∙ c .before .f .given .1))
+
+  run-returns-3 : read-run-lts.Need-returns-3 run-claims run-at read-run.Post
+  run-returns-3 c =
+      sym (run-no-rest _ _ _ _ (omega arith) _ (first (c .before .before .before .before .before)) _
+      (sym (c .before .before .before .read-run .ensures) ∙ c .before .f2 .given .1))
+
+  run-returns-4 : read-run-lts.Need-returns-4 run-claims run-at read-run.Post
+  run-returns-4 c = sym (goes c .1)
+
+pub +read-one+read-run-spec : {M : Type 1} → statement M
++read-one+read-run-spec =
+    close μ-one μ-run
+    (λ t. read-one-lts.spec (one-claims t) (one-at t) read-one.Post (one-returns t) (one-returns-2 t) (one-add-count t)
+    (one-head-of-requires t) (one-enum-known-f t) (one-enum-known-b t) (one-tally-of-requires t) (one-returns-3 t)
+    (one-sub-read-run t) (one-part-read-run-start t) (one-part-read-run-end t) (one-add-read-run t) (one-sub-read-run-2 t)
+    (one-read-run-requires t) (one-enum-known-f-2 t) (one-enum-known-r t) (one-tally-of-requires-2 t) (one-returns-4 t)
+    (one-returns-5 t) (one-returns-6 t))
+    (λ t. read-run-lts.spec (run-claims t) (run-at t) read-run.Post (run-returns t) (run-read-one-requires t)
+    (run-enum-known-f t) (run-enum-known-o t) (run-sub-read-run t) (run-part-read-run-start t) (run-part-read-run-end t) (run-add-read-run t)
+    (run-read-run-requires t) (run-enum-known-f-2 t) (run-enum-known-r t) (run-add-spare t) (run-returns-2 t) (run-returns-3 t)
+    (run-returns-4 t))

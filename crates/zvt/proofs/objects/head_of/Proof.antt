@@ -1,0 +1,111 @@
+-- `zvt::objects::head_of` meets its contract. Assumes nothing.
+use mathlib.Core.Path.{_≡_, sym, _∙_}
+use mathlib.Core.List.{List}
+use Prim.Native.Nat.{ℕ}
+use native.Mathlib.Omega.{arith}
+use lib.ListN.{getD}
+use Rattle.zvt.specs.Objects.{tagAnswer}
+use Rattle.zvt.specs.declared.objects.TagRead.the-variants.{Size}
+use Rattle.zvt.proofs.Masks.{run-bit, no-run-bit}
+use Rattle.zvt.proofs.ObjectLaws.{tag-within, Started, head-no-tag, head-no-length, head-starts}
+use borrow.Author.Needs.{needs}
+use Rattle.zvt.proofs.objects.head_of.Statement.{statement}
+use Rattle.zvt.proofs.objects.head_of.Tie as tie
+
+-- what the two calls found, at the places where their answers are taken apart
+at-tag : (c : tie.After-known-told2)
+    → tagAnswer (c .before .before .before .before .before .args .at) (c .before .before .before .before .before .args .s .now)
+    ≡ Size (c .before .tag .given .0 .0)
+at-tag c = sym (c .before .before .before .tag-size .ensures) ∙ c .before .tag .given .1
+
+abbrev tagged : tie.After-known-told4 → tie.After-known-told2
+tagged c = c .before .before .before .before .before
+
+abbrev seen : tie.After-known-told4 → List ℕ
+seen c = tagged c .before .before .before .before .before .args .s .now
+
+started : (c : tie.After-known-told4)
+    → Started (tagged c .before .before .before .before .before .args .at) (tagged c .before .tag .given .0 .0) (c .before .size .given .0 .0)
+    (c .before .size .given .0 .1 .0) (seen c)
+started c = head-starts _ _ _ (at-tag (tagged c)) _ _ (sym (c .before .before .before .len-of .ensures) ∙ c .before .size .given .1)
+
+tag-size-requires : tie.Need-tag-size-requires
+tag-size-requires c κs = search needs
+
+enum-known-f : tie.Need-enum-known-f
+enum-known-f c = search needs
+
+enum-known-tag : tie.Need-enum-known-tag
+enum-known-tag c = search needs
+
+sub-len-of : tie.Need-sub-len-of
+sub-len-of c = tag-within _ _ _ (at-tag c) .1
+
+part-len-of-start : tie.Need-part-len-of-start
+part-len-of-start c = tag-within _ _ _ (at-tag c) .1
+
+part-len-of-end : tie.Need-part-len-of-end
+part-len-of-end c = search needs
+
+add-len-of : tie.Need-add-len-of
+add-len-of c = let h = tag-within _ _ _ (at-tag (c .before)) in omega arith
+
+len-of-requires : tie.Need-len-of-requires
+len-of-requires c κs = let h = tag-within _ _ _ (at-tag (c .before)) in omega arith
+
+enum-known-f-2 : tie.Need-enum-known-f-2
+enum-known-f-2 c = search needs
+
+enum-known-size : tie.Need-enum-known-size
+enum-known-size c = search needs
+
+add-from : tie.Need-add-from
+add-from c = let h = started c in omega arith
+
+shared-slice-read-if1 : tie.Need-shared-slice-read-if1
+shared-slice-read-if1 c = let h = started (c .before) in omega arith
+
+bounds-in-requires : tie.Need-bounds-in-requires
+bounds-in-requires c κs = let h = started (c .before .before) in search needs
+
+bounds-in-requires-2 : tie.Need-bounds-in-requires-2
+bounds-in-requires-2 c κs = let h = started (c .before .before) in search needs
+
+returns : tie.Need-returns
+returns c = sym (head-no-tag _ _ _ (sym (c .before .before .before .tag-size .ensures) ∙ c .before .f .given .1))
+
+returns-2 : tie.Need-returns-2
+returns-2 c =
+    sym (head-no-length _ _ _ (at-tag (c .before .before .before .before .before)) _
+    (sym (c .before .before .before .len-of .ensures) ∙ c .before .f2 .given .1))
+
+returns-3 : tie.Need-returns-3
+returns-3 c =
+    let d = c .before .before .before in started d .answer (run-bit (getD (seen d) 0 0) (c .before .if1 .taken)) (c .bounds-in .ensures)
+
+returns-4 : tie.Need-returns-4
+returns-4 c =
+    let d = c .before .before .before in started d .answer (no-run-bit (getD (seen d) 0 0) (c .before .if1 .left)) (c .bounds-in2 .ensures)
+
+pub head-of-spec : {M : Type 1} → statement M
+head-of-spec =
+    tie.close
+    (tie.spec
+    tag-size-requires
+    enum-known-f
+    enum-known-tag
+    sub-len-of
+    part-len-of-start
+    part-len-of-end
+    add-len-of
+    len-of-requires
+    enum-known-f-2
+    enum-known-size
+    add-from
+    shared-slice-read-if1
+    bounds-in-requires
+    bounds-in-requires-2
+    returns
+    returns-2
+    returns-3
+    returns-4)
