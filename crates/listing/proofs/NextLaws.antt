@@ -1,19 +1,16 @@
 -- The next line of a listing, case by case. Assumes nothing.
-use mathlib.Core.Path.{_≡_, refl, sym, _∙_, ap}
-use mathlib.Core.Bool.{true, false}
-use mathlib.Core.List.{List, _++_}
+use mathlib.Core.Path.{_≡_, refl, _∙_, ap}
+use mathlib.Core.List.{List}
 use Prim.Native.Nat.{ℕ, _+_, _≤_, _<_}
 use native.Mathlib.Omega.{arith}
 use borrow.Author.Tests.{lt-ltb, le-ltb, eq-eqb, ne-eqb}
 use lib.ListN.{length, take, length-take}
-use Rattle.messages.specs.declared.Fault.{Fault}
 use Rattle.messages.specs.Reading.{Reading, got, refused}
 use Rattle.messages.specs.Message.{Message, readOf, firstOf}
 use Rattle.messages.specs.Writing.{messageBytes}
 use Rattle.messages.specs.Grammar.{Bytes}
 use Rattle.messages.proofs.MessageBytes.{first-sound, read-complete}
 use Rattle.zvt.specs.declared.Refusal.{Refusal}
-use Rattle.zvt.specs.declared.Message.{Message as ReadMessage}
 use Rattle.zvt.specs.declared.FirstAnswer.{FirstAnswer}
 use Rattle.zvt.specs.declared.FirstAnswer.the-variants.{Accepted as first-accepted, Refused as first-refused}
 use Rattle.zvt.specs.Answers.{refusalOf, messageAnswer, asFirstAnswer, firstAnswer}

@@ -2,10 +2,10 @@
 use mathlib.Core.Path.{_≡_, refl, ap, ap₂}
 use mathlib.Core.Bool.{Bool, true, false}
 use mathlib.Core.List.{List}
-use Prim.Native.Nat.{ℕ, _≤_, _<_}
+use Prim.Native.Nat.{ℕ, _≤_}
 use native.Mathlib.Omega.{arith}
 use borrow.Author.Tests.{ltb-false}
-use lib.ListN.{length, getD, take, length-take}
+use lib.ListN.{length, getD, length-take}
 use mir.Val.{Fits}
 use mir.Syntax.{w8}
 use lib.Dec.{ltb, eqb}
@@ -14,10 +14,10 @@ use Rattle.messages.specs.Message.{Message, firstOf}
 use Rattle.messages.specs.Writing.{messageBytes}
 use Rattle.messages.specs.Grammar.{Bytes}
 use Rattle.messages.proofs.MessageBytes.{first-sound}
-use Rattle.zvt.proofs.Slices.{bytes-of}
+use Rattle.zvt.proofs.BodyLaws.{bytes-known}
 use Rattle.listing.specs.declared.Line.{Line}
 use Rattle.listing.specs.declared.Line.the-variants.{Message as message-line, Last}
-use Rattle.listing.specs.Text.{Text, text, write}
+use Rattle.listing.specs.Text.{text, write}
 use Rattle.listing.specs.Lines.{okText, refusedText, Next, message, last, nextBy, nextOf, lineText, asLine, Shown, Bounded}
 use Rattle.listing.proofs.TextLaws.{written-in}
 
@@ -72,4 +72,4 @@ bounded count s entry (Last size) exit b h = last-fits (nextOf count s) entry si
 -- both clauses from the first
 pub shown-so : (count : ℕ) (s entry : List ℕ) (r : Line) (exit : List ℕ) → ((i : ℕ) → Fits w8 (getD s i 0)) → Shown (nextOf count s) entry r exit
     → Shown (nextOf count s) entry r exit × Bounded s exit r
-shown-so count s entry r exit b h = (h, bounded count s entry r exit (bytes-of s b) h)
+shown-so count s entry r exit b h = (h, bounded count s entry r exit (bytes-known s b) h)

@@ -8,10 +8,6 @@ use native.Mathlib.Omega.{arith}
 use borrow.Author.Needs.{needs}
 use Rattle.lister.proofs.list.Statement.{statement}
 use Rattle.lister.proofs.list.Tie as tie
-use Rattle.lister.proofs.list.Reads as reads
-use Rattle.lister.proofs.list.Lts as lts
-use Rattle.lister.proofs.print.Reads as print-reads
-use Rattle.listing.proofs.next_line.Reads as next-line-reads
 
 abbrev Inv-loop : tie.InvT-loop
 Inv-loop s out₀ at₀ count₀ out at count = (at ≤ length s) × ((count ≡ 0) ⊎ (count + (length s - at) ≤ 65536))

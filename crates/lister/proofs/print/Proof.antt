@@ -6,10 +6,6 @@ use Rattle.listing.proofs.TextLaws.{written-in}
 use borrow.Author.Needs.{needs}
 use Rattle.lister.proofs.print.Statement.{statement}
 use Rattle.lister.proofs.print.Tie as tie
-use Rattle.lister.proofs.print.Reads as reads
-use Rattle.lister.proofs.print.Lts as lts
-use Rattle.io.proofs.write_all.Reads as write-all-reads
-use Rattle.listing.proofs.text.add.Reads as add-reads
 
 add-requires : tie.Need-add-requires
 add-requires c κs = search needs

@@ -4,10 +4,6 @@ use Rattle.listing.proofs.TextLaws.{both}
 use borrow.Author.Needs.{needs}
 use Rattle.listing.proofs.add_end.Statement.{statement}
 use Rattle.listing.proofs.add_end.Tie as tie
-use Rattle.listing.proofs.add_end.Reads as reads
-use Rattle.listing.proofs.add_end.Lts as lts
-use Rattle.listing.proofs.text.add_all.Reads as add-all-reads
-use Rattle.listing.proofs.text.add_decimal.Reads as add-decimal-reads
 
 slice-aggregate-add-all : tie.Need-slice-aggregate-add-all
 slice-aggregate-add-all c = search needs

@@ -1,23 +1,18 @@
 -- `listing::add_ids`: what is left to write comes to the same at every turn. Assumes nothing.
-use Prim.Native.Nat.{_-_, _≤_}
+use Prim.Native.Nat.{_-_}
 use mathlib.Core.Path.{_≡_, refl, sym, ap, _∙_}
 use lib.ListN.{length, drop}
 use native.Mathlib.Omega.{arith}
 use borrow.Author.Needs.{needs}
 use Rattle.messages.specs.Message.{readOf}
 use Rattle.zvt.specs.List.{listedMessage, fieldAnswer}
-use Rattle.zvt.proofs.Slices.{bytes-of}
+use Rattle.zvt.proofs.BodyLaws.{bytes-known}
 use Rattle.listing.specs.Text.{Text, text, write}
 use Rattle.listing.specs.Lines.{listedText}
 use Rattle.listing.proofs.TextLaws.{write-room}
 use Rattle.listing.proofs.LineLaws.{ids-step, ids-end, ids-all}
 use Rattle.listing.proofs.add_ids.Statement.{statement}
 use Rattle.listing.proofs.add_ids.Tie as tie
-use Rattle.listing.proofs.add_ids.Reads as reads
-use Rattle.listing.proofs.add_ids.Lts as lts
-use Rattle.listing.proofs.text.add.Reads as add-reads
-use Rattle.listing.proofs.text.add_hex.Reads as add-hex-reads
-use Rattle.zvt.proofs.field_at.Reads as field-at-reads
 
 abbrev Inv-loop : tie.InvT-loop
 Inv-loop s at out₀ to₀ k₀ out to k = (length out ≡ length out₀) × (write (listedText (drop k (listedMessage (readOf s)))) (text to out) ≡ write (listedText (listedMessage (readOf s))) (text at out₀))
@@ -74,7 +69,7 @@ same-length-2 : tie.Need-same-length-2 Inv-loop μ-loop
 same-length-2 c = search needs
 
 returns-2 : tie.Need-returns-2 Inv-loop μ-loop
-returns-2 c = let turn = c .before in sym (ids-all _ (turn .loop .k) _ (bytes-of _ (turn .before .before .shared-slice-known .given)) (omega arith)) ∙ turn .loop .inv .1
+returns-2 c = let turn = c .before in sym (ids-all _ (turn .loop .k) _ (bytes-known _ (turn .before .before .shared-slice-known .given)) (omega arith)) ∙ turn .loop .inv .1
 
 pub add-ids-spec : {M : Type 1} → statement M
 add-ids-spec =

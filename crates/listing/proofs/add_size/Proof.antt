@@ -4,11 +4,6 @@ use Rattle.listing.proofs.TextLaws.{both}
 use borrow.Author.Needs.{needs}
 use Rattle.listing.proofs.add_size.Statement.{statement}
 use Rattle.listing.proofs.add_size.Tie as tie
-use Rattle.listing.proofs.add_size.Reads as reads
-use Rattle.listing.proofs.add_size.Lts as lts
-use Rattle.listing.proofs.text.add.Reads as add-reads
-use Rattle.listing.proofs.text.add_all.Reads as add-all-reads
-use Rattle.listing.proofs.text.add_decimal.Reads as add-decimal-reads
 
 add-requires : tie.Need-add-requires
 add-requires c κs = search needs

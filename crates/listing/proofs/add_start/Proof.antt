@@ -4,11 +4,6 @@ use Rattle.listing.proofs.TextLaws.{both}
 use borrow.Author.Needs.{needs}
 use Rattle.listing.proofs.add_start.Statement.{statement}
 use Rattle.listing.proofs.add_start.Tie as tie
-use Rattle.listing.proofs.add_start.Reads as reads
-use Rattle.listing.proofs.add_start.Lts as lts
-use Rattle.listing.proofs.text.add.Reads as add-reads
-use Rattle.listing.proofs.text.add_decimal.Reads as add-decimal-reads
-use Rattle.listing.proofs.text.add_hex.Reads as add-hex-reads
 
 add-decimal-requires : tie.Need-add-decimal-requires
 add-decimal-requires c κs = search needs

@@ -4,11 +4,6 @@ use Rattle.listing.proofs.TextLaws.{both}
 use borrow.Author.Needs.{needs}
 use Rattle.listing.proofs.message_line.Statement.{statement}
 use Rattle.listing.proofs.message_line.Tie as tie
-use Rattle.listing.proofs.message_line.Reads as reads
-use Rattle.listing.proofs.message_line.Lts as lts
-use Rattle.listing.proofs.add_ids.Reads as add-ids-reads
-use Rattle.listing.proofs.add_size.Reads as add-size-reads
-use Rattle.listing.proofs.add_start.Reads as add-start-reads
 
 add-start-requires : tie.Need-add-start-requires
 add-start-requires c κs = search needs

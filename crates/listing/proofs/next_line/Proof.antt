@@ -2,18 +2,12 @@
 use mathlib.Core.Path.{sym, _∙_}
 use native.Mathlib.Omega.{arith}
 use lib.Seq.{length-take-le}
-use Rattle.zvt.proofs.Slices.{bytes-of}
+use Rattle.zvt.proofs.BodyLaws.{bytes-known}
 use Rattle.listing.proofs.ShownLaws.{shown-so}
 use Rattle.listing.proofs.NextLaws.{shown-last, shown-message, next-over, next-none, next-refused, next-within, next-message}
 use borrow.Author.Needs.{needs}
 use Rattle.listing.proofs.next_line.Statement.{statement}
 use Rattle.listing.proofs.next_line.Tie as tie
-use Rattle.listing.proofs.next_line.Reads as reads
-use Rattle.listing.proofs.next_line.Lts as lts
-use Rattle.listing.proofs.message_line.Reads as message-line-reads
-use Rattle.listing.proofs.ok_line.Reads as ok-line-reads
-use Rattle.listing.proofs.refused_line.Reads as refused-line-reads
-use Rattle.zvt.proofs.read_first.Reads as read-first-reads
 
 refused-line-requires : tie.Need-refused-line-requires
 refused-line-requires c κs = search needs
@@ -46,7 +40,7 @@ enum-known-m : tie.Need-enum-known-m
 enum-known-m c = search needs
 
 slice-aggregate-message-line : tie.Need-slice-aggregate-message-line
-slice-aggregate-message-line c = sym (length-take-le _ _ (next-within _ (bytes-of _ (c .before .before .before .before .before .before .before .before .shared-slice-known .given)) _ _ (sym (c .before .before .before .before .read-first .ensures) ∙ c .before .before .m .given .1)))
+slice-aggregate-message-line c = sym (length-take-le _ _ (next-within _ (bytes-known _ (c .before .before .before .before .before .before .before .before .shared-slice-known .given)) _ _ (sym (c .before .before .before .before .read-first .ensures) ∙ c .before .before .m .given .1)))
 
 add-message-line : tie.Need-add-message-line
 add-message-line c = search needs
@@ -64,7 +58,7 @@ same-length-4 : tie.Need-same-length-4
 same-length-4 c = search needs
 
 returns-4 : tie.Need-returns-4
-returns-4 c = shown-so _ _ _ _ _ (c .before .before .before .before .before .before .before .before .before .before .before .before .shared-slice-known .given) (shown-message _ _ _ _ _ _ (next-message _ (bytes-of _ (c .before .before .before .before .before .before .before .before .before .before .before .before .shared-slice-known .given)) _ _ (sym (c .before .before .before .before .before .before .before .before .read-first .ensures) ∙ c .before .before .before .before .before .before .m .given .1) _ (omega arith) (λ k. omega arith)) (c .before .before .message-line .ensures))
+returns-4 c = shown-so _ _ _ _ _ (c .before .before .before .before .before .before .before .before .before .before .before .before .shared-slice-known .given) (shown-message _ _ _ _ _ _ (next-message _ (bytes-known _ (c .before .before .before .before .before .before .before .before .before .before .before .before .shared-slice-known .given)) _ _ (sym (c .before .before .before .before .before .before .before .before .read-first .ensures) ∙ c .before .before .before .before .before .before .m .given .1) _ (omega arith) (λ k. omega arith)) (c .before .before .message-line .ensures))
 
 pub next-line-spec : {M : Type 1} → statement M
 next-line-spec =

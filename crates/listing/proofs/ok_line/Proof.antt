@@ -4,10 +4,6 @@ use Rattle.listing.proofs.TextLaws.{both}
 use borrow.Author.Needs.{needs}
 use Rattle.listing.proofs.ok_line.Statement.{statement}
 use Rattle.listing.proofs.ok_line.Tie as tie
-use Rattle.listing.proofs.ok_line.Reads as reads
-use Rattle.listing.proofs.ok_line.Lts as lts
-use Rattle.listing.proofs.add_end.Reads as add-end-reads
-use Rattle.listing.proofs.text.add_all.Reads as add-all-reads
 
 add-end-requires : tie.Need-add-end-requires
 add-end-requires c κs = search needs

@@ -4,11 +4,6 @@ use Rattle.listing.proofs.TextLaws.{both}
 use borrow.Author.Needs.{needs}
 use Rattle.listing.proofs.refused_line.Statement.{statement}
 use Rattle.listing.proofs.refused_line.Tie as tie
-use Rattle.listing.proofs.refused_line.Reads as reads
-use Rattle.listing.proofs.refused_line.Lts as lts
-use Rattle.listing.proofs.add_end.Reads as add-end-reads
-use Rattle.listing.proofs.text.add_all.Reads as add-all-reads
-use Rattle.listing.proofs.text.add_decimal.Reads as add-decimal-reads
 
 add-end-requires : tie.Need-add-end-requires
 add-end-requires c κs = search needs

@@ -4,8 +4,6 @@ use Rattle.listing.proofs.TextLaws.{add-full, add-room}
 use borrow.Author.Needs.{needs}
 use Rattle.listing.proofs.text.add.Statement.{statement}
 use Rattle.listing.proofs.text.add.Tie as tie
-use Rattle.listing.proofs.text.add.Reads as reads
-use Rattle.listing.proofs.text.add.Lts as lts
 
 returns : tie.Need-returns
 returns c = add-full (c .before .args .b) (c .before .args .at) (c .before .args .out .now) (omega arith)

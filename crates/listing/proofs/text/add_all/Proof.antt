@@ -8,9 +8,6 @@ use Rattle.listing.specs.Text.{Text, text, write}
 use Rattle.listing.proofs.TextLaws.{write-step, write-none, write-room}
 use Rattle.listing.proofs.text.add_all.Statement.{statement}
 use Rattle.listing.proofs.text.add_all.Tie as tie
-use Rattle.listing.proofs.text.add_all.Reads as reads
-use Rattle.listing.proofs.text.add_all.Lts as lts
-use Rattle.listing.proofs.text.add.Reads as add-reads
 
 abbrev Inv-loop : tie.InvT-loop
 Inv-loop v at out₀ to₀ i₀ out to i = (length out ≡ length out₀) × (write (drop i v) (text to out) ≡ write v (text at out₀))

@@ -2,16 +2,11 @@
 use mathlib.Core.Path.{_∙_, ap}
 use mathlib.Core.List.{List}
 use Prim.Native.Nat.{ℕ}
-use native.Mathlib.Omega.{arith}
 use Rattle.listing.specs.Text.{text, write}
 use Rattle.listing.proofs.TextLaws.{decimals}
 use borrow.Author.Needs.{needs}
 use Rattle.listing.proofs.text.add_decimal.Statement.{statement}
 use Rattle.listing.proofs.text.add_decimal.Tie as tie
-use Rattle.listing.proofs.text.add_decimal.Reads as reads
-use Rattle.listing.proofs.text.add_decimal.Lts as lts
-use Rattle.io.proofs.decimal.Reads as decimal-reads
-use Rattle.listing.proofs.text.add_all.Reads as add-all-reads
 
 decimal-requires : tie.Need-decimal-requires
 decimal-requires c κs = search needs

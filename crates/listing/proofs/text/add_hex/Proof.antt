@@ -3,10 +3,6 @@ use Rattle.listing.specs.Text.{hexText}
 use borrow.Author.Needs.{needs}
 use Rattle.listing.proofs.text.add_hex.Statement.{statement}
 use Rattle.listing.proofs.text.add_hex.Tie as tie
-use Rattle.listing.proofs.text.add_hex.Reads as reads
-use Rattle.listing.proofs.text.add_hex.Lts as lts
-use Rattle.listing.proofs.text.add_all.Reads as add-all-reads
-use Rattle.listing.proofs.text.digit.Reads as digit-reads
 
 digit-requires : tie.Need-digit-requires
 digit-requires c κs = search needs

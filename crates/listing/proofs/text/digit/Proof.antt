@@ -4,8 +4,6 @@ use borrow.Author.Tests.{lt-ltb, le-ltb}
 use borrow.Author.Needs.{needs}
 use Rattle.listing.proofs.text.digit.Statement.{statement}
 use Rattle.listing.proofs.text.digit.Tie as tie
-use Rattle.listing.proofs.text.digit.Reads as reads
-use Rattle.listing.proofs.text.digit.Lts as lts
 
 add-result : tie.Need-add-result
 add-result c = search needs
