@@ -55,7 +55,6 @@ unfolding Bounded
 add-at c = let h = rw (c .before .before .before .before .before .size2 .given .1) at (c .before .before .before .before .before .before .before .before .before .next-line .ensures .1) in omega (arith, h .2)
 
 add-count : tie.Need-add-count Inv-loop μ-loop
-unfolding Bounded
 add-count c = ⊎-elim (λ w. omega arith) (λ w. omega arith) (c .before .before .before .before .before .before .before .before .before .before .before .before .loop .inv .1)
 
 loop-less : tie.Need-loop-less Inv-loop μ-loop
