@@ -1,0 +1,53 @@
+// Words of a line, one blank between two of them.
+ghost use Rattle.io.specs.Counts.{Counts};
+
+// n, or the length of s where that is less.
+pub fn upto(n: usize, s: &[u8]) -> usize
+    ensures { λ r. ⌜ Counts r (now (s .entry)) ⌝ }
+{
+    if s.len() < n { s.len() } else { n }
+}
+
+// Where the first b of s stands, or the end of s.
+pub fn find(s: &[u8], b: u8) -> usize
+    ensures { λ r. ⌜ Counts r (now (s .entry)) ⌝ }
+{
+    let mut i: usize = 0;
+    while i < s.len() {
+        if s[i] == b {
+            return upto(i, s);
+        }
+        i += 1;
+    }
+    upto(i, s)
+}
+
+// The first word of s.
+pub fn head<'a>(s: &'a [u8]) -> &'a [u8] {
+    let end = find(s, b' ');
+    &s[..end]
+}
+
+// What follows the first word of s and the blank behind it.
+pub fn tail<'a>(s: &'a [u8]) -> &'a [u8] {
+    let end = find(s, b' ');
+    if end == s.len() {
+        return &s[end..];
+    }
+    let next = end + 1;
+    &s[next..]
+}
+
+pub fn same(a: &[u8], b: &[u8]) -> bool {
+    if a.len() != b.len() {
+        return false;
+    }
+    let mut i: usize = 0;
+    while i < a.len() && i < b.len() {
+        if a[i] != b[i] {
+            return false;
+        }
+        i += 1;
+    }
+    true
+}
