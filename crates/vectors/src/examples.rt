@@ -1,0 +1,216 @@
+// An example: a line of the data file, `KIND WORD = ANSWER` or `KIND WORD WORD = ANSWER`.
+use crate::answers;
+use crate::notation::Bytes;
+use crate::notation::Number;
+use crate::notation::bytes_of;
+use crate::notation::number;
+use crate::words::head;
+use crate::words::same;
+use crate::words::tail;
+
+pub enum Kind {
+    Header,
+    Read,
+    First,
+    Shorten,
+    Status,
+    List,
+    Name,
+    Each,
+    Within,
+    Field,
+    Amount,
+    Password,
+    Receipt,
+    Unknown,
+}
+
+// How an example came out; where it differs, how long the answer's text is.
+pub enum Outcome {
+    Same,
+    Differs(usize),
+    Bad,
+}
+
+enum Made {
+    Text(usize),
+    Bad,
+}
+
+fn kind_of_bytes(w: &[u8]) -> Kind {
+    if same(w, b"header") {
+        return Kind::Header;
+    }
+    if same(w, b"read") {
+        return Kind::Read;
+    }
+    if same(w, b"first") {
+        return Kind::First;
+    }
+    if same(w, b"shorten") {
+        return Kind::Shorten;
+    }
+    if same(w, b"status") {
+        return Kind::Status;
+    }
+    if same(w, b"list") {
+        return Kind::List;
+    }
+    Kind::Unknown
+}
+
+fn kind_of_two(w: &[u8]) -> Kind {
+    if same(w, b"name") {
+        return Kind::Name;
+    }
+    if same(w, b"each") {
+        return Kind::Each;
+    }
+    if same(w, b"within") {
+        return Kind::Within;
+    }
+    if same(w, b"field") {
+        return Kind::Field;
+    }
+    Kind::Unknown
+}
+
+fn kind_of_number(w: &[u8]) -> Kind {
+    if same(w, b"amount") {
+        return Kind::Amount;
+    }
+    if same(w, b"password") {
+        return Kind::Password;
+    }
+    if same(w, b"receipt") {
+        return Kind::Receipt;
+    }
+    Kind::Unknown
+}
+
+// KIND BYTES
+fn of_bytes(kind: Kind, s: &[u8], room: &mut [u8], got: &mut [u8]) -> Made {
+    match kind {
+        Kind::Header => Made::Text(answers::header_text(s, got)),
+        Kind::Read => Made::Text(answers::read_text(s, got)),
+        Kind::First => Made::Text(answers::first_text(s, got)),
+        Kind::Shorten => Made::Text(answers::shorten_text(s, room, got)),
+        Kind::Status => Made::Text(answers::status_text(s, got)),
+        Kind::List => Made::Text(answers::list_text(s, room, got)),
+        _ => Made::Bad,
+    }
+}
+
+// KIND NUMBER
+fn of_number(kind: Kind, k: Number, got: &mut [u8]) -> Made {
+    match kind {
+        Kind::Amount => Made::Text(answers::amount_text(k.value, got)),
+        Kind::Password => Made::Text(answers::password_text(k.value, got)),
+        Kind::Receipt => Made::Text(answers::receipt_text(k.value, got)),
+        _ => Made::Bad,
+    }
+}
+
+// KIND BYTES NUMBER
+fn of_bytes_and_number(
+    kind: Kind,
+    s: &mut [u8],
+    k: Number,
+    room: &mut [u8],
+    got: &mut [u8],
+) -> Made {
+    match kind {
+        Kind::Each => {
+            let place = k.value;
+            if s.len() as u64 <= place {
+                return Made::Bad;
+            }
+            Made::Text(answers::each_text(s, place as usize, got))
+        }
+        Kind::Within => {
+            let size = k.value;
+            if (room.len() as u64) < size {
+                return Made::Bad;
+            }
+            let n = size as usize;
+            Made::Text(answers::shorten_text(s, &mut room[..n], got))
+        }
+        Kind::Field => Made::Text(answers::field_text(k.value, s, got)),
+        _ => Made::Bad,
+    }
+}
+
+fn one_word(name: &[u8], w: &[u8], a: &mut [u8], b: &mut [u8], got: &mut [u8]) -> Made {
+    let counted = kind_of_number(name);
+    if let Kind::Unknown = counted {
+        return match bytes_of(w, a) {
+            Bytes::Bad => Made::Bad,
+            Bytes::Bytes(n) => of_bytes(kind_of_bytes(name), &a[..n], b, got),
+        };
+    }
+    let k = number(w);
+    if k.size == 0 || k.size != w.len() {
+        return Made::Bad;
+    }
+    of_number(counted, k, got)
+}
+
+fn two_words(name: &[u8], v: &[u8], w: &[u8], a: &mut [u8], b: &mut [u8], got: &mut [u8]) -> Made {
+    let Bytes::Bytes(n) = bytes_of(v, a) else {
+        return Made::Bad;
+    };
+    let kind = kind_of_two(name);
+    if let Kind::Name = kind {
+        return match bytes_of(w, b) {
+            Bytes::Bad => Made::Bad,
+            Bytes::Bytes(m) => Made::Text(answers::name_text(&a[..n], &b[..m], got)),
+        };
+    }
+    let k = number(w);
+    if k.size == 0 || k.size != w.len() {
+        return Made::Bad;
+    }
+    of_bytes_and_number(kind, &mut a[..n], k, b, got)
+}
+
+// Bytes are compared as bytes, so that they may be written in any groups; all else as text.
+fn compared(answer: &[u8], size: usize, b: &mut [u8], got: &[u8], want: &mut [u8]) -> Outcome {
+    if same(answer, &got[..size]) {
+        return Outcome::Same;
+    }
+    match bytes_of(answer, b) {
+        Bytes::Bad => Outcome::Differs(size),
+        Bytes::Bytes(n) => {
+            let to = answers::add_bytes(&b[..n], 0, want);
+            if same(&want[..to], &got[..size]) {
+                Outcome::Same
+            } else {
+                Outcome::Differs(size)
+            }
+        }
+    }
+}
+
+// Runs the example of a line; a and b take bytes, got and want text.
+pub fn run(line: &[u8], a: &mut [u8], b: &mut [u8], got: &mut [u8], want: &mut [u8]) -> Outcome {
+    answers::blank(b);
+    let name = head(line);
+    let words = tail(line);
+    let v = head(words);
+    let more = tail(words);
+    let w = head(more);
+    let last = tail(more);
+    if same(w, b"=") {
+        return match one_word(name, v, a, b, got) {
+            Made::Bad => Outcome::Bad,
+            Made::Text(size) => compared(last, size, b, got, want),
+        };
+    }
+    if !same(head(last), b"=") {
+        return Outcome::Bad;
+    }
+    match two_words(name, v, w, a, b, got) {
+        Made::Bad => Outcome::Bad,
+        Made::Text(size) => compared(tail(last), size, b, got, want),
+    }
+}
