@@ -4,5 +4,6 @@ pub mod Lanes
 pub mod Commands
 pub mod Course
 pub mod Desk
+pub mod Memory
 pub mod Payments
 pub mod Turnover

@@ -1,5 +1,5 @@
-// What a lane and a line of the day book are. The course of a payment stands in specs/, its laws in proofs/; the code of the desk
-// stands in crate desk.
+// What a lane, a line, the day book and the desk are, with their limits. The course of a payment stands in specs/, its laws in
+// proofs/; the functions of the desk stand in crate desk.
 use messages::Refusal;
 use messages::Status;
 use messages::ToldAmount;
@@ -7,6 +7,7 @@ use messages::ToldCode;
 use messages::ToldReceipt;
 ghost use mathlib.Core.Path.{_≡_};
 ghost use Rattle.course.specs.Lanes.{noStatus, blankLine, idleLane, waitingLane, runningLane, reportedLane};
+ghost use Rattle.course.specs.Memory.{emptyBook, freshDesk};
 ghost use Rattle.course.specs.Numbers.{amountOk, receiptOk, passwordOk};
 
 pub enum Kind {
@@ -54,6 +55,38 @@ pub enum Moved {
     Stays,
     Becomes(Lane),
     Ends(Outcome, u64, u8),
+}
+
+// The day book: its lines so far are the first count.
+pub struct Book {
+    pub lines: [Line; 64],
+    pub count: usize,
+}
+
+pub struct Desk {
+    pub lanes: [Lane; 8],
+    pub book: Book,
+}
+
+// How many bytes were written, or the number of refusal.
+pub enum Reply {
+    Written(usize),
+    Refused(Refusal),
+}
+
+pub struct Answer {
+    pub reply: Reply,
+    pub desk: Desk,
+}
+
+pub enum LineAnswer {
+    End,
+    Line(Line),
+}
+
+pub enum LaneAnswer {
+    Refused(Refusal),
+    Lane(Lane),
 }
 
 impl Lane {
@@ -166,5 +199,32 @@ pub fn nothing_told() -> Status
         code: ToldCode::Missing,
         amount: ToldAmount::Missing,
         receipt: ToldReceipt::Missing,
+    }
+}
+
+impl Book {
+    pub const LINES: usize = 64;
+
+    pub fn empty() -> Self
+        ensures { λ r. ⌜ r ≡ emptyBook ⌝ }
+    {
+        let l = Line::blank();
+        Book {
+            lines: [l; Book::LINES],
+            count: 0,
+        }
+    }
+}
+
+impl Desk {
+    pub fn fresh() -> Self
+        ensures { λ r. ⌜ r ≡ freshDesk ⌝ }
+    {
+        let l = Lane::idle();
+        let b = Book::empty();
+        Desk {
+            lanes: [l; 8],
+            book: b,
+        }
     }
 }

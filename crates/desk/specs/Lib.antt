@@ -1,3 +1,2 @@
--- What each function of the desk answers, by the definitions of crate course.
+-- What the steps behind the desk's functions answer. The functions' own answers stand in crate course, specs/Memory.antt.
 pub mod Hear
-pub mod Desk

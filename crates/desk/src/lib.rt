@@ -2,179 +2,28 @@
 // the call was refused.
 mod commands;
 mod hear;
+mod memory;
 
+use course::Answer;
+use course::Book;
+use course::Desk;
 use course::Kind;
 use course::Lane;
-use course::Line;
+use course::LaneAnswer;
+use course::LineAnswer;
 use course::Moved;
 use course::Outcome;
+use course::Reply;
+use memory::last_line;
+use memory::moved;
+use memory::opening;
+use memory::places_in;
 use messages::Refusal;
 ghost use mathlib.Core.Path.{_≡_};
-ghost use Prim.Native.Nat.{_+_, _≤_, _<_};
-ghost use lib.ListN.{length, take};
-ghost use Rattle.course.specs.Desk.{places};
-ghost use Rattle.course.specs.Course.{sale, refund, reversal, message, lost, lastLine};
+ghost use lib.ListN.{length};
+ghost use Rattle.course.specs.Course.{sale, refund, reversal, message, lost};
+ghost use Rattle.course.specs.Memory.{Valid, linesOfDesk, refusedAnswer, openAnswer, openLeaves, answerOf, leavesOf, closeAnswer, lineAnswer, laneAnswer};
 ghost use Rattle.course.specs.Turnover.{netOf};
-ghost use Rattle.desk.specs.Desk.{Valid, emptyBook, withLine, freshDesk, linesOfDesk, openingNumber, movedDesk, refusedAnswer, openAnswer, openLeaves, answerOf, leavesOf, closeAnswer, lineAnswer, laneAnswer};
-
-pub struct Book {
-    pub lines: [Line; 64],
-    pub count: usize,
-}
-
-pub struct Desk {
-    pub lanes: [Lane; 8],
-    pub book: Book,
-}
-
-// How many bytes were written, or the number of refusal.
-pub enum Reply {
-    Written(usize),
-    Refused(Refusal),
-}
-
-pub struct Answer {
-    pub reply: Reply,
-    pub desk: Desk,
-}
-
-pub enum LineAnswer {
-    End,
-    Line(Line),
-}
-
-pub enum LaneAnswer {
-    Refused(Refusal),
-    Lane(Lane),
-}
-
-impl Book {
-    pub const LINES: usize = 64;
-
-    pub fn empty() -> Self
-        ensures { λ r. ⌜ r ≡ emptyBook ⌝ }
-    {
-        let l = Line::blank();
-        Book {
-            lines: [l; Book::LINES],
-            count: 0,
-        }
-    }
-
-    fn with_line(self, l: Line) -> Self
-        requires { ⌜ self .count < 64 ⌝ }
-        ensures { λ r. ⌜ r ≡ withLine self l ⌝ }
-    {
-        let at = self.count;
-        let mut b = self;
-        b.lines[at] = l;
-        b.count = at + 1;
-        b
-    }
-
-    // The last approved sale or reversal line of a lane with that receipt, or a blank one.
-    fn last_line(self, lane: u8, receipt: u16) -> Line
-        requires { ⌜ (self .count ≤ 64) × (length (self .lines) ≡ 64) ⌝ }
-        ensures { λ r. ⌜ r ≡ lastLine lane receipt (take (self .count) (self .lines)) ⌝ }
-    {
-        let count = self.count;
-        let mut last = Line::blank();
-        let mut i: usize = 0;
-        while i < count {
-            let l = self.lines[i];
-            if hear::concerns(l, lane, receipt) {
-                last = l;
-            }
-            i += 1;
-        }
-        last
-    }
-}
-
-impl Desk {
-    pub fn fresh() -> Self
-        ensures { λ r. ⌜ r ≡ freshDesk ⌝ }
-    {
-        let l = Lane::idle();
-        let b = Book::empty();
-        Desk {
-            lanes: [l; 8],
-            book: b,
-        }
-    }
-
-    // How many payments are open.
-    fn places(self) -> usize
-        requires { ⌜ length (self .lanes) ≡ 8 ⌝ }
-        ensures { λ r. ⌜ r ≡ places (self .lanes) ⌝ }
-    {
-        let mut n: usize = 0;
-        let mut i: usize = 0;
-        while i < 8 {
-            let l = self.lanes[i];
-            n += hear::place(l);
-            i += 1;
-        }
-        n
-    }
-
-    // The number of refusal of an opening, 0 for none: 12, 13, 16, 17, 18, 11.
-    fn opening(self, lane: u8, within: bool, sale: bool, need: usize, room: usize) -> u8
-        requires { ⌜ Valid self ⌝ }
-        ensures { λ r. ⌜ r ≡ openingNumber self lane within sale need room ⌝ }
-    {
-        if Lane::COUNT <= lane {
-            return 12;
-        }
-        let at = lane as usize;
-        let l = self.lanes[at];
-        if hear::place(l) != 0 {
-            return 13;
-        }
-        if !within {
-            return 16;
-        }
-        if !sale {
-            return 17;
-        }
-        let open = self.places();
-        let count = self.book.count;
-        if Book::LINES <= count + open {
-            return 18;
-        }
-        if room < need {
-            return 11;
-        }
-        0
-    }
-
-    // What a move of a lane leaves: one line more at a payment's end, and the lane idle.
-    fn moved(self, lane: u8, m: Moved) -> Self
-        requires { ⌜ (lane < 8) × (self .book .count < 64) ⌝ }
-        ensures { λ r. ⌜ r ≡ movedDesk self lane m ⌝ }
-    {
-        let at = lane as usize;
-        match m {
-            Moved::Refused(_) => self,
-            Moved::Stays => self,
-            Moved::Becomes(l) => {
-                let mut d = self;
-                d.lanes[at] = l;
-                d
-            }
-            Moved::Ends(outcome, settled, code) => {
-                let l = self.lanes[at];
-                let line = hear::line_at(lane, l, outcome, settled, code);
-                let b = self.book;
-                let next = b.with_line(line);
-                let mut d = self;
-                d.lanes[at] = Lane::idle();
-                d.book = next;
-                d
-            }
-        }
-    }
-}
 
 fn refused(desk: Desk, number: u8) -> Answer
     ensures { λ r. ⌜ r ≡ refusedAnswer desk number ⌝ }
@@ -200,12 +49,12 @@ fn open(
     ensures lent { λ _. ⌜ now (out .exit) ≡ openLeaves desk lane within sale (now (command .entry)) (now (out .entry)) ⌝ }
 {
     let need = command.len();
-    let number = desk.opening(lane, within, sale, need, out.len());
+    let number = opening(desk, lane, within, sale, need, out.len());
     if number != 0 {
         return refused(desk, number);
     }
     bytes::copy(command, out);
-    let d = desk.moved(lane, Moved::Becomes(l));
+    let d = moved(desk, lane, Moved::Becomes(l));
     Answer {
         reply: Reply::Written(need),
         desk: d,
@@ -244,7 +93,7 @@ pub fn open_reversal(desk: Desk, lane: u8, password: u32, receipt: u16, out: &mu
 {
     let within = hear::both(Lane::password_ok(password), Lane::receipt_ok(receipt));
     let book = desk.book;
-    let last = book.last_line(lane, receipt);
+    let last = last_line(book, lane, receipt);
     let command = commands::reversal_bytes(password, receipt);
     let l = Lane::waiting(Kind::Reversal, last.settled, receipt);
     open(
@@ -278,7 +127,7 @@ pub fn terminal(desk: Desk, lane: u8, s: &[u8], out: &mut [u8]) -> Answer
         return refused(desk, 11);
     }
     hear::put_reply(size, out);
-    let d = desk.moved(lane, m);
+    let d = moved(desk, lane, m);
     Answer {
         reply: Reply::Written(size),
         desk: d,
@@ -298,7 +147,7 @@ pub fn link_lost(desk: Desk, lane: u8) -> Answer
     if hear::place(l) == 0 {
         return refused(desk, 14);
     }
-    let d = desk.moved(lane, Moved::Ends(Outcome::Unclear, 0, 0));
+    let d = moved(desk, lane, Moved::Ends(Outcome::Unclear, 0, 0));
     Answer {
         reply: Reply::Written(0),
         desk: d,
@@ -310,7 +159,7 @@ pub fn close(desk: Desk) -> Answer
     requires { ⌜ Valid desk ⌝ }
     ensures { λ r. ⌜ r ≡ closeAnswer desk ⌝ }
 {
-    if desk.places() != 0 {
+    if places_in(desk) != 0 {
         return refused(desk, 19);
     }
     let mut d = desk;

@@ -11,15 +11,14 @@ use Rattle.messages.specs.declared.Fault.{Fault}
 use Rattle.messages.specs.declared.Format.{Format}
 use Rattle.messages.specs.declared.Format.the-variants.{Unknown, Fixed, Digits, Container}
 use Rattle.messages.specs.Reading.{Reading, got, refused, no, unless, andThen, among, part}
-use Rattle.messages.specs.Fields.{formatOf, digitsOf, decimal, unlessUndecimal, holdsDigits, digitsIn, plain}
-use Rattle.messages.specs.Writing.{fieldBytes}
+use Rattle.messages.specs.Fields.{formatOf, decimal, unlessUndecimal, holdsDigits, digitsIn, plain}
 use Rattle.messages.specs.Shortest.{shortField}
 use Rattle.messages.proofs.Readings.{then-on, then-stop, pick-true, pick-false}
 use Rattle.messages.proofs.ObjectSteps.{tail, len-in}
 use Rattle.messages.proofs.FieldSteps.{digits-in}
 use Rattle.zvt.specs.declared.objects.LenRead.the-variants.{Len as len-read, Refused as len-refused}
 use Rattle.zvt.specs.declared.objects.Bounds.{Bounds}
-use Rattle.zvt.specs.declared.objects.BoundsRead.the-variants.{Bounds as bounds-read, Refused as bounds-refused}
+use Rattle.zvt.specs.declared.objects.BoundsRead.the-variants.{Refused as bounds-refused}
 use Rattle.zvt.specs.declared.objects.Tally.{Tally}
 use Rattle.zvt.specs.declared.objects.PartRead.the-variants.{Part, Refused as part-refused}
 use Rattle.zvt.specs.declared.fields.DigitsRead.the-variants.{Number, Refused as digits-refused}
@@ -30,7 +29,8 @@ use Rattle.zvt.proofs.ObjectLaws.{unless-then, len-got, len-stopped}
 use Rattle.zvt.proofs.Tables.{allFrom, at-from}
 
 -- ---- decimal digits, whatever follows them
-pub decimals-then : {A : Type 0} (at : ℕ) (s t : List ℕ) (x : Reading A) → unlessUndecimal at s x ≡ andThen (unlessUndecimal at s (got t)) (λ u. x)
+pub decimals-then : {A : Type 0} (at : ℕ) (s t : List ℕ) (x : Reading A)
+    → unlessUndecimal at s x ≡ andThen (unlessUndecimal at s (got t)) (λ u. x)
 unfolding unlessUndecimal andThen
 decimals-then at [] t x = refl
 decimals-then at (b ∷ s) t x = ap (unless (not (decimal b)) (no 6 at)) (decimals-then (at + 1) s t x) ∙ sym (unless-then _ _ _ _)
@@ -67,7 +67,8 @@ module _ (n at : ℕ) (b : Bounds) (s : List ℕ) where
       let g = decimals-got _ f in
       ap (asPart fieldTally) (pick-true _ _ e ∙ decimals-then _ value value _ ∙ then-on _ (g .0) (g .1)) ∙ rw plain-spare
 
-  pub plain-stopped : (r : Fault) → holdsDigits (getD s 0 0) ≡ true → decimalsAnswer (at + b .from) value ≡ decimals-refused r → plainAnswer n at b s ≡ part-refused r
+  pub plain-stopped : (r : Fault) → holdsDigits (getD s 0 0) ≡ true → decimalsAnswer (at + b .from) value ≡ decimals-refused r
+      → plainAnswer n at b s ≡ part-refused r
   unfolding plainAnswer digitsIn asPart decimalsAnswer
   plain-stopped r e f = ap (asPart fieldTally) (pick-true _ _ e ∙ decimals-then _ value value _ ∙ then-stop _ r (decimals-stopped _ r f))
 

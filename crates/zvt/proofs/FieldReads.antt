@@ -2,7 +2,7 @@
 use mathlib.Core.Path.{_≡_, refl, sym, ap, _∙_}
 use mathlib.Core.Bool.{Bool, true, false}
 use mathlib.Core.List.{List}
-use Prim.Native.Nat.{ℕ, _+_, _-_, _<_, _≤_}
+use Prim.Native.Nat.{ℕ, _+_, _-_, _≤_}
 use native.Mathlib.Omega.{arith}
 use lib.ListN.{length, getD, drop}
 use borrow.Author.Tests.{ltb-false}
@@ -29,16 +29,16 @@ use Rattle.zvt.specs.Fields.{boundsBy, fieldBounds, spareField, fieldTal
 use Rattle.zvt.proofs.RunLaws.{part-got, part-stopped, spare-read, tally-is, Fits, tally-fits}
 
 -- ---- readings that stop alike
-stop-alike : {A B : Type 0} (t : Bool) (q r : Fault) (x : A) (y : B) → unless t q (got x) ≡ refused r → unless t q (got y) ≡ refused r
+cut-alike : {A B : Type 0} (t : Bool) (q r : Fault) (x : A) (y : B) → unless t q (got x) ≡ refused r → unless t q (got y) ≡ refused r
 unfolding unless
-stop-alike true q r x y e = cc
-stop-alike false q r x y e = absurd (got-not-refused e)
+cut-alike true q r x y e = cc
+cut-alike false q r x y e = absurd (got-not-refused e)
 
-then-alike : {A B C : Type 0} (x : Reading A) (f : A → Reading B) (g : A → Reading C) (r : Fault)
+both-stop : {A B C : Type 0} (x : Reading A) (f : A → Reading B) (g : A → Reading C) (r : Fault)
     → ((a : A) → f a ≡ refused r → g a ≡ refused r) → andThen x f ≡ refused r → andThen x g ≡ refused r
 unfolding andThen
-then-alike (got a) f g r h e = h a e
-then-alike (refused q) f g r h e = cc
+both-stop (got a) f g r h e = h a e
+both-stop (refused q) f g r h e = cc
 
 -- ---- bounds that were found, and not
 found : (x : Reading Bounds) (b : Bounds) → asBounds x ≡ bounds-read b → x ≡ got b
@@ -54,7 +54,7 @@ not-found (refused q) r e = cc
 module _ (at a v : ℕ) (run : Bool) (s : List ℕ) where
   no-value : (r : Fault) → boundsIn at 1 a v run s ≡ refused r → valueOf at a v s ≡ refused r
   unfolding boundsIn valueOf
-  no-value r e = stop-alike _ _ r _ _ e
+  no-value r e = cut-alike _ _ r _ _ e
 
   value-found : (b : Bounds) → boundsIn at 1 a v run s ≡ got b
       → (a + v ≤ length s) × (record { tag = 1; from = a; to = a + v; nested = run } ≡ b) × (valueOf at a v s ≡ got (part a (a + v) s))
@@ -79,8 +79,8 @@ module _ (id n at : ℕ) (s : List ℕ) where
   unfolding boundsBy fieldBy plainOf containerOf
   by-stopped Unknown r e = cc
   by-stopped (Fixed k) r e = then-stop _ r (no-value at 1 k false s r e)
-  by-stopped (Digits d) r e = then-alike _ _ _ r (λ v h. then-stop _ r (no-value at (1 + d) v false s r h)) e
-  by-stopped Container r e = then-alike _ _ _ r (λ l h. then-stop _ r (no-value at (1 + formSize (l .form)) (l .value) true s r h)) e
+  by-stopped (Digits d) r e = both-stop _ _ _ r (λ v h. then-stop _ r (no-value at (1 + d) v false s r h)) e
+  by-stopped Container r e = both-stop _ _ _ r (λ l h. then-stop _ r (no-value at (1 + formSize (l .form)) (l .value) true s r h)) e
 
   abbrev plainAt : Bounds → Reading FieldRead
   plainAt b =
@@ -196,7 +196,8 @@ module _ (twice : Bool) (n at : ℕ) (s : List ℕ) (once : twice ≡ false) whe
         let short = runBytes (shortRun (r .objs)) in (
           tally-fits b (l .form) (l .value) (spareRun (r .objs)) (f .1) (omega arith) (c .to) (omega arith),
           by-format _ (c .then ∙ then-on _ r e)
-              ∙ ap Part (tally-is b (r .count) (spareRun (r .objs)) _ _ (length short) (omega (arith, sized-size (l .form) (runBytes (r .objs)))) (omega arith)
+              ∙ ap Part (tally-is b (r .count) (spareRun (r .objs)) _ _ (length short)
+              (omega (arith, sized-size (l .form) (runBytes (r .objs)))) (omega arith)
               (omega (arith, sized-size (formFor (length short)) short))),
         )
 

@@ -3,12 +3,12 @@ use mathlib.Core.Path.{_≡_, refl, sym, ap, _∙_}
 use mathlib.Core.Bool.{Bool, true, false, _||_}
 use mathlib.Core.List.{List, [], _∷_}
 use Prim.Native.Nat.{ℕ, _+_, _-_, _<_, _≤_}
-use native.Mathlib.Nat.{add-zero, add-assoc, zero-add}
+use native.Mathlib.Nat.{add-zero, add-assoc}
 use native.Mathlib.Omega.{arith}
 use lib.ListN.{length, getD, take, drop, set, length-set, replicate, length-replicate, getD-replicate, length-append, length-drop}
 use lib.Seq.{getD-set-same, getD-set-other, getD-drop, drop-drop, length-take-le}
 use lib.Dec.{eqb}
-use borrow.Author.Tests.{eq-eqb, ne-eqb, eqb-true, eqb-false}
+use borrow.Author.Tests.{eqb-true, eqb-false}
 use Rattle.messages.specs.declared.Fault.{Fault}
 use Rattle.messages.specs.Reading.{Reading, got, refused, andThen, among}
 use Rattle.messages.specs.Fields.{Field, FieldRead, ListRead, fieldOf, listOf}
@@ -69,6 +69,10 @@ part-then f g (got a) y h = ap Part (h a refl)
 part-then f g (refused r) y h = refl
 
 -- the tally of a list of which so many bytes are saved already
+spared : (size objects : ℕ) {x y : ℕ} → x ≡ y
+    → _≡_ {A = Tally} (record { size = size; objects = objects; spare = x }) (record { size = size; objects = objects; spare = y })
+spared size objects e = rw e
+
 abbrev tallyFrom : ℕ → ℕ → ListRead → Tally
 tallyFrom size spare r = record { size = size; objects = r .count; spare = spare + spareList (r .fields) }
 
@@ -105,7 +109,7 @@ module _ (ids : List ℕ) (twice : Bool) (n at : ℕ) (s : List ℕ) (seen : twi
             (λ r. record { fields = o .field ∷ r .fields; count = r .count })
             (λ r h.
             let k = list-sound next (o .count) (at + o .size) left r (bytes-drop (o .size) s b) h in
-            ap (λ (x : ℕ). record { size = size; objects = r .count; spare = x }) (omega (arith, spare-more (o .field) (r .fields) next (g .ok) (k .1)))),
+            spared size (r .count) (omega (arith, spare-more (o .field) (r .fields) next (g .ok) (k .1)))),
       )
 
   list-goes : Bytes s → 0 < length s → (size spare : ℕ) (t : Tally) → fieldAnswer twice n at s ≡ Part t → Goes size spare t
@@ -119,12 +123,14 @@ module _ (at : ℕ) (s : List ℕ) where
 
   pub list-begins : listAnswer at s ≡ listFrom [] 0 0 0
   unfolding listAnswer listTally
-  list-begins = rw add-zero (part-alike _ _ (listOf [] 0 at s) (λ r. ap (λ (x : ℕ). record { size = length s; objects = r .count; spare = x }) (omega arith)))
+  list-begins = rw add-zero (part-alike _ _ (listOf [] 0 at s) (λ r. spared (length s) (r .count) (omega arith)))
 
   module _ (ids : List ℕ) (n i spare : ℕ) where
     pub list-ends : i ≤ length s → length s ≤ i → listFrom ids n i spare ≡ Part (record { size = i; objects = n; spare = spare })
     unfolding asPart spareList listBytes shortList
-    list-ends l h = let e : length s ≡ i = omega arith in rw (list-none ids n (at + i) (drop i s) (omega (arith, length-drop i s)), add-zero, e)
+    list-ends l h =
+        let e : length s ≡ i = omega arith in
+        rw (list-none ids n (at + i) (drop i s) (omega (arith, length-drop i s)), add-zero, e)
 
     -- behind the next field, with that tally
     abbrev pub GoesOn : Tally → Type 0

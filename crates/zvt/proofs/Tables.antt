@@ -6,7 +6,7 @@ use mathlib.Core.Logic.{inl, inr, ⊎-elim}
 use Prim.Native.Nat.{ℕ, zero, suc, _+_, _<_, _≤_}
 use native.Mathlib.Nat.{eq-or-lt-of-le}
 use native.Mathlib.Omega.{arith}
-use lib.Dec.{T, eqb}
+use lib.Dec.{eqb}
 use borrow.Author.Tests.{eqb-true}
 use mir.Val.{hasKey}
 use types.Run.{OneOf, hit}
@@ -70,7 +70,7 @@ module _ {A : Type 0} (t : Table A) where
   keyed y ks x e h = is-it y x (at-key (λ k. is y k) ks e x h)
 
   -- a range, less the single numbers
-  pub ranged : (kss : List (List ℕ)) (y : A) (a n x : ℕ) → allFrom (λ k. anyOf kss k || is y k) a n ≡ true → NoneOf kss x → a ≤ x → x < a + n → y ≡ t .at x
-  ranged kss y a n x e none l h =
-      let k = at-from (λ k. anyOf kss k || is y k) a n e x l h in
-      is-it y x (rw (not-any kss x none) at k)
+  pub ranged : (kss : List (List ℕ)) (y : A) (a n x : ℕ) → allFrom (λ k. anyOf kss k || is y k) a n ≡ true
+      → NoneOf kss x → (a ≤ x) × (x < a + n) → y ≡ t .at x
+  ranged kss y a n x e none h =
+      let k = at-from (λ k. anyOf kss k || is y k) a n e x (h .0) (h .1) in is-it y x (rw (not-any kss x none) at k)

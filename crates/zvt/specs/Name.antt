@@ -1,12 +1,10 @@
 -- Document 01, 'Data objects': "The card name for a receipt". Definitions only.
-use mathlib.Core.Path.{_≡_}
 use Prim.Native.Nat.{ℕ, _+_}
 use mathlib.Core.List.{List, [], _∷_}
 use lib.ListN.{length}
 use lib.Dec.{eqb}
 use Rattle.messages.specs.Reading.{Reading, got, refused, pick, part}
 use Rattle.messages.specs.Message.{Message, readOf}
-use Rattle.zvt.specs.declared.Listed.{Listed}
 use Rattle.zvt.specs.declared.FieldAnswer.{FieldAnswer}
 use Rattle.zvt.specs.declared.FieldAnswer.the-variants.{Field as listed-field, End}
 use Rattle.messages.specs.Values.{isStatus}
@@ -45,3 +43,9 @@ nameBytes s till (between a e) = part a e s
 
 unfoldable pub cardName : List ℕ → List ℕ → List ℕ
 cardName s till = nameBytes s till (nameAt s)
+
+-- "Thus the part handed back lies in the status information or in the till's own name, never in a copy." Where it lies, from where
+-- those two lie: a block of memory, and a place in it
+unfoldable pub namePlace : ℕ × ℕ → ℕ × ℕ → NameAt → ℕ × ℕ
+namePlace s till own = till
+namePlace s till (between a e) = (s .0, a + s .1)

@@ -24,7 +24,7 @@ ghost use lib.ListN.{length};
 ghost use Rattle.zvt.specs.Answers.{headerAnswer, readAnswer, firstAnswer};
 ghost use Rattle.messages.specs.Digits.{digitBytesOf};
 ghost use Rattle.zvt.specs.List.{fieldAnswer};
-ghost use Rattle.zvt.specs.Name.{cardName};
+ghost use Rattle.zvt.specs.Name.{nameAt, cardName, namePlace};
 ghost use Rattle.messages.specs.Values.{statusOf};
 ghost use Rattle.zvt.specs.Writing.{shortenAnswer, shortenLeaves};
 
@@ -171,6 +171,7 @@ pub fn read_status(s: &[u8]) -> Status
 // The card name of the status information that s is, or the till's own name.
 pub fn card_name<'a>(s: &'a [u8], own: &'a [u8]) -> &'a [u8]
     ensures bytes { λ r. ⌜ now r ≡ cardName (now (s .entry)) (now (own .entry)) ⌝ }
+    ensures place { λ r. ⌜ r .ptr ≡ namePlace (s .entry .ptr) (own .entry .ptr) (nameAt (now (s .entry))) ⌝ }
 {
     match list::status_place(s) {
         ListPlace::Nowhere => own,

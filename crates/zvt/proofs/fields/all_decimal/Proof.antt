@@ -1,8 +1,8 @@
 -- `zvt::fields::all_decimal` meets its contract. The loop's invariant: the bytes from i on answer as the whole does. Assumes nothing.
 use mathlib.Core.Path.{_≡_, sym, ap, _∙_}
-use mathlib.Core.Bool.{true, false}
+use mathlib.Core.Bool.{false}
 use mathlib.Core.Logic.{⊎-elim}
-use Prim.Native.Nat.{ℕ, _+_, _-_, _<_, _≤_}
+use Prim.Native.Nat.{_+_, _-_, _<_, _≤_}
 use native.Mathlib.Nat.{add-zero}
 use native.Mathlib.Omega.{arith}
 use lib.ListN.{length, getD, drop}
@@ -41,7 +41,9 @@ returns c =
     let l = c .before .before .before .loop in
     let b = getD (c .before .before .before .before .args .s .now) (l .i) 0 in
     let byte : b < 256 = omega (arith, c .before .shared-slice-known .given (l .i)) in
-    let bad : decimal b ≡ false = ⊎-elim (λ w. undecimal-high b byte (w .taken)) (λ w. undecimal-low b byte (w .0 .left) (ltb-true 9 (bitAnd b 0x0F) (w .2 .taken))) (c .if1 .came) in
+    let bad : decimal b ≡ false =
+    ⊎-elim (λ w. undecimal-high b byte (w .taken))
+    (λ w. undecimal-low b byte (w .0 .left) (ltb-true 9 (bitAnd b 0x0F) (w .2 .taken))) (c .if1 .came) in
     sym (l .inv .1 ∙ ap asDecimals (undecimal-stop _ _ _ (l .i) (c .before .before .loop-test .taken) bad))
 
 add-i : tie.Need-add-i Inv-loop μ-loop
@@ -54,7 +56,8 @@ loop-again : tie.Need-loop-again Inv-loop μ-loop
 loop-again c =
     let l = c .before .before .before .before .before .loop in
     let b = getD (c .before .before .before .before .before .before .args .s .now) (l .i) 0 in
-    let good = both-decimal b (omega (arith, c .before .shared-slice-known2 .given (l .i))) (c .before .before .if1 .left) (ltb-false 9 (bitAnd b 0x0F) (c .if2 .left)) in
+    let byte : b < 256 = omega (arith, c .before .shared-slice-known2 .given (l .i)) in
+    let good = both-decimal b byte (c .before .before .if1 .left) (ltb-false 9 (bitAnd b 0x0F) (c .if2 .left)) in
     (omega arith, l .inv .1 ∙ ap asDecimals (undecimal-on _ _ _ (l .i) (omega arith) good))
 
 returns-2 : tie.Need-returns-2 Inv-loop μ-loop

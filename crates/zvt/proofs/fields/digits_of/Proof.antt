@@ -3,13 +3,12 @@
 use mathlib.Core.Path.{_≡_, sym, ap, _∙_}
 use mathlib.Core.Bool.{true, false}
 use mathlib.Core.Logic.{_⊎_, inl, inr, ⊎-elim}
-use Prim.Native.Nat.{ℕ, _+_, _-_, _*_, _^_, _<_, _≤_}
+use Prim.Native.Nat.{ℕ, _+_, _-_, _^_, _<_, _≤_}
 use native.Mathlib.Numerals.{add-one}
 use native.Mathlib.Nat.{add-zero, sub-zero, pow-succ', pow-le-pow-right}
 use native.Mathlib.Omega.{arith}
-use lib.ListN.{length, getD, drop}
+use lib.ListN.{getD, drop}
 use borrow.Author.Tests.{le-leb, lt-leb, ltb-true, ltb-false}
-use Rattle.messages.specs.Reading.{got, refused, no}
 use Rattle.messages.specs.Fields.{lengthDigit, digitsOf}
 use Rattle.messages.proofs.FieldSteps.{digits-end, digits-cut, digits-on, digits-stop}
 use Rattle.zvt.specs.Fields.{asDigits, digitsAnswer}
@@ -78,8 +77,12 @@ loop-less c = omega arith
 loop-again : tie.Need-loop-again Inv-loop μ-loop
 loop-again c =
     let l = c .before .before .before .before .before .loop in
-    let high : getD (c .before .before .before .before .before .before .args .s .now) (l .i) 0 ≤ 249 = omega (arith, ltb-false) in
-    (omega arith, rw (add-one (l .i), pow-succ' 10 (l .i)) (omega (arith, high, l .inv .1)), l .inv .2 ∙ ap asDigits (digits-on _ (l .v) _ _ (l .i) (omega arith) (omega arith) (digit _ (c .before .if2 .left) high)))
+    let high : getD (c .before .before .before .before .before .before .args .s .now) (l .i) 0 ≤ 249 = omega (arith, ltb-false) in (
+      omega arith,
+      rw (add-one (l .i), pow-succ' 10 (l .i)) (omega (arith, high, l .inv .1)),
+      l .inv .2
+          ∙ ap asDigits (digits-on _ (l .v) _ _ (l .i) (omega arith) (omega arith) (digit _ (c .before .if2 .left) high)),
+    )
 
 returns-3 : tie.Need-returns-3 Inv-loop μ-loop
 unfolding asDigits

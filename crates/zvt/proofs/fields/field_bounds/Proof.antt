@@ -6,27 +6,44 @@ use Prim.Native.Nat.{_+_}
 use lib.ListN.{getD}
 use Rattle.messages.specs.declared.Format.the-variants.{Digits, Container}
 use Rattle.messages.specs.Fields.{formatOf}
-use Rattle.zvt.proofs.FieldLaws.{Begins, digits-few, bounds-unknown, bounds-fixed, bounds-no-digits, bounds-digits, bounds-no-length, bounds-length}
+use Rattle.zvt.proofs.FieldLaws.{Begins, digits-few, bounds-unknown, bounds-fixed, bounds-no-digits, bounds-digits}
+use Rattle.zvt.proofs.FieldLaws.{bounds-no-length, bounds-length}
 use borrow.Author.Needs.{needs}
 use Rattle.zvt.proofs.fields.field_bounds.Statement.{statement}
 use Rattle.zvt.proofs.fields.field_bounds.Tie as tie
 
-digits-format : (c : tie.After-format2) → formatOf (getD (c .before .before .before .args .s .now) 0 0) ≡ Digits (c .format2 .given .0 .0)
-digits-format c = sym (c .before .before .before .pre .2) ∙ c .format2 .given .1
+-- the format is known
+abbrev begun : tie.After-format2 → tie.Start
+begun c = c .before .before .before
 
-container-format : (c : tie.After-enum-told2) → formatOf (getD (c .before .before .before .args .s .now) 0 0) ≡ Container
-container-format c = sym (c .before .before .before .pre .2) ∙ c .enum-told2 .given .1
+abbrev begun-06 : tie.After-enum-told2 → tie.Start
+begun-06 c = c .before .before .before
+
+digits-format : (c : tie.After-format2) → formatOf (getD (begun c .args .s .now) 0 0) ≡ Digits (c .format2 .given .0 .0)
+digits-format c = sym (begun c .pre .2) ∙ c .format2 .given .1
+
+container-format : (c : tie.After-enum-told2) → formatOf (getD (begun-06 c .args .s .now) 0 0) ≡ Container
+container-format c = sym (begun-06 c .pre .2) ∙ c .enum-told2 .given .1
 
 -- where the value begins, once the length is read
+abbrev counted : tie.After-known-told4 → tie.After-format2
+counted c = c .before .before .before .before .before .before
+
 behind-digits : (c : tie.After-known-told4)
-    → Begins (c .before .before .before .before .before .before .before .before .before .args .at) (c .before .before .before .before .before .before .before .before .before .args .s .now) (1 + c .before .before .before .before .before .before .format2 .given .0 .0) (c .before .v .given .0 .0) false
+    → (let a = begun (counted c) .args in Begins (a .at) (a .s .now) (1 + counted c .format2 .given .0 .0) (c .before .v .given .0 .0) false)
 behind-digits c =
-    bounds-digits _ _ _ (digits-format (c .before .before .before .before .before .before)) (c .before .before .before .before .before .before .before .before .before .pre .1) _ (sym (c .before .before .before .digits-of .ensures) ∙ c .before .v .given .1)
+    let d = counted c in
+    bounds-digits _ _ _ (digits-format d) (begun d .pre .1) _ (sym (c .before .before .before .digits-of .ensures) ∙ c .before .v .given .1)
+
+abbrev measured : tie.After-known-told6 → tie.After-enum-told2
+measured c = c .before .before .before .before .before
 
 behind-length : (c : tie.After-known-told6)
-    → Begins (c .before .before .before .before .before .before .before .before .args .at) (c .before .before .before .before .before .before .before .before .args .s .now) (1 + c .before .size .given .0 .0) (c .before .size .given .0 .1 .0) true
+    → (let a = begun-06 (measured c) .args in
+    Begins (a .at) (a .s .now) (1 + c .before .size .given .0 .0) (c .before .size .given .0 .1 .0) true)
 behind-length c =
-    bounds-length _ _ (container-format (c .before .before .before .before .before)) (c .before .before .before .before .before .before .before .before .pre .1) _ _ (sym (c .before .before .before .len-of .ensures) ∙ c .before .size .given .1)
+    let d = measured c in
+    bounds-length _ _ (container-format d) (begun-06 d .pre .1) _ _ (sym (c .before .before .before .len-of .ensures) ∙ c .before .size .given .1)
 
 enum-told : tie.Need-enum-told
 enum-told c = search needs
@@ -103,16 +120,21 @@ returns : tie.Need-returns
 returns c = sym (bounds-unknown _ _ (sym (c .before .before .before .pre .2) ∙ c .enum-told .given .1))
 
 returns-2 : tie.Need-returns-2
-returns-2 c = c .bounds-in .ensures ∙ sym (bounds-fixed _ _ _ (sym (c .before .before .before .before .before .pre .2) ∙ c .before .before .format .given .1))
+returns-2 c =
+    c .bounds-in .ensures ∙ sym (bounds-fixed _ _ _ (sym (c .before .before .before .before .before .pre .2) ∙ c .before .before .format .given .1))
 
 returns-3 : tie.Need-returns-3
-returns-3 c = sym (bounds-no-digits _ _ _ (digits-format (c .before .before .before .before .before .before)) _ (sym (c .before .before .before .digits-of .ensures) ∙ c .before .f .given .1))
+returns-3 c =
+    sym (bounds-no-digits _ _ _ (digits-format (c .before .before .before .before .before .before)) _
+    (sym (c .before .before .before .digits-of .ensures) ∙ c .before .f .given .1))
 
 returns-4 : tie.Need-returns-4
 returns-4 c = c .bounds-in2 .ensures ∙ sym (behind-digits (c .before) .1)
 
 returns-5 : tie.Need-returns-5
-returns-5 c = sym (bounds-no-length _ _ (container-format (c .before .before .before .before .before)) _ (sym (c .before .before .before .len-of .ensures) ∙ c .before .f2 .given .1))
+returns-5 c =
+    sym (bounds-no-length _ _ (container-format (c .before .before .before .before .before)) _
+    (sym (c .before .before .before .len-of .ensures) ∙ c .before .f2 .given .1))
 
 returns-6 : tie.Need-returns-6
 returns-6 c = c .bounds-in3 .ensures ∙ sym (behind-length (c .before) .1)

@@ -2,7 +2,7 @@
 use mathlib.Core.Path.{_≡_, refl, sym, ap, _∙_}
 use mathlib.Core.Bool.{true, false, not, false≢true}
 use mathlib.Core.List.{[], _∷_}
-use Prim.Native.Nat.{ℕ, _≤_}
+use Prim.Native.Nat.{_≤_}
 use native.Mathlib.Omega.{arith}
 use lib.ListN.{length}
 use lib.Dec.{eqb}
@@ -18,7 +18,8 @@ use Rattle.zvt.specs.declared.objects.BoundsRead.the-variants.{Bounds as
 use Rattle.zvt.specs.declared.objects.PartRead.the-variants.{Part}
 use Rattle.zvt.specs.Fields.{fieldBounds}
 use Rattle.zvt.proofs.Tables.{allIn, at-key}
-use Rattle.zvt.proofs.FieldReads.{Answered, field-unknown, field-twice, field-no-bounds, field-plain, field-value, field-no-inner, field-container}
+use Rattle.zvt.proofs.FieldReads.{Answered, field-unknown, field-twice, field-no-bounds, field-value, field-plain}
+use Rattle.zvt.proofs.FieldReads.{field-no-inner, field-container}
 use borrow.Author.Needs.{needs}
 use Rattle.zvt.proofs.fields.read_field.Statement.{statement}
 use Rattle.zvt.proofs.fields.read_field.Tie as tie
@@ -52,11 +53,13 @@ inside c = c .before .before .before .before .before
 
 is-container : (c : tie.After-known-told4)
     → (let a = begun (inside c .before) .args in
-    Answered (a .twice) (a .n) (a .at) (a .s .now) (bounds (inside c .before)) (c .before .r .given .0 .0 .objects) (c .before .r .given .0 .0 .spare))
+    Answered (a .twice) (a .n) (a .at) (a .s .now) (bounds (inside c .before))
+    (c .before .r .given .0 .0 .objects) (c .before .r .given .0 .0 .spare))
 unfolding Bytes
 is-container c =
     let d = inside c .before in
-    field-container _ _ _ _ (once d .if1 .left) _ (found d) (not-false _ (inside c .if2 .left)) (λ i. omega (arith, once d .before .before .before .before .shared-slice-known .given i)) _
+    field-container _ _ _ _ (once d .if1 .left) _ (found d) (not-false _ (inside c .if2 .left))
+    (λ i. omega (arith, once d .before .before .before .before .shared-slice-known .given i)) _
     (sym (c .before .before .before .read-run .ensures) ∙ c .before .r .given .1)
 
 shared-slice-read-format-of : tie.Need-shared-slice-read-format-of
@@ -74,7 +77,8 @@ returns c = sym (field-unknown _ _ _ _ (sym (c .before .before .format-of .ensur
 returns-2 : tie.Need-returns-2
 unfolding allIn
 returns-2 c =
-    sym (field-twice _ _ _ _ (ap unknown (sym (c .before .before .format-of .ensures)) ∙ known _ (at-key (λ k. not (eqb k 0)) (1 ∷ 2 ∷ 3 ∷ []) refl _ (c .before .match .keys2))) (c .if1 .taken))
+    let other = at-key (λ k. not (eqb k 0)) (1 ∷ 2 ∷ 3 ∷ []) refl _ (c .before .match .keys2) in
+    sym (field-twice _ _ _ _ (ap unknown (sym (c .before .before .format-of .ensures)) ∙ known _ other) (c .if1 .taken))
 
 field-bounds-requires : tie.Need-field-bounds-requires
 field-bounds-requires c κs = search needs
@@ -118,12 +122,14 @@ tally-of-requires : tie.Need-tally-of-requires
 tally-of-requires c κs = is-container c .0
 
 returns-4 : tie.Need-returns-4
-returns-4 c = sym (field-no-bounds _ _ _ _ (c .before .before .before .before .if1 .left) _ (sym (c .before .before .before .field-bounds .ensures) ∙ c .before .f .given .1))
+returns-4 c =
+    sym (field-no-bounds _ _ _ _ (c .before .before .before .before .if1 .left) _ (sym (c .before .before .before .field-bounds .ensures) ∙ c .before .f .given .1))
 
 returns-5 : tie.Need-returns-5
 returns-5 c =
     let d = c .before .before .before .before .before in
-    sym (field-no-inner _ _ _ _ (once (d .before) .if1 .left) _ (found (d .before)) (not-false _ (d .if2 .left)) _ (sym (c .before .before .before .read-run .ensures) ∙ c .before .f2 .given .1))
+    sym (field-no-inner _ _ _ _ (once (d .before) .if1 .left) _ (found (d .before)) (not-false _ (d .if2 .left)) _
+    (sym (c .before .before .before .read-run .ensures) ∙ c .before .f2 .given .1))
 
 returns-6 : tie.Need-returns-6
 returns-6 c = ap Part (c .tally-of .ensures) ∙ sym (is-container (c .before) .1)

@@ -1,8 +1,8 @@
 -- `zvt::fields::read_list` meets its contract. The loop's invariant: the array marks the ids that came, and the bytes from i on,
 -- with what is spared before, answer as the whole list does. Assumes nothing.
-use mathlib.Core.Path.{_≡_, refl, sym, ap, _∙_}
+use mathlib.Core.Path.{_≡_, sym, _∙_}
 use mathlib.Core.List.{List, [], _∷_}
-use Prim.Native.Nat.{ℕ, _+_, _-_, _<_, _≤_}
+use Prim.Native.Nat.{ℕ, _-_, _<_, _≤_}
 use native.Mathlib.Omega.{arith}
 use lib.ListN.{length, getD}
 use borrow.Author.Needs.{needs}
@@ -19,7 +19,7 @@ Inv-loop s at seen₀ i₀ objects₀ spare₀ seen i objects spare =
 abbrev μ-loop : tie.MeasureT-loop
 μ-loop s at seen₀ i₀ objects₀ spare₀ seen i objects spare = length s - i
 
--- the place where a field is read: the loop's head, the arguments
+-- where a field is read, and how the function began
 abbrev Turn : Type 0
 Turn = tie.After-read-field-arg Inv-loop μ-loop
 
@@ -37,8 +37,9 @@ unfolding Bytes
 goes c =
     let d = c .before .before .before .before in
     let l = d .before .before .before .loop in
-    list-goes-on (begun d .args .at) (begun d .args .s .now) (l .inv .2) (l .objects) (l .i) (l .spare) _ (l .inv .3 .1 _ (id-byte d)) (d .before .before .loop-test .taken)
-    (λ k. omega (arith, d .before .shared-slice-known2 .given k)) _ (sym (c .before .before .before .read-field .ensures) ∙ c .before .t .given .1)
+    list-goes-on (begun d .args .at) (begun d .args .s .now) (l .inv .2) (l .objects) (l .i) (l .spare) _ (l .inv .3 .1 _ (id-byte d))
+    (d .before .before .loop-test .taken) (λ k. omega (arith, d .before .shared-slice-known2 .given k)) _
+    (sym (c .before .before .before .read-field .ensures) ∙ c .before .t .given .1)
 
 loop-holds : tie.Need-loop-holds Inv-loop μ-loop
 loop-holds c = (omega arith, omega arith, [], marks-none, list-begins _ _)
@@ -74,7 +75,9 @@ returns : tie.Need-returns Inv-loop μ-loop
 returns c =
     let d = c .before .before .before .before in
     let l = d .before .before .before .loop in
-    sym (l .inv .4 ∙ list-stops (begun d .args .at) (begun d .args .s .now) (l .inv .2) (l .objects) (l .i) (l .spare) _ (l .inv .3 .1 _ (id-byte d)) (d .before .before .loop-test .taken) _
+    sym (l .inv .4
+    ∙ list-stops (begun d .args .at) (begun d .args .s .now) (l .inv .2) (l .objects) (l .i) (l .spare) _ (l .inv .3 .1 _ (id-byte d))
+    (d .before .before .loop-test .taken) _
     (sym (c .before .before .before .read-field .ensures) ∙ c .before .f .given .1))
 
 enum-known-t : tie.Need-enum-known-t Inv-loop μ-loop
@@ -95,8 +98,13 @@ loop-less c = let h = goes (c .before .before) in omega arith
 loop-again : tie.Need-loop-again Inv-loop μ-loop
 loop-again c =
     let h = goes (c .before .before) in
-    let l = c .before .before .before .before .before .before .before .before .before .loop in
-    (h .1, omega arith, _ ∷ l .inv .2, marks-more (l .seen) (l .inv .2) _ (id-byte (c .before .before .before .before .before .before)) (l .inv .3), l .inv .4 ∙ h .3)
+    let l = c .before .before .before .before .before .before .before .before .before .loop in (
+      h .1,
+      omega arith,
+      _ ∷ l .inv .2,
+      marks-more (l .seen) (l .inv .2) _ (id-byte (c .before .before .before .before .before .before)) (l .inv .3),
+      l .inv .4 ∙ h .3,
+    )
 
 returns-2 : tie.Need-returns-2 Inv-loop μ-loop
 returns-2 c =

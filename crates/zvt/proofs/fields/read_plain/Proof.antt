@@ -1,5 +1,5 @@
 -- `zvt::fields::read_plain` meets its contract. Assumes nothing.
-use mathlib.Core.Path.{_≡_, sym, _∙_}
+use mathlib.Core.Path.{sym, _∙_}
 use borrow.Author.Tests.{not-true, not-false}
 use Rattle.zvt.proofs.FieldLaws.{plain-bytes, plain-digits, plain-stopped}
 use borrow.Author.Needs.{needs}
@@ -39,12 +39,14 @@ enum-told c = search needs
 returns-2 : tie.Need-returns-2
 returns-2 c =
     let d = c .before .before .before .before .before in
-    sym (plain-stopped _ _ _ _ _ (sym (d .before .holds-digits .ensures) ∙ not-false _ (d .if1 .left)) (sym (c .before .before .before .all-decimal .ensures) ∙ c .before .f .given .1))
+    sym (plain-stopped _ _ _ _ _ (sym (d .before .holds-digits .ensures) ∙ not-false _ (d .if1 .left))
+    (sym (c .before .before .before .all-decimal .ensures) ∙ c .before .f .given .1))
 
 returns-3 : tie.Need-returns-3
 returns-3 c =
     let d = c .before .before .before .before in
-    sym (plain-digits _ _ _ _ (sym (d .before .holds-digits .ensures) ∙ not-false _ (d .if1 .left)) (sym (c .before .before .all-decimal .ensures) ∙ c .enum-told .given .1))
+    sym (plain-digits _ _ _ _ (sym (d .before .holds-digits .ensures) ∙ not-false _ (d .if1 .left))
+    (sym (c .before .before .all-decimal .ensures) ∙ c .enum-told .given .1))
 
 pub read-plain-spec : {M : Type 1} → statement M
 read-plain-spec =

@@ -26,7 +26,7 @@ unfolding allIn allFrom anyOf among
 holds-digits-spec =
     tie.close
     (tie.spec
-    (λ c. ranged digits (singles ∷ []) false 0 135 _ refl (c .before .match .rest) (omega arith) (omega arith))
-    (λ c. ranged digits (singles ∷ []) false 137 119 _ refl (c .before .before .match .rest) (omega arith) (omega arith))
+    (λ c. ranged digits (singles ∷ []) false 0 135 _ refl (c .before .match .rest) (omega arith))
+    (λ c. ranged digits (singles ∷ []) false 137 119 _ refl (c .before .before .match .rest) (omega arith))
     (λ c. keyed digits true singles _ refl (c .match .keys1))
-    (λ c. ranged digits (singles ∷ []) true 135 2 _ refl (c .before .before .match .rest) (omega arith) (omega arith)))
+    (λ c. ranged digits (singles ∷ []) true 135 2 _ refl (c .before .before .match .rest) (omega arith)))

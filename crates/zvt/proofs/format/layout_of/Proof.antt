@@ -3,13 +3,12 @@ use mathlib.Core.Path.{_≡_, refl, sym, ap, _∙_}
 use mathlib.Core.Bool.{Bool, true, false, not, _&&_, _||_, and-eq-true-iff, false≢true}
 use mathlib.Core.List.{List, [], _∷_}
 use Prim.Native.Nat.{ℕ, _+_, _*_}
-use lib.Dec.{leb, ltb, eqb}
+use lib.Dec.{leb, ltb}
 use borrow.Author.Needs.{needs}
 use borrow.Author.Tests.{lt-leb, le-ltb, not-true, ne-eqb}
 use types.Run.{OneOf}
-use Rattle.messages.specs.declared.Layout.{Layout}
 use Rattle.messages.specs.declared.Layout.the-variants.{Plain, List as FieldList, Secured}
-use Rattle.messages.specs.Reading.{among, pick}
+use Rattle.messages.specs.Reading.{among}
 use Rattle.messages.specs.Message.{layoutOf}
 use Rattle.messages.proofs.Readings.{pick-true, pick-false}
 use Rattle.zvt.proofs.Tables.{allIn, allFrom, at-key, at-from, NoneOf, anyOf, not-any}

@@ -8,22 +8,22 @@ use lib.Dec.{ltb, leb, eqb}
 use Rattle.messages.specs.Reading.{pick}
 use Rattle.messages.specs.declared.ToldAmount.{ToldAmount}
 use Rattle.messages.specs.declared.ToldAmount.the-variants.{Missing as no-amount, Amount}
 use Rattle.course.specs.declared.Lane.{Lane}
 use Rattle.course.specs.declared.Line.{Line}
 use Rattle.course.specs.declared.Moved.{Moved}
 use Rattle.course.specs.declared.Moved.the-variants.{Refused as move-refused, Stays, Becomes, Ends}
 use Rattle.course.specs.Lanes.{blankLine, idleLane, lineAt}
 use Rattle.course.specs.Course.{isIdle, Call, laneOf, moves, writes}
 use Rattle.course.specs.Desk.{State, laneAt, places, load, Decision, refuse, accept, decide}
-use Rattle.desk.specs.declared.Book.{Book}
-use Rattle.desk.specs.declared.Desk.{Desk}
-use Rattle.desk.specs.declared.Reply.{Reply}
-use Rattle.desk.specs.declared.Reply.the-variants.{Written, Refused}
-use Rattle.desk.specs.declared.Answer.{Answer}
-use Rattle.desk.specs.declared.LineAnswer.{LineAnswer}
-use Rattle.desk.specs.declared.LineAnswer.the-variants.{End, Line as line-got}
-use Rattle.desk.specs.declared.LaneAnswer.{LaneAnswer}
-use Rattle.desk.specs.declared.LaneAnswer.the-variants.{Refused as lane-refused, Lane as lane-got}
+use Rattle.course.specs.declared.Book.{Book}
+use Rattle.course.specs.declared.Desk.{Desk}
+use Rattle.course.specs.declared.Reply.{Reply}
+use Rattle.course.specs.declared.Reply.the-variants.{Written, Refused}
+use Rattle.course.specs.declared.Answer.{Answer}
+use Rattle.course.specs.declared.LineAnswer.{LineAnswer}
+use Rattle.course.specs.declared.LineAnswer.the-variants.{End, Line as line-got}
+use Rattle.course.specs.declared.LaneAnswer.{LaneAnswer}
+use Rattle.course.specs.declared.LaneAnswer.the-variants.{Refused as lane-refused, Lane as lane-got}
 
 abbrev pub emptyBook : Book
 emptyBook = record { lines = replicate 64 blankLine; count = 0 }
@@ -55,13 +55,16 @@ pub record Valid (d : Desk) : Type 0 where
 abbrev pub withLine : Book → Line → Book
 withLine b l = record { lines = set (b .lines) (b .count) l; count = b .count + 1 }
 
+-- "Each end writes one line and makes the lane idle, with nothing remembered."
+unfoldable pub endedDesk : Desk → ℕ → Line → Desk
+endedDesk d i l = record { lanes = set (d .lanes) i idleLane; book = withLine (d .book) l }
+
 -- what a move of lane i leaves
 unfoldable pub movedDesk : Desk → ℕ → Moved → Desk
 movedDesk d i (move-refused r) = d
 movedDesk d i Stays = d
 movedDesk d i (Becomes l) = record { lanes = set (d .lanes) i l; book = d .book }
-movedDesk d i (Ends outcome settled code) =
-    record { lanes = set (d .lanes) i idleLane; book = withLine (d .book) (lineAt i (laneAt (d .lanes) i) outcome settled code) }
+movedDesk d i (Ends outcome settled code) = endedDesk d i (lineAt i (laneAt (d .lanes) i) outcome settled code)
 
 unfoldable pub refusedAnswer : Desk → ℕ → Answer
 refusedAnswer d number = record { reply = Refused (record { number = number }); desk = d }

@@ -1,0 +1,93 @@
+-- The field of a list that has a given id: where it is found, and what it holds. Assumes nothing.
+use mathlib.Core.Path.{_≡_, refl, sym}
+use mathlib.Core.Bool.{Bool, true, false}
+use mathlib.Core.Logic.{⊎-elim}
+use mathlib.Core.List.{List, [], _∷_}
+use Prim.Native.Nat.{ℕ, zero, suc, _+_, _-_, _≤_}
+use native.Mathlib.Nat.{eq-or-lt-of-le}
+use native.Mathlib.Omega.{arith}
+use lib.ListN.{length, getD}
+use lib.Dec.{eqb}
+use borrow.Author.Tests.{eqb-true}
+use Rattle.messages.specs.Reading.{pick, part}
+use Rattle.messages.specs.Fields.{formatOf, holdsDigits, Field, plain, container, fieldId}
+use Rattle.messages.specs.Grammar.{Bytes, Decimals, SizeOk, FieldOk, ListOk}
+use Rattle.messages.proofs.Readings.{pick-test}
+use Rattle.messages.proofs.ObjectSteps.{part-length}
+use Rattle.messages.proofs.ObjectBytes.{bytes-part}
+use Rattle.messages.proofs.FieldBytes.{list-sound}
+use Rattle.zvt.specs.declared.Listed.{Listed}
+use Rattle.zvt.specs.declared.FieldAnswer.{FieldAnswer}
+use Rattle.zvt.specs.declared.FieldAnswer.the-variants.{Field as listed-field, End}
+use Rattle.zvt.specs.List.{fieldValue, namedListed, listFields, fieldsBetween, listedIn, ListIn}
+use Rattle.zvt.specs.Values.{Found, missing, found, valueIn}
+use Rattle.zvt.specs.Writing.{ListReads}
+use Rattle.zvt.proofs.ListedLaws.{no-fields, list-empty, first-in}
+
+-- ---- what is found by places is what is found by fields
+Tells : List ℕ → FieldAnswer → Found → Type 0
+Tells s End v = v ≡ missing
+Tells s (listed-field l) v = (l .from ≤ l .to) × (l .to ≤ length s) × (v ≡ found (part (l .from) (l .to) s))
+
+here-or-later : (s : List ℕ) (t : Bool) (l : Listed) (x : FieldAnswer) (w : List ℕ) (v : Found) → Tells s (listed-field l) (found w) → Tells s x v
+    → Tells s (pick t (listed-field l) x) (pick t (found w) v)
+here-or-later s true l x w v here later = here
+here-or-later s false l x w v here later = later
+
+tells-by : (k id a e : ℕ) (s : List ℕ) → e ≤ a + k → Bytes s → ListIn a e s → Tells s (namedListed id (listedIn a e s)) (valueIn id (fieldsBetween a e s))
+unfolding Tells namedListed valueIn
+tells-by zero id a e s h b l = let q : a ≡ e = omega (arith, l .order) in rw (list-empty a e s q, no-fields a e s q)
+tells-by (suc k) id a e s h b l =
+    ⊎-elim (λ q. rw (list-empty a e s q, no-fields a e s q))
+    (λ q.
+    let f = first-in a e s b l q in
+    rw (f .all, f .fields, f .id, f .value)
+    (here-or-later s (eqb (getD s a 0) id) _ _ _ _ (omega (arith, f .order), omega (arith, f .within, l .inside), refl)
+    (tells-by k id (a + f .bounds .to) e s (omega (arith, f .some)) b (f .rest))))
+    (eq-or-lt-of-le (l .order))
+
+-- ---- what a field with that id holds
+Holds : ℕ → List ℕ → Type 0
+Holds id v = SizeOk (formatOf id) (length v) × (holdsDigits id ≡ true → Decimals v)
+
+one-holds : (f : Field) (id : ℕ) → (id ≡ 0x06 → ⊥) → FieldOk f → fieldId f ≡ id → Holds id (fieldValue f)
+unfolding Holds FieldOk fieldId fieldValue
+one-holds (plain i value) id n ok e = rw (← e) ok
+one-holds (container form os) id n ok e = absurd (n (sym e))
+
+holds : (id : ℕ) (seen : List ℕ) (fs : List Field) (v : List ℕ) → (id ≡ 0x06 → ⊥) → ListOk seen fs → valueIn id fs ≡ found v → Holds id v
+unfolding ListOk valueIn
+holds id seen [] v n ok e = absurd (let z : _≡_ {A = ℕ} 0 1 = cc in omega arith)
+holds id seen (f ∷ fs) v n ok e =
+    pick-test (λ x. x ≡ found v → Holds id v) (eqb (fieldId f) id)
+    (λ t q. let same : fieldValue f ≡ v = cc in rw (← same) (one-holds f id n (ok .0) (eqb-true (fieldId f) id t)))
+    (λ t q. holds id (fieldId f ∷ seen) fs v n (ok .2) q) e
+
+between-ok : (a e : ℕ) (s : List ℕ) → Bytes s → ListIn a e s → ListOk [] (fieldsBetween a e s)
+unfolding fieldsBetween listFields ListReads
+between-ok a e s b l = let r = l .reads in rw (r .1) (list-sound [] 0 0 (part a e s) (r .0) (bytes-part a e s b) (r .1) .1)
+
+-- ---- both together
+pub record Here (id a e : ℕ) (s : List ℕ) (l : Listed) : Type 0 where
+  pub order : l .from ≤ l .to
+  pub inside : l .to ≤ length s
+  pub value : valueIn id (fieldsBetween a e s) ≡ found (part (l .from) (l .to) s)
+  pub long : length (part (l .from) (l .to) s) ≡ l .to - l .from
+  pub size : SizeOk (formatOf id) (l .to - l .from)
+  pub digits : holdsDigits id ≡ true → Decimals (part (l .from) (l .to) s)
+
+module _ (id a e : ℕ) (s : List ℕ) (b : Bytes s) (h : ListIn a e s) where
+  tells : (x : FieldAnswer) → namedListed id (listedIn a e s) ≡ x → Tells s x (valueIn id (fieldsBetween a e s))
+  tells x q = rw q at (tells-by (e - a) id a e s (omega arith) b h)
+
+  pub not-here : namedListed id (listedIn a e s) ≡ End → valueIn id (fieldsBetween a e s) ≡ missing
+  unfolding Tells
+  not-here q = tells End q
+
+  pub is-here : (l : Listed) → (id ≡ 0x06 → ⊥) → namedListed id (listedIn a e s) ≡ listed-field l → Here id a e s l
+  unfolding Tells Holds
+  is-here l n q =
+      let t = tells (listed-field l) q in
+      let k = holds id [] (fieldsBetween a e s) (part (l .from) (l .to) s) n (between-ok a e s b h) (t .2) in
+      let long = part-length s (l .from) (l .to) (t .0) (t .1) in
+      record { order = t .0; inside = t .1; value = t .2; long = long; size = rw long at (k .0); digits = k .1 }

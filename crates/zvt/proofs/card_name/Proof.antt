@@ -1,0 +1,135 @@
+-- `zvt::card_name` meets its contract: field 8B up to its first zero byte, in place, or the till's own name. Assumes nothing.
+use mathlib.Core.Path.{_≡_, sym, _∙_}
+use native.Mathlib.Omega.{arith}
+use borrow.Author.Needs.{needs}
+use Rattle.messages.specs.Grammar.{Bytes}
+use Rattle.zvt.specs.declared.FieldAnswer.the-variants.{Field as listed-field}
+use Rattle.zvt.specs.List.{namedListed, listedIn}
+use Rattle.zvt.proofs.BodyLaws.{bytes-known}
+use Rattle.zvt.proofs.PlaceLaws.{StatusIn, status-at, status-nowhere}
+use Rattle.zvt.proofs.ValueLaws.{Here, is-here}
+use Rattle.zvt.proofs.NameLaws.{own-name, part-name, name-missing, name-empty, name-found, name-inside}
+use Rattle.zvt.proofs.card_name.Statement.{statement}
+use Rattle.zvt.proofs.card_name.Tie as tie
+use Rattle.zvt.proofs.card_name.Reads as reads
+use Rattle.zvt.proofs.card_name.Lts as lts
+use Rattle.zvt.proofs.list.named.Reads as named-reads
+use Rattle.zvt.proofs.list.status_place.Reads as status-place-reads
+use Rattle.zvt.proofs.name.name_size.Reads as name-size-reads
+
+-- the list of the status information, and field 8B in it
+abbrev Placed : Type 0
+Placed = lts.After-from (status-place-reads.Asked, status-place-reads.Learnt, named-reads.Asked, named-reads.Learnt, name-size-reads.Asked, name-size-reads.Learnt) reads.Pre reads.Post
+
+abbrev start : Placed → lts.After-shared-slice-known (status-place-reads.Asked, status-place-reads.Learnt, named-reads.Asked, named-reads.Learnt, name-size-reads.Asked, name-size-reads.Learnt) reads.Pre reads.Post
+start c = c .before .before .before .before
+
+abbrev args : Placed → lts.Start (status-place-reads.Asked, status-place-reads.Learnt, named-reads.Asked, named-reads.Learnt, name-size-reads.Asked, name-size-reads.Learnt) reads.Pre reads.Post
+args c = start c .before
+
+bytes : (c : Placed) → Bytes (args c .args .s .now)
+bytes c = bytes-known _ (start c .shared-slice-known .given)
+
+status : (c : Placed) → StatusIn (c .from .given .0 .0) (c .from .given .0 .1 .0) (args c .args .s .now)
+status c = status-at _ _ _ (bytes c) (sym (c .before .before .status-place .ensures) ∙ c .from .given .1)
+
+abbrev Found : Type 0
+Found = lts.After-f (status-place-reads.Asked, status-place-reads.Learnt, named-reads.Asked, named-reads.Learnt, name-size-reads.Asked, name-size-reads.Learnt) reads.Pre reads.Post
+
+abbrev placed : Found → Placed
+placed c = c .before .before .before .before
+
+found : (c : Found)
+    → let g = placed c .from .given .0 in namedListed 0x8B (listedIn (g .0) (g .1 .0) (args (placed c) .args .s .now)) ≡ listed-field (c .f .given .0 .0)
+found c = sym (c .before .before .named .ensures) ∙ c .f .given .1
+
+here : (c : Found) → let g = placed c .from .given .0 in Here 0x8B (g .0) (g .1 .0) (args (placed c) .args .s .now) (c .f .given .0 .0)
+here c = let p = placed c in is-here 0x8B _ _ _ (bytes p) (status p .reads) _ (λ e. omega arith) (found c)
+
+status-place-requires : tie.Need-status-place-requires
+status-place-requires c κs = search needs
+
+enum-told : tie.Need-enum-told
+enum-told c = search needs
+
+enum-known-from : tie.Need-enum-known-from
+enum-known-from c = search needs
+
+named-requires : tie.Need-named-requires
+named-requires c κs = status (c .before) .reads
+
+enum-told-2 : tie.Need-enum-told-2
+enum-told-2 c = search needs
+
+enum-known-f : tie.Need-enum-known-f
+enum-known-f c = search needs
+
+sub-name-size : tie.Need-sub-name-size
+sub-name-size c = here (c .before) .order
+
+part-name-size-start : tie.Need-part-name-size-start
+part-name-size-start c = let h = here (c .before) in omega (arith, h .order, h .inside)
+
+part-name-size-end : tie.Need-part-name-size-end
+part-name-size-end c = let h = here (c .before) in omega (arith, h .order, h .inside)
+
+name-size-requires : tie.Need-name-size-requires
+name-size-requires c κs = search needs
+
+returns : tie.Need-returns
+returns c =
+    let g = c .before .before .before .before in
+    own-name _ _ _ _ (name-empty _ _ _ (status (placed g)) _ (found g) _ (c .before .name-size .ensures) (c .if1 .taken))
+
+add-to : tie.Need-add-to
+add-to c =
+    let g = c .before .before .before .before in
+    let h = here g in
+    omega (arith, h .inside, name-inside _ _ _ (status (placed g)) _ (found g) _ (c .before .name-size .ensures) (h .order) (h .inside))
+
+sub-result : tie.Need-sub-result
+sub-result c = search needs
+
+part-result-start : tie.Need-part-result-start
+part-result-start c = search needs
+
+part-result-end : tie.Need-part-result-end
+part-result-end c =
+    let g = c .before .before .before .before in
+    let h = here g in
+    omega (arith, h .inside, name-inside _ _ _ (status (placed g)) _ (found g) _ (c .before .name-size .ensures) (h .order) (h .inside))
+
+returns-2 : tie.Need-returns-2
+returns-2 c = own-name _ _ _ _ (status-nowhere _ (sym (c .before .before .status-place .ensures) ∙ c .enum-told .given .1) .1)
+
+returns-3 : tie.Need-returns-3
+returns-3 c =
+    own-name _ _ _ _ (name-missing _ _ _ (status (c .before .before .before .before)) (sym (c .before .before .named .ensures) ∙ c .enum-told2 .given .1))
+
+returns-4 : tie.Need-returns-4
+returns-4 c =
+    let g = c .before .before .before .before .before in
+    part-name _ _ _ _ _ _ (name-found _ _ _ (status (placed g)) _ (found g) _ (c .before .before .name-size .ensures) (c .before .if1 .left))
+
+pub card-name-spec : {M : Type 1} → statement M
+card-name-spec =
+    tie.close
+    (tie.spec
+    status-place-requires
+    enum-told
+    enum-known-from
+    named-requires
+    enum-told-2
+    enum-known-f
+    sub-name-size
+    part-name-size-start
+    part-name-size-end
+    name-size-requires
+    returns
+    add-to
+    sub-result
+    part-result-start
+    part-result-end
+    returns-2
+    returns-3
+    returns-4)

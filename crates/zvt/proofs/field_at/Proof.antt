@@ -1,0 +1,51 @@
+-- `zvt::field_at` meets its contract. Assumes nothing.
+use mathlib.Core.Path.{_≡_, sym, ap, _∙_}
+use borrow.Author.Needs.{needs}
+use Rattle.messages.specs.Message.{readOf}
+use Rattle.zvt.specs.List.{ListIn, listedIn, listedMessage, nthListed, fieldAnswer}
+use Rattle.zvt.proofs.BodyLaws.{bytes-known}
+use Rattle.zvt.proofs.PlaceLaws.{list-at, list-nowhere}
+use Rattle.zvt.proofs.field_at.Statement.{statement}
+use Rattle.zvt.proofs.field_at.Tie as tie
+use Rattle.zvt.proofs.field_at.Reads as reads
+use Rattle.zvt.proofs.field_at.Lts as lts
+use Rattle.zvt.proofs.list.list_place.Reads as list-place-reads
+use Rattle.zvt.proofs.list.nth.Reads as nth-reads
+
+-- where the list lies
+abbrev Placed : Type 0
+Placed = lts.After-from (list-place-reads.Asked, list-place-reads.Learnt, nth-reads.Asked, nth-reads.Learnt) reads.Pre reads.Post
+
+abbrev start : Placed → lts.After-shared-slice-known (list-place-reads.Asked, list-place-reads.Learnt, nth-reads.Asked, nth-reads.Learnt) reads.Pre reads.Post
+start c = c .before .before .before
+
+list : (c : Placed)
+    → let s = start c .before .args .s .now in
+    let g = c .from .given .0 in
+    ListIn (g .0) (g .1 .0) s × (listedMessage (readOf s) ≡ listedIn (g .0) (g .1 .0) s)
+list c = list-at _ _ _ (bytes-known _ (start c .shared-slice-known .given)) (sym (c .before .before .list-place .ensures) ∙ c .from .given .1)
+
+list-place-requires : tie.Need-list-place-requires
+list-place-requires c κs = search needs
+
+enum-told : tie.Need-enum-told
+enum-told c = search needs
+
+enum-known-from : tie.Need-enum-known-from
+enum-known-from c = search needs
+
+nth-requires : tie.Need-nth-requires
+nth-requires c κs = list (c .before) .0
+
+returns : tie.Need-returns
+unfolding fieldAnswer nthListed
+returns c = sym (ap (nthListed _) (list-nowhere _ (sym (c .before .before .list-place .ensures) ∙ c .enum-told .given .1)))
+
+returns-2 : tie.Need-returns-2
+unfolding fieldAnswer
+returns-2 c = c .nth .ensures ∙ ap (nthListed _) (sym (list (c .before .before) .1))
+
+pub field-at-spec : {M : Type 1} → statement M
+field-at-spec =
+    tie.close
+    (tie.spec list-place-requires enum-told enum-known-from nth-requires returns returns-2)

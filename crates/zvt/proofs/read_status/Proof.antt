@@ -1,0 +1,63 @@
+-- `zvt::read_status` meets its contract. Assumes nothing.
+use mathlib.Core.Path.{sym, ap, _∙_}
+use borrow.Author.Needs.{needs}
+use Rattle.zvt.specs.Values.{codeIn, codeOf, amountIn, amountOf, receiptIn, receiptOf, valueIn, statusIn, statusOf}
+use Rattle.zvt.proofs.BodyLaws.{bytes-known}
+use Rattle.zvt.proofs.PlaceLaws.{StatusIn, status-at, status-nowhere}
+use Rattle.zvt.proofs.read_status.Statement.{statement}
+use Rattle.zvt.proofs.read_status.Tie as tie
+use Rattle.zvt.proofs.read_status.Reads as reads
+use Rattle.zvt.proofs.read_status.Lts as lts
+use Rattle.zvt.proofs.list.status_place.Reads as status-place-reads
+use Rattle.zvt.proofs.values.amount_in.Reads as amount-in-reads
+use Rattle.zvt.proofs.values.code_in.Reads as code-in-reads
+use Rattle.zvt.proofs.values.receipt_in.Reads as receipt-in-reads
+
+-- where the list lies
+abbrev Placed : Type 0
+Placed = lts.After-from (status-place-reads.Asked, status-place-reads.Learnt, code-in-reads.Asked, code-in-reads.Learnt, amount-in-reads.Asked, amount-in-reads.Learnt, receipt-in-reads.Asked, receipt-in-reads.Learnt) reads.Pre reads.Post
+
+abbrev start : Placed → lts.After-shared-slice-known (status-place-reads.Asked, status-place-reads.Learnt, code-in-reads.Asked, code-in-reads.Learnt, amount-in-reads.Asked, amount-in-reads.Learnt, receipt-in-reads.Asked, receipt-in-reads.Learnt) reads.Pre reads.Post
+start c = c .before .before .before
+
+status : (c : Placed) → let g = c .from .given .0 in StatusIn (g .0) (g .1 .0) (start c .before .args .s .now)
+status c = status-at _ _ _ (bytes-known _ (start c .shared-slice-known .given)) (sym (c .before .before .status-place .ensures) ∙ c .from .given .1)
+
+status-place-requires : tie.Need-status-place-requires
+status-place-requires c κs = search needs
+
+enum-told : tie.Need-enum-told
+enum-told c = search needs
+
+enum-known-from : tie.Need-enum-known-from
+enum-known-from c = search needs
+
+code-in-requires : tie.Need-code-in-requires
+code-in-requires c κs = status (c .before) .reads
+
+amount-in-requires : tie.Need-amount-in-requires
+amount-in-requires c κs = status (c .before .before) .reads
+
+receipt-in-requires : tie.Need-receipt-in-requires
+receipt-in-requires c κs = status (c .before .before .before) .reads
+
+returns : tie.Need-returns
+unfolding statusOf statusIn codeIn codeOf amountIn amountOf receiptIn receiptOf valueIn
+returns c = sym (ap statusIn (status-nowhere _ (sym (c .before .before .status-place .ensures) ∙ c .enum-told .given .1) .0))
+
+returns-2 : tie.Need-returns-2
+unfolding statusOf statusIn
+returns-2 c = rw (c .before .before .code-in .ensures, c .before .amount-in .ensures, c .receipt-in .ensures) (ap statusIn (sym (status (c .before .before .before .before) .fields)))
+
+pub read-status-spec : {M : Type 1} → statement M
+read-status-spec =
+    tie.close
+    (tie.spec
+    status-place-requires
+    enum-told
+    enum-known-from
+    code-in-requires
+    amount-in-requires
+    receipt-in-requires
+    returns
+    returns-2)

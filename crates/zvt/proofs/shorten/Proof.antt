@@ -1,0 +1,147 @@
+-- `zvt::shorten` meets its contract: the size of what is written is known from the reading, and there is room for it or not.
+-- Assumes nothing.
+use mathlib.Core.Path.{_≡_, sym, _∙_}
+use mathlib.Core.List.{List}
+use Prim.Native.Nat.{ℕ}
+use native.Mathlib.Omega.{arith}
+use borrow.Author.Needs.{needs}
+use Rattle.zvt.specs.declared.Header.{Header}
+use Rattle.zvt.specs.declared.objects.Tally.{Tally}
+use Rattle.zvt.specs.declared.headers.HeaderRead.the-variants.{Header as header-read}
+use Rattle.zvt.specs.Header.{wholeAnswer}
+use Rattle.zvt.proofs.HeaderLaws.{whole-within}
+use Rattle.zvt.proofs.BodyLaws.{bytes-known}
+use Rattle.zvt.proofs.ShortMessages.{no-header, no-body, Short, short-found, no-room, lent-out, message-room, written-out}
+use Rattle.zvt.proofs.body.body_in.Reads as body-in-reads
+use Rattle.zvt.proofs.headers.whole_header.Reads as whole-header-reads
+use Rattle.zvt.proofs.writing.message_size.Reads as message-size-reads
+use Rattle.zvt.proofs.writing.put_message.Reads as put-message-reads
+use Rattle.zvt.proofs.shorten.Statement.{statement}
+use Rattle.zvt.proofs.shorten.Tie as tie
+use Rattle.zvt.proofs.shorten.Reads as reads
+use Rattle.zvt.proofs.shorten.Lts as lts
+
+abbrev claims : lts.Claims
+claims = (
+  whole-header-reads.Asked,
+  whole-header-reads.Learnt,
+  body-in-reads.Asked,
+  body-in-reads.Learnt,
+  message-size-reads.Asked,
+  message-size-reads.Learnt,
+  put-message-reads.Asked,
+  put-message-reads.Learnt,
+)
+
+-- ---- there is a header
+abbrev Headed : Type 0
+Headed = lts.After-known-told2 claims reads.Pre reads.Post
+
+abbrev begun : Headed → lts.Start claims reads.Pre reads.Post
+begun c = c .before .before .before .before .before .before
+
+abbrev bytes : Headed → List ℕ
+bytes c = begun c .args .s .now
+
+abbrev header : Headed → Header
+header c = c .before .h .given .0 .0
+
+headed : (c : Headed) → wholeAnswer (bytes c) ≡ header-read (header c)
+headed c = sym (c .before .before .before .whole-header .ensures) ∙ c .before .h .given .1
+
+-- ---- and a body
+abbrev Read : Type 0
+Read = lts.After-struct-known2 claims reads.Pre reads.Post
+
+abbrev at-header : Read → Headed
+at-header c = c .before .before .before .before .before .before
+
+abbrev tally : Read → Tally
+tally c = c .before .before .before .t .given .0 .0
+
+read : (c : Read) → Short (bytes (at-header c)) (header (at-header c)) (tally c)
+read c =
+    let i = at-header c in
+    short-found _ _ (headed i) (bytes-known (bytes i) (i .before .before .before .before .before .shared-slice-known .given)) _
+    (sym (c .before .before .before .before .before .body-in .ensures) ∙ c .before .before .before .t .given .1)
+
+whole-header-requires : tie.Need-whole-header-requires
+whole-header-requires c κs = search needs
+
+enum-known-f : tie.Need-enum-known-f
+enum-known-f c = search needs
+
+enum-known-h : tie.Need-enum-known-h
+enum-known-h c = search needs
+
+body-in-requires : tie.Need-body-in-requires
+body-in-requires c κs = whole-within _ _ (headed c)
+
+enum-known-f-2 : tie.Need-enum-known-f-2
+enum-known-f-2 c = search needs
+
+enum-known-t : tie.Need-enum-known-t
+enum-known-t c = search needs
+
+sub-message-size : tie.Need-sub-message-size
+sub-message-size c = read c .spare
+
+message-size-requires : tie.Need-message-size-requires
+message-size-requires c κs = omega (arith, whole-within _ _ (headed (at-header c)) .1)
+
+returns : tie.Need-returns
+returns c = no-room _ _ _ (read (c .before .before)) _ _ (c .before .message-size .ensures) (c .if1 .taken)
+
+slice-relend-prefix-put-message : tie.Need-slice-relend-prefix-put-message
+slice-relend-prefix-put-message c = search needs
+
+slice-aggregate-put-message : tie.Need-slice-aggregate-put-message
+slice-aggregate-put-message c =
+    lent-out _ _ _ (read (c .before .before .before)) _ _ (c .before .before .message-size .ensures) (c .before .if1 .left)
+
+put-message-requires : tie.Need-put-message-requires
+put-message-requires c κs =
+    let r = c .before .before .before in
+    let w = whole-within _ _ (headed (at-header r)) in (
+      w .2,
+      w .1,
+      read r .reads,
+      message-room _ _ _ (read r) _ _ (c .before .before .message-size .ensures) (c .before .if1 .left),
+    )
+
+returns-2 : tie.Need-returns-2
+returns-2 c = no-header _ _ _ (sym (c .before .before .before .whole-header .ensures) ∙ c .before .f .given .1)
+
+returns-3 : tie.Need-returns-3
+returns-3 c =
+    no-body _ _ (headed (c .before .before .before .before)) _ _ (sym (c .before .before .before .body-in .ensures) ∙ c .before .f2 .given .1)
+
+same-length : tie.Need-same-length
+same-length c = search needs
+
+returns-4 : tie.Need-returns-4
+returns-4 c =
+    let sized = c .before .before .before .before .before in
+    written-out _ _ _ (read (sized .before)) _ _ (sized .message-size .ensures) (c .before .before .before .before .if1 .left)
+    (c .before .before .put-message .ensures)
+
+pub shorten-spec : {M : Type 1} → statement M
+shorten-spec =
+    tie.close
+    (tie.spec
+    whole-header-requires
+    enum-known-f
+    enum-known-h
+    body-in-requires
+    enum-known-f-2
+    enum-known-t
+    sub-message-size
+    message-size-requires
+    returns
+    slice-relend-prefix-put-message
+    slice-aggregate-put-message
+    put-message-requires
+    returns-2
+    returns-3
+    same-length
+    returns-4)

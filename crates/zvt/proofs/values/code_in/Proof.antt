@@ -1,0 +1,60 @@
+-- `zvt::values::code_in` meets its contract: field 27 has one byte. Assumes nothing.
+use mathlib.Core.Path.{sym, ap, _∙_}
+use native.Mathlib.Omega.{arith}
+use borrow.Author.Needs.{needs}
+use Rattle.messages.specs.Reading.{among}
+use Rattle.messages.specs.Fields.{formatOf}
+use Rattle.messages.specs.Grammar.{SizeOk}
+use Rattle.zvt.specs.declared.ToldCode.the-variants.{Code}
+use Rattle.zvt.specs.Values.{codeOf, codeIn}
+use Rattle.zvt.proofs.BodyLaws.{bytes-known}
+use Rattle.zvt.proofs.ListedLaws.{part-first}
+use Rattle.zvt.proofs.ValueLaws.{Here, not-here, is-here}
+use Rattle.zvt.proofs.values.code_in.Statement.{statement}
+use Rattle.zvt.proofs.values.code_in.Tie as tie
+use Rattle.zvt.proofs.values.code_in.Reads as reads
+use Rattle.zvt.proofs.values.code_in.Lts as lts
+use Rattle.zvt.proofs.list.named.Reads as named-reads
+
+-- the field that was found
+abbrev Found-field : Type 0
+Found-field = lts.After-f (named-reads.Asked, named-reads.Learnt) reads.Pre reads.Post
+
+abbrev start : Found-field → lts.After-shared-slice-known (named-reads.Asked, named-reads.Learnt) reads.Pre reads.Post
+start c = c .before .before .before
+
+here : (c : Found-field) → let a = start c .before .args in Here 0x27 (a .from) (a .end) (a .s .now) (c .f .given .0 .0)
+here c =
+    is-here 0x27 _ _ _ (bytes-known _ (start c .shared-slice-known .given)) (start c .before .pre) _ (λ e. omega arith)
+    (sym (c .before .before .named .ensures) ∙ c .f .given .1)
+
+named-requires : tie.Need-named-requires
+named-requires c κs = search needs
+
+enum-told : tie.Need-enum-told
+enum-told c = search needs
+
+enum-known-f : tie.Need-enum-known-f
+enum-known-f c = search needs
+
+shared-slice-read-t9 : tie.Need-shared-slice-read-t9
+unfolding SizeOk formatOf among
+shared-slice-read-t9 c = let h = here (c .before .before) in omega (arith, h .inside, h .size)
+
+returns : tie.Need-returns
+unfolding codeIn codeOf
+returns c =
+    let g = c .before .before .before in
+    sym (ap codeOf (not-here 0x27 _ _ _ (bytes-known _ (g .shared-slice-known .given)) (g .before .pre) (sym (c .before .before .named .ensures) ∙ c .enum-told .given .1)))
+
+returns-2 : tie.Need-returns-2
+unfolding codeIn codeOf SizeOk formatOf among
+returns-2 c =
+    let h = here (c .before .before) in
+    let first = part-first _ _ _ (h .order) (h .inside) (omega (arith, h .size)) in
+    sym (ap codeOf (h .value) ∙ ap Code first)
+
+pub code-in-spec : {M : Type 1} → statement M
+code-in-spec =
+    tie.close
+    (tie.spec named-requires enum-told enum-known-f shared-slice-read-t9 returns returns-2)

@@ -1,0 +1,44 @@
+-- `put` meets its contract: a copy to the last part of the buffer. Assumes nothing.
+use mathlib.Core.Path.{refl, ap, _∙_}
+use mathlib.Core.List.{List, _++_}
+use Prim.Native.Nat.{ℕ, _-_}
+use lib.ListN.{length, take, drop}
+use Rattle.zvt.proofs.Back.{put-copied}
+use borrow.Author.Needs.{needs}
+use Rattle.zvt.proofs.writing.put.Statement.{statement}
+use Rattle.zvt.proofs.writing.put.Tie as tie
+
+sub-at : tie.Need-sub-at
+sub-at c = search needs
+
+sub-copy : tie.Need-sub-copy
+sub-copy c = search needs
+
+part-copy-start : tie.Need-part-copy-start
+part-copy-start c = search needs
+
+part-copy-end : tie.Need-part-copy-end
+part-copy-end c = search needs
+
+copy-requires : tie.Need-copy-requires
+copy-requires c κs = search needs
+
+same-length : tie.Need-same-length
+same-length c = search needs
+
+returns : tie.Need-returns
+returns c =
+    let v = c .before .before .before .before .before .before .args .v .now in
+    let d = c .before .before .before .before .before .before .args .out .now in
+    let at = length d - length v in
+    record {
+      rest = refl;
+      done =
+          ap (λ (y : List ℕ). take at d ++ (y ++ drop (length d - at) (drop at d))) (c .before .before .copy .ensures .1)
+          ∙ put-copied v d (c .before .before .before .before .before .before .pre);
+    }
+
+pub put-spec : {M : Type 1} → statement M
+put-spec =
+    tie.close
+    (tie.spec sub-at sub-copy part-copy-start part-copy-end copy-requires same-length returns)

@@ -1,0 +1,148 @@
+-- `put_body` meets its contract, layout by layout. Assumes nothing.
+use mathlib.Core.Path.{_≡_, refl, sym}
+use mathlib.Core.List.{List, _++_}
+use Prim.Native.Nat.{ℕ, _≤_}
+use native.Mathlib.Omega.{arith}
+use lib.ListN.{length, take, drop}
+use lib.Seq.{length-take-le}
+use borrow.Author.Needs.{needs}
+use Rattle.messages.proofs.ObjectSteps.{tail}
+use Rattle.zvt.specs.Writing.{ListReads, shortListOf, shortBodyOf}
+use Rattle.zvt.proofs.BodyLaws.{bytes-known}
+use Rattle.zvt.proofs.Back.{fits-as, put-as, rest-fits, first-lent, first-room, first-put}
+use Rattle.zvt.proofs.ShortBodies.{plain-body, list-body, secured-body}
+use Rattle.zvt.proofs.writing.put.Reads as put-reads
+use Rattle.zvt.proofs.writing.put_list.Reads as put-list-reads
+use Rattle.zvt.proofs.writing.put_body.Statement.{statement}
+use Rattle.zvt.proofs.writing.put_body.Tie as tie
+use Rattle.zvt.proofs.writing.put_body.Reads as reads
+use Rattle.zvt.proofs.writing.put_body.Lts as lts
+
+-- ---- plain bytes
+enum-told : tie.Need-enum-told
+enum-told c = search needs
+
+put-requires : tie.Need-put-requires
+put-requires c κs =
+    let a = c .before .before .before .before .before in
+    fits-as (plain-body (a .args .layout) (a .args .s .now) (c .before .enum-told .given .1)) (a .pre .2)
+
+same-length : tie.Need-same-length
+same-length c = search needs
+
+returns : tie.Need-returns
+returns c =
+    let t = c .before .before .before .before in
+    let a = t .before .before .before .before in
+    put-as (plain-body (a .args .layout) (a .args .s .now) (t .enum-told .given .1)) (c .before .before .put .ensures)
+
+-- ---- a list
+enum-told-2 : tie.Need-enum-told-2
+enum-told-2 c = search needs
+
+put-list-requires : tie.Need-put-list-requires
+put-list-requires c κs =
+    let a = c .before .before .before .before .before in
+    let f = list-body (a .args .layout) (a .args .s .now) (c .before .enum-told2 .given .1) (a .pre .1) in
+    (a .pre .0, f .0, fits-as (sym (f .1)) (a .pre .2))
+
+same-length-2 : tie.Need-same-length-2
+same-length-2 c = search needs
+
+returns-2 : tie.Need-returns-2
+returns-2 c =
+    let t = c .before .before .before .before in
+    let a = t .before .before .before .before in
+    put-as (sym (list-body (a .args .layout) (a .args .s .now) (t .enum-told2 .given .1) (a .pre .1) .1)) (c .before .before .put-list .ensures)
+
+-- ---- a password, and a list behind it
+abbrev Secured : Type 0
+Secured = lts.After-enum-told3 (put-reads.Asked, put-reads.Learnt, put-list-reads.Asked, put-list-reads.Learnt) reads.Pre reads.Post
+
+abbrev start : Secured → lts.Start (put-reads.Asked, put-reads.Learnt, put-list-reads.Asked, put-list-reads.Learnt) reads.Pre reads.Post
+start c = c .before .before .before .before
+
+abbrev bytes : Secured → List ℕ
+bytes c = start c .args .s .now
+
+abbrev out : Secured → List ℕ
+out c = start c .args .out .now
+
+secured : (c : Secured) → (3 ≤ length (bytes c)) × ListReads (drop 3 (bytes c))
+    × (shortBodyOf (start c .args .layout) (bytes c) ≡ take 3 (bytes c) ++ shortListOf (drop 3 (bytes c)))
+secured c = secured-body _ _ (bytes-known _ (c .before .before .before .shared-slice-known .given)) (c .enum-told3 .given .1) (start c .pre .1)
+
+enum-told-3 : tie.Need-enum-told-3
+enum-told-3 c = search needs
+
+sub-put-list : tie.Need-sub-put-list
+sub-put-list c = secured c .0
+
+part-put-list-start : tie.Need-part-put-list-start
+part-put-list-start c = secured c .0
+
+part-put-list-end : tie.Need-part-put-list-end
+part-put-list-end c = search needs
+
+put-list-requires-2 : tie.Need-put-list-requires-2
+put-list-requires-2 c κs =
+    let t = c .before .before in
+    let f = secured t in (
+      omega (arith, c .before .put-list-arg2 .given .2, start t .pre .0),
+      rw (tail 3 (bytes t)) (f .1),
+      rest-fits shortListOf (take 3 (bytes t)) (bytes t) (out t) 3 (f .2) (start t .pre .2),
+    )
+
+slice-aggregate-put : tie.Need-slice-aggregate-put
+slice-aggregate-put c =
+    let t = c .before .before .before .before .before .before in
+    sym (length-take-le 3 (bytes t) (secured t .0))
+
+slice-relend-prefix-put : tie.Need-slice-relend-prefix-put
+slice-relend-prefix-put c = search needs
+
+slice-aggregate-put-2 : tie.Need-slice-aggregate-put-2
+slice-aggregate-put-2 c =
+    let t = c .before .before .before .before .before .before .before in
+    first-lent shortListOf (take 3 (bytes t)) (bytes t) (out t) 3 (secured t .2) (start t .pre .2)
+    (c .before .before .before .before .put-list2 .ensures)
+
+put-requires-2 : tie.Need-put-requires-2
+put-requires-2 c κs =
+    let t = c .before .before .before .before .before .before .before in
+    first-room shortListOf (take 3 (bytes t)) (bytes t) (out t) 3 (secured t .2) (start t .pre .2)
+    (c .before .before .before .before .put-list2 .ensures) refl
+
+same-length-3 : tie.Need-same-length-3
+same-length-3 c = search needs
+
+returns-3 : tie.Need-returns-3
+returns-3 c =
+    let l = c .before .before .before .before .before .before .before in
+    let t = l .before .before .before in
+    first-put shortListOf (take 3 (bytes t)) (bytes t) (out t) 3 (secured t .2) (start t .pre .2) (l .put-list2 .ensures) refl
+    (c .before .before .put2 .ensures)
+
+pub put-body-spec : {M : Type 1} → statement M
+put-body-spec =
+    tie.close
+    (tie.spec
+    enum-told
+    put-requires
+    enum-told-2
+    put-list-requires
+    enum-told-3
+    sub-put-list
+    part-put-list-start
+    part-put-list-end
+    put-list-requires-2
+    slice-aggregate-put
+    slice-relend-prefix-put
+    slice-aggregate-put-2
+    put-requires-2
+    same-length
+    returns
+    same-length-2
+    returns-2
+    same-length-3
+    returns-3)

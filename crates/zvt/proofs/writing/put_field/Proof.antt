@@ -1,0 +1,88 @@
+-- `put_field` meets its contract: a container is put as a branch is, any other field as it stands. Assumes nothing.
+use mathlib.Core.Path.{_≡_, sym}
+use mathlib.Core.Bool.{true, false}
+use mathlib.Core.List.{List}
+use Prim.Native.Nat.{ℕ}
+use native.Mathlib.Omega.{arith}
+use lib.ListN.{take}
+use lib.Seq.{length-take-le}
+use Rattle.messages.specs.Reading.{part}
+use Rattle.messages.proofs.ObjectSteps.{part-length}
+use Rattle.zvt.specs.declared.objects.Bounds.{Bounds}
+use Rattle.zvt.specs.Writing.{valueBytes, shortRunOf, shortFieldOf}
+use Rattle.zvt.proofs.Back.{fits-as, put-as}
+use borrow.Author.Needs.{needs}
+use Rattle.zvt.proofs.writing.put_field.Statement.{statement}
+use Rattle.zvt.proofs.writing.put_field.Tie as tie
+
+as-branch : (s : List ℕ) (b : Bounds) → b .nested ≡ true → valueBytes (take 1 s) (shortRunOf (part (b .from) (b .to) s)) ≡ shortFieldOf b s
+unfolding shortFieldOf
+as-branch s b e = rw e
+
+as-it-stands : (s : List ℕ) (b : Bounds) → b .nested ≡ false → take (b .to) s ≡ shortFieldOf b s
+unfolding shortFieldOf
+as-it-stands s b e = rw e
+
+slice-aggregate-put-branch : tie.Need-slice-aggregate-put-branch
+slice-aggregate-put-branch c =
+    let s = c .before .before .before .before in
+    sym (length-take-le 1 (s .args .s .now) (omega (arith, s .pre .1, s .pre .2, s .pre .3)))
+
+sub-put-branch : tie.Need-sub-put-branch
+sub-put-branch c = search needs
+
+part-put-branch-start : tie.Need-part-put-branch-start
+part-put-branch-start c = search needs
+
+part-put-branch-end : tie.Need-part-put-branch-end
+part-put-branch-end c = search needs
+
+put-branch-requires : tie.Need-put-branch-requires
+put-branch-requires c κs =
+    let s = c .before .before .before .before .before .before in
+    let b = s .args .b in
+    let run = c .before .before .before .if1 .taken in
+    let l = part-length (s .args .s .now) (b .from) (b .to) (s .pre .2) (s .pre .3) in
+    (omega (arith, s .pre .0, s .pre .3), s .pre .4 run, fits-as (as-branch (s .args .s .now) b run) (s .pre .5))
+
+slice-aggregate-put : tie.Need-slice-aggregate-put
+slice-aggregate-put c =
+    let s = c .before .before .before .before in
+    sym (length-take-le (s .args .b .to) (s .args .s .now) (s .pre .3))
+
+put-requires : tie.Need-put-requires
+put-requires c κs =
+    let s = c .before .before .before .before .before in
+    fits-as (as-it-stands (s .args .s .now) (s .args .b) (c .before .before .if1 .left)) (s .pre .5)
+
+same-length : tie.Need-same-length
+same-length c = search needs
+
+returns : tie.Need-returns
+returns c =
+    let s = c .before .before .before .before .before .before .before .before .before in
+    put-as (as-branch (s .args .s .now) (s .args .b) (c .before .before .before .before .before .before .if1 .taken)) (c .before .before .put-branch .ensures)
+
+same-length-2 : tie.Need-same-length-2
+same-length-2 c = search needs
+
+returns-2 : tie.Need-returns-2
+returns-2 c =
+    let s = c .before .before .before .before .before .before .before .before in
+    put-as (as-it-stands (s .args .s .now) (s .args .b) (c .before .before .before .before .before .if1 .left)) (c .before .before .put .ensures)
+
+pub put-field-spec : {M : Type 1} → statement M
+put-field-spec =
+    tie.close
+    (tie.spec
+    slice-aggregate-put-branch
+    sub-put-branch
+    part-put-branch-start
+    part-put-branch-end
+    put-branch-requires
+    slice-aggregate-put
+    put-requires
+    same-length
+    returns
+    same-length-2
+    returns-2)

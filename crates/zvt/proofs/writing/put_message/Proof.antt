@@ -1,0 +1,131 @@
+-- `put_message` meets its contract: the body, and its header before it. Assumes nothing.
+use mathlib.Core.Path.{ap}
+use mathlib.Core.List.{List, _++_}
+use Prim.Native.Nat.{ℕ, _+_, _≤_}
+use native.Mathlib.Omega.{arith}
+use lib.ListN.{length, length-append}
+use borrow.Author.Needs.{needs}
+use Rattle.messages.specs.declared.Layout.{Layout}
+use Rattle.messages.proofs.ObjectSteps.{part-length}
+use Rattle.messages.proofs.ObjectBytes.{bytes-part}
+use Rattle.zvt.specs.Writing.{Put, shortBodyOf, headerBytes, headerLayout, bodyPart, shortMessageOf}
+use Rattle.zvt.proofs.BodyLaws.{bytes-known}
+use Rattle.zvt.proofs.Back.{put-as, lent-all, says, head-room, then-head}
+use Rattle.zvt.proofs.ShortBodies.{body-fits}
+use Rattle.zvt.proofs.format.layout_of.Reads as layout-of-reads
+use Rattle.zvt.proofs.writing.put_body.Reads as put-body-reads
+use Rattle.zvt.proofs.writing.put_header.Reads as put-header-reads
+use Rattle.zvt.proofs.writing.put_message.Statement.{statement}
+use Rattle.zvt.proofs.writing.put_message.Tie as tie
+use Rattle.zvt.proofs.writing.put_message.Reads as reads
+use Rattle.zvt.proofs.writing.put_message.Lts as lts
+
+-- ---- the body is there
+abbrev claims : lts.Claims
+claims = (
+  layout-of-reads.Asked,
+  layout-of-reads.Learnt,
+  put-body-reads.Asked,
+  put-body-reads.Learnt,
+  put-header-reads.Asked,
+  put-header-reads.Learnt,
+)
+
+abbrev Inner : Type 0
+Inner = lts.After-slice-known2 claims reads.Pre reads.Post
+
+abbrev begun : Inner → lts.Start claims reads.Pre reads.Post
+begun c = c .before .before .before .before .before .before .before .before .before
+
+abbrev body : Inner → List ℕ
+body c = let a = begun c .args in shortBodyOf (headerLayout (a .h)) (bodyPart (a .h) (a .s .now))
+
+abbrev head : Inner → ℕ → List ℕ
+head c = let h = begun c .args .h in headerBytes (h .class) (h .instruction)
+
+inner : (c : Inner) → Put (body c) (begun c .args .out .now) (c .before .before .put-body .result) (c .before .before .put-body .last .1 .1 .0)
+unfolding headerLayout bodyPart
+inner c =
+    let a = begun c .args in
+    put-as (ap (λ (l : Layout). shortBodyOf l (bodyPart (a .h) (a .s .now))) (c .before .before .before .before .before .layout-of .ensures))
+    (c .before .before .put-body .ensures)
+
+fits : (c : Inner) → length (head c (length (body c)) ++ body c) ≤ length (begun c .args .out .now)
+unfolding shortMessageOf
+fits c = begun c .pre .3
+
+small : (c : Inner) → length (body c) ≤ 4096
+unfolding bodyPart
+small c =
+    let m = begun c in
+    let h = m .args .h in
+    let s = m .args .s .now in
+    let known = bytes-known s (c .before .before .before .before .before .before .before .before .shared-slice-known .given) in
+    let l = part-length s (h .start) (h .start + h .length) (omega arith) (m .pre .0) in
+    omega (arith, body-fits (headerLayout h) (bodyPart h s) (bytes-part (h .start) (h .start + h .length) s known) (m .pre .2), m .pre .1)
+
+add-to : tie.Need-add-to
+add-to c = search needs
+
+layout-of-requires : tie.Need-layout-of-requires
+layout-of-requires c κs = search needs
+
+sub-put-body : tie.Need-sub-put-body
+sub-put-body c = search needs
+
+part-put-body-start : tie.Need-part-put-body-start
+part-put-body-start c = search needs
+
+part-put-body-end : tie.Need-part-put-body-end
+part-put-body-end c = search needs
+
+put-body-requires : tie.Need-put-body-requires
+unfolding headerLayout bodyPart shortMessageOf
+put-body-requires c κs =
+    let m = c .before .before .before .before .before .before in
+    let h = m .args .h in
+    let s = m .args .s .now in
+    let b = shortBodyOf (headerLayout h) (bodyPart h s) in
+    let l = part-length s (h .start) (h .start + h .length) (omega arith) (m .pre .0) in
+    let k = length-append (headerBytes (h .class) (h .instruction) (length b)) b in
+    rw (c .before .before .layout-of .ensures) (omega (arith, m .pre .1), m .pre .2, omega (arith, m .pre .3))
+
+sub-v : tie.Need-sub-v
+sub-v c = search needs
+
+slice-relend-prefix-put-header : tie.Need-slice-relend-prefix-put-header
+slice-relend-prefix-put-header c = search needs
+
+slice-aggregate-put-header : tie.Need-slice-aggregate-put-header
+slice-aggregate-put-header c = let i = c .before in lent-all (head i (length (body i))) (inner i) (fits i)
+
+put-header-requires : tie.Need-put-header-requires
+put-header-requires c κs =
+    let i = c .before in
+    (omega (arith, says (head i) (inner i) (fits i), small i), head-room (head i) (inner i) (fits i))
+
+same-length : tie.Need-same-length
+same-length c = search needs
+
+returns : tie.Need-returns
+unfolding shortMessageOf
+returns c =
+    let i = c .before .before .before .before in
+    then-head (head i) (inner i) (fits i) (c .before .before .put-header .ensures)
+
+pub put-message-spec : {M : Type 1} → statement M
+put-message-spec =
+    tie.close
+    (tie.spec
+    add-to
+    layout-of-requires
+    sub-put-body
+    part-put-body-start
+    part-put-body-end
+    put-body-requires
+    sub-v
+    slice-relend-prefix-put-header
+    slice-aggregate-put-header
+    put-header-requires
+    same-length
+    returns)
