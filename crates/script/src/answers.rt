@@ -14,6 +14,8 @@ use messages::ToldCode;
 use messages::ToldReceipt;
 use zvt::FieldAnswer;
 use zvt::Message;
+ghost use mathlib.Core.Path.{_≡_};
+ghost use lib.IntN.{natAbs};
 
 // Bytes as hex, `-` for none.
 pub(crate) fn add_bytes(v: &[u8], at: usize, out: &mut [u8]) -> usize {
@@ -51,14 +53,29 @@ pub(crate) fn not_understood(line: u64, out: &mut [u8]) -> usize {
     add_all(b" not understood\n", to, out)
 }
 
-pub(crate) fn signed(n: i64, out: &mut [u8]) -> usize {
+// -n does not fit at the least number: one is added before, and after the cast.
+fn magnitude(n: i64) -> u64
+    ensures { λ r. ⌜ r ≡ natAbs n ⌝ }
+{
     if n < 0 {
-        let short = -(n + 1);
-        let to = add(b'-', 0, out);
-        let end = add_decimal((short as u64) + 1, to, out);
-        return add_end(end, out);
+        let above = n + 1;
+        let opposite = 0 - above;
+        let shorter = opposite as u64;
+        return shorter + 1;
     }
-    let to = add_decimal(n as u64, 0, out);
+    n as u64
+}
+
+fn add_sign(n: i64, at: usize, out: &mut [u8]) -> usize {
+    if n < 0 {
+        return add(b'-', at, out);
+    }
+    at
+}
+
+pub(crate) fn signed(n: i64, out: &mut [u8]) -> usize {
+    let mut to = add_sign(n, 0, out);
+    to = add_decimal(magnitude(n), to, out);
     add_end(to, out)
 }
 
@@ -78,16 +95,28 @@ fn add_outcome(o: Outcome, at: usize, out: &mut [u8]) -> usize {
     }
 }
 
+// Kind and amount asked.
+fn add_asked(kind: Kind, asked: u64, at: usize, out: &mut [u8]) -> usize {
+    let to = add_kind(kind, at, out);
+    add_number(asked, to, out)
+}
+
+// Outcome and code.
+fn add_ending(outcome: Outcome, code: u8, at: usize, out: &mut [u8]) -> usize {
+    let to = add_outcome(outcome, at, out);
+    add_hex(code, to, out)
+}
+
 // A line of the book, with its number.
 pub(crate) fn add_line(number: u64, l: Line, at: usize, out: &mut [u8]) -> usize {
+    let kind = l.kind;
+    let outcome = l.outcome;
     let mut to = add_decimal(number, at, out);
     to = add_number(l.lane as u64, to, out);
-    to = add_kind(l.kind, to, out);
-    to = add_number(l.asked, to, out);
+    to = add_asked(kind, l.asked, to, out);
     to = add_number(l.settled, to, out);
     to = add_number(l.receipt as u64, to, out);
-    to = add_outcome(l.outcome, to, out);
-    to = add_hex(l.code, to, out);
+    to = add_ending(outcome, l.code, to, out);
     add_end(to, out)
 }
 
@@ -129,19 +158,23 @@ fn add_receipt(r: ToldReceipt, at: usize, out: &mut [u8]) -> usize {
 }
 
 fn add_status(s: Status, at: usize, out: &mut [u8]) -> usize {
-    let mut to = add_code(s.code, at, out);
-    to = add_amount(s.amount, to, out);
-    add_receipt(s.receipt, to, out)
+    let code = s.code;
+    let amount = s.amount;
+    let receipt = s.receipt;
+    let mut to = add_code(code, at, out);
+    to = add_amount(amount, to, out);
+    add_receipt(receipt, to, out)
 }
 
 fn add_payment(l: Lane, at: usize, out: &mut [u8]) -> usize {
-    let mut to = add_kind(l.kind, at, out);
-    to = add_number(l.asked, to, out);
+    let kind = l.kind;
+    let to = add_asked(kind, l.asked, at, out);
     add_number(l.named as u64, to, out)
 }
 
 fn add_phase(l: Lane, at: usize, out: &mut [u8]) -> usize {
     let p = l.phase;
+    let status = l.status;
     match p {
         Phase::Idle => add_all(b" idle", at, out),
         Phase::Waiting => {
@@ -151,7 +184,7 @@ fn add_phase(l: Lane, at: usize, out: &mut [u8]) -> usize {
         Phase::Running => {
             let to = add_all(b" running", at, out);
             let next = add_payment(l, to, out);
-            add_status(l.status, next, out)
+            add_status(status, next, out)
         }
     }
 }

@@ -9,6 +9,8 @@ use desk::Desk;
 use libc::STDOUT_FILENO;
 use turns::State;
 use turns::Turn;
+ghost use Prim.Native.Nat.{_≤_};
+ghost use lib.ListN.{length};
 ghost use Rattle.script.specs.Script.{Ready};
 
 // The most bytes of a script.
@@ -32,25 +34,26 @@ fn line(
     state: State,
     number: u64,
     s: &[u8],
-    message: &mut [u8; BYTES],
-    own: &mut [u8; BYTES],
-    lent: &mut [u8; State::ROOM],
-    text: &mut [u8; TEXT],
+    message: &mut [u8],
+    own: &mut [u8],
+    lent: &mut [u8],
+    text: &mut [u8],
 ) -> Turn
-    requires { ⌜ Ready state ⌝ }
+    requires { ⌜ Ready state × (4101 ≤ length (now lent)) ⌝ }
     ensures { λ r. ⌜ Ready (r .state) ⌝ }
 {
-    let asked = orders::asked(s, message, own);
+    let asked = orders::order_of(s, message, own);
     let order = asked.order;
     let size = asked.size;
     let named = asked.own;
     let room = state.room;
-    let t = turns::turn(
+    let t = turns::act(
         state,
         number,
         order,
         &message[..size],
         &own[..named],
+        asked.room,
         &mut lent[..room],
         text,
     );

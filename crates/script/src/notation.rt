@@ -1,6 +1,6 @@
 // Numbers and bytes as a script writes them.
 use check::same;
-ghost use Prim.Native.Nat.{_≤_};
+ghost use Prim.Native.Nat.{_*_, _≤_};
 ghost use lib.ListN.{length};
 ghost use Rattle.script.specs.Script.{sizeOf};
 

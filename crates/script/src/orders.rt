@@ -7,9 +7,8 @@ use crate::turns::State;
 use crate::words::following;
 use crate::words::word;
 use check::same;
-ghost use Prim.Native.Nat.{_≤_};
 ghost use lib.ListN.{length};
-ghost use Rattle.script.specs.Script.{sizeOf};
+ghost use Rattle.script.specs.Script.{sizeOf, Within};
 
 // A call for the desk.
 pub(crate) enum Call {
@@ -38,15 +37,16 @@ pub(crate) enum Reading {
 pub(crate) enum Order {
     Bad,
     Pass,
-    Room(usize),
+    Room,
     Call(Call),
     Question(Question),
     Reading(Reading),
 }
 
-// An order, and how long its message and the till's own name are.
+// An order, and how many bytes are to be lent, how long its message is and how long the till's own name; 0 where it has none.
 pub(crate) struct Asked {
     pub(crate) order: Order,
+    pub(crate) room: usize,
     pub(crate) size: usize,
     pub(crate) own: usize,
 }
@@ -62,16 +62,6 @@ fn as_password(n: u64) -> u32 {
 
 fn as_receipt(n: u64) -> u16 {
     if 65535 < n { 65535 } else { n as u16 }
-}
-
-fn room(n: Number) -> Order {
-    let Number::Value(size) = n else {
-        return Order::Bad;
-    };
-    if (State::ROOM as u64) < size {
-        return Order::Bad;
-    }
-    Order::Room(size as usize)
 }
 
 fn lost(n: Number) -> Order {
@@ -124,33 +114,59 @@ fn reversal(n: Number, m: Number, k: Number) -> Order {
     Order::Call(Call::Reversal(as_lane(lane), as_password(password), as_receipt(receipt)))
 }
 
-fn plain(order: Order) -> Asked {
+fn plain(order: Order) -> Asked
+    ensures { λ r. ⌜ Within r 0 0 ⌝ }
+{
     Asked {
         order,
+        room: 0,
         size: 0,
         own: 0,
     }
 }
 
-fn with_message(order: Order, message: Bytes) -> Asked {
+fn with_room(n: Number) -> Asked
+    ensures { λ r. ⌜ Within r 0 0 ⌝ }
+{
+    let Number::Value(room) = n else {
+        return plain(Order::Bad);
+    };
+    if (State::ROOM as u64) < room {
+        return plain(Order::Bad);
+    }
+    Asked {
+        order: Order::Room,
+        room: room as usize,
+        size: 0,
+        own: 0,
+    }
+}
+
+fn with_message(order: Order, message: Bytes) -> Asked
+    ensures { λ r. ⌜ Within r (sizeOf message) 0 ⌝ }
+{
     let Bytes::Size(size) = message else {
         return plain(Order::Bad);
     };
     Asked {
         order,
+        room: 0,
         size,
         own: 0,
     }
 }
 
-fn with_name(order: Order, message: Bytes, name: Bytes) -> Asked {
+fn with_name(message: Bytes, name: Bytes) -> Asked
+    ensures { λ r. ⌜ Within r (sizeOf message) (sizeOf name) ⌝ }
+{
     let Bytes::Size(own) = name else {
         return plain(Order::Bad);
     };
-    let asked = with_message(order, message);
-    let known = asked.order;
+    let asked = with_message(Order::Reading(Reading::Name), message);
+    let order = asked.order;
     Asked {
-        order: known,
+        order,
+        room: asked.room,
         size: asked.size,
         own,
     }
@@ -174,9 +190,11 @@ fn alone(name: &[u8]) -> Order {
 }
 
 // A line of two words.
-fn with_one(name: &[u8], w: &[u8], message: &mut [u8]) -> Asked {
+fn with_one(name: &[u8], w: &[u8], message: &mut [u8]) -> Asked
+    ensures { λ r. ⌜ Within r (length (now (message .exit))) 0 ⌝ }
+{
     if same(name, b"room") {
-        return plain(room(number_of(w)));
+        return with_room(number_of(w));
     }
     if same(name, b"lost") {
         return plain(lost(number_of(w)));
@@ -191,7 +209,9 @@ fn with_one(name: &[u8], w: &[u8], message: &mut [u8]) -> Asked {
 }
 
 // A line of three words.
-fn with_two(name: &[u8], v: &[u8], w: &[u8], message: &mut [u8], own: &mut [u8]) -> Asked {
+fn with_two(name: &[u8], v: &[u8], w: &[u8], message: &mut [u8], own: &mut [u8]) -> Asked
+    ensures { λ r. ⌜ Within r (length (now (message .exit))) (length (now (own .exit))) ⌝ }
+{
     if same(name, b"sale") {
         return plain(sale(number_of(v), number_of(w)));
     }
@@ -199,11 +219,7 @@ fn with_two(name: &[u8], v: &[u8], w: &[u8], message: &mut [u8], own: &mut [u8])
         return with_message(terminal(number_of(v)), bytes_of(w, message));
     }
     if same(name, b"name") {
-        return with_name(
-            Order::Reading(Reading::Name),
-            bytes_of(v, message),
-            bytes_of(w, own),
-        );
+        return with_name(bytes_of(v, message), bytes_of(w, own));
     }
     plain(Order::Bad)
 }
@@ -220,7 +236,9 @@ fn with_three(name: &[u8], u: &[u8], v: &[u8], w: &[u8]) -> Order {
 }
 
 // The order of a line; its bytes go to the start of message and own.
-pub(crate) fn asked(s: &[u8], message: &mut [u8], own: &mut [u8]) -> Asked {
+pub(crate) fn order_of(s: &[u8], message: &mut [u8], own: &mut [u8]) -> Asked
+    ensures { λ r. ⌜ Within r (length (now (message .exit))) (length (now (own .exit))) ⌝ }
+{
     if s.len() == 0 {
         return plain(Order::Pass);
     }

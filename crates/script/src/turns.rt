@@ -13,6 +13,7 @@ use desk::LineAnswer;
 use desk::Reply;
 use zvt::ReadAnswer;
 use zvt::ShortenAnswer;
+ghost use Prim.Native.Nat.{_≤_};
 ghost use Rattle.desk.specs.Desk.{Valid};
 ghost use Rattle.script.specs.Script.{Ready};
 
@@ -104,12 +105,12 @@ fn shorten(s: &[u8], lent: &mut [u8], out: &mut [u8]) -> usize {
     }
 }
 
-fn name(s: &[u8], own: &[u8], out: &mut [u8]) -> usize {
+fn name<'a>(s: &'a [u8], own: &'a [u8], out: &mut [u8]) -> usize {
     let to = answers::add_bytes(zvt::card_name(s, own), 0, out);
     answers::add_end(to, out)
 }
 
-fn reading(r: Reading, s: &[u8], own: &[u8], lent: &mut [u8], out: &mut [u8]) -> usize {
+fn reading<'a>(r: Reading, s: &'a [u8], own: &'a [u8], lent: &mut [u8], out: &mut [u8]) -> usize {
     match r {
         Reading::Read => read(s, out),
         Reading::Shorten => shorten(s, lent, out),
@@ -191,24 +192,25 @@ fn last(state: State, size: usize) -> Turn
     }
 }
 
-// Line number `line`, which asks for o with the message s and the till's own name.
-pub(crate) fn turn(
+// Line number `line`, which asks for o, with the message s, the till's own name and the room to be lent from then on.
+pub(crate) fn act<'a>(
     state: State,
     line: u64,
     o: Order,
-    s: &[u8],
-    own: &[u8],
+    s: &'a [u8],
+    own: &'a [u8],
+    room: usize,
     lent: &mut [u8],
     out: &mut [u8],
 ) -> Turn
-    requires { ⌜ Ready state ⌝ }
+    requires { ⌜ Ready state × (room ≤ 4101) ⌝ }
     ensures { λ r. ⌜ Ready (r .state) ⌝ }
 {
     let desk = state.desk;
     match o {
         Order::Bad => last(state, answers::not_understood(line, out)),
         Order::Pass => next(state, 0),
-        Order::Room(room) => next(State { desk, room }, answers::ok(out)),
+        Order::Room => next(State { desk, room }, answers::ok(out)),
         Order::Question(q) => next(state, question(desk, q, out)),
         Order::Reading(r) => next(state, reading(r, s, own, lent, out)),
         Order::Call(c) => call(state, c, s, lent, out),
