@@ -89,7 +89,7 @@ unfoldable pub afterBody : Lane → Reading Message → Moved
 afterBody l (refused f) = no (f .number)
 afterBody l (got m) = movedBy l m
 
--- "Running, each answered with 80 00 00: 04 FF, 06 D1, 06 D3, 04 0F, 06 1E, 06 0F"; else 15, before the body
+-- the six pairs that a running lane takes; any other is 15, before the body is read
 unfoldable pub heardRunning : Lane → List ℕ → Header → Moved
 heardRunning l s h =
     pick (among (0x04FF ∷ 0x06D1 ∷ 0x06D3 ∷ 0x040F ∷ 0x061E ∷ 0x060F ∷ []) (h .class * 256 + h .instruction)) (afterBody l (readOf s))
@@ -113,7 +113,7 @@ isIdle Running = false
 unfoldable pub heard : Lane → List ℕ → Moved
 heard l s = pick (isIdle (l .phase)) (no 14) (afterHeader l s (wholeHeader s))
 
--- "Link lost ends a waiting or running lane, unclear, with no reply." "the code is .. 0 when .. the link was lost"
+-- "Link lost ends a waiting or running lane, unclear, with no reply."; its code is 0
 unfoldable pub lostBy : Lane → Moved
 lostBy l = pick (isIdle (l .phase)) (no 14) (Ends Unclear 0 0)
 
@@ -129,7 +129,7 @@ isSale Sale = true
 isSale Refund = false
 isSale Reversal = false
 
--- "the last approved sale or reversal line of this lane with that receipt", or a blank one
+-- an approved sale or reversal line of this lane with that receipt
 unfoldable pub concerns : ℕ → ℕ → Line → Bool
 concerns i receipt l =
     eqb (l .lane) i && (isApproved (l .outcome) && ((isSale (l .kind) || isReversal (l .kind)) && eqb (l .receipt) receipt))
@@ -138,6 +138,7 @@ unfoldable pub lastFrom : ℕ → ℕ → Line → List Line → Line
 lastFrom i receipt last [] = last
 lastFrom i receipt last (l ∷ ls) = lastFrom i receipt (pick (concerns i receipt l) l last) ls
 
+-- "the last approved sale or reversal line of this lane with that receipt", or a blank one where there is none
 unfoldable pub lastLine : ℕ → ℕ → List Line → Line
 lastLine i receipt ls = lastFrom i receipt blankLine ls
 

@@ -104,11 +104,10 @@ unfoldable pub openLeaves : Desk → ℕ → Bool → Bool → List ℕ → List
 openLeaves d i within sale command out =
     pick (eqb (openingNumber d i within sale (length command) (length out)) 0) (command ++ drop (length command) out) out
 
--- "19 a payment is open at closing"; "Closing the day empties the book."
+-- "19 a payment is open at closing"; "Closing the day empties the book." No payment is open, so nothing is remembered: what is
+-- left is a fresh desk
 unfoldable pub closeAnswer : Desk → Answer
-closeAnswer d =
-    pick (eqb (places (d .lanes)) 0) (record { reply = Written 0; desk = record { lanes = d .lanes; book = emptyBook } })
-    (refusedAnswer d 19)
+closeAnswer d = pick (eqb (places (d .lanes)) 0) (record { reply = Written 0; desk = freshDesk }) (refusedAnswer d 19)
 
 unfoldable pub lineAnswer : ℕ → List Line → LineAnswer
 lineAnswer k ls = pick (ltb k (length ls)) (line-got (getD ls k blankLine)) End

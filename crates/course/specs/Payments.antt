@@ -1,6 +1,6 @@
 -- The payments of a run, and what each payment's own messages make of it. Definitions only.
 use Prim.Native.Nat.{ℕ}
-use mathlib.Core.Bool.{Bool, true, false}
+use mathlib.Core.Bool.{Bool, true, false, _||_}
 use mathlib.Core.List.{List, [], _∷_, _++_}
 use lib.ListN.{getD, set, replicate}
 use lib.Dec.{eqb}
@@ -17,49 +17,56 @@ use Rattle.course.specs.declared.Line.{Line}
 use Rattle.course.specs.declared.Moved.{Moved}
 use Rattle.course.specs.declared.Moved.the-variants.{Refused, Stays, Becomes, Ends}
 use Rattle.course.specs.Lanes.{noStatus, blankLine, lineAt}
-use Rattle.course.specs.Course.{pairIs, completedBy, abortedBy, lastLine, Ask, askSale, askRefund, askReversal, Call, sale, refund, reversal, message, lost, laneOf, moves}
-use Rattle.course.specs.Desk.{State, fresh, laneAt, step}
+use Rattle.course.specs.Course.{pairIs, completedBy, abortedBy, lastLine, Ask, askSale, askRefund, askReversal, Call, sale, refund, reversal, message, lost, laneOf}
 
 -- ---- the payments of a run: an opening, and the calls of its lane up to its end
 
--- the ended payments in the order in which they ended, and the calls of each lane's open payment
+-- the ended payments in the order in which they ended, and the calls of each lane's open payment; judged by the calls alone
 pub record Payments : Type 0 where
   pub ended : List (List Call)
   pub ongoing : List (List Call)
 
-unfoldable pub endsIn : Moved → Bool
-endsIn (Refused r) = false
-endsIn Stays = false
-endsIn (Becomes l) = false
-endsIn (Ends outcome settled code) = true
+-- the calls that end a payment: the messages 84 xx, 06 1E and 06 0F, and a lost link
+unfoldable pub endsBy : Reading Message → Bool
+endsBy (refused f) = false
+endsBy (got m) =
+    eqb (m .class) 0x84 || (pairIs (m .class) (m .instruction) 0x06 0x1E || pairIs (m .class) (m .instruction) 0x06 0x0F)
+
+unfoldable pub ends : Call → Bool
+ends (sale i amount) = false
+ends (refund i password amount) = false
+ends (reversal i password receipt) = false
+ends (message i s) = endsBy (readOf s)
+ends (lost i) = true
 
 -- a call belongs to its lane's payment, which it may end
-unfoldable pub withCall : State → Payments → Call → Payments
-withCall s p c =
+unfoldable pub withCall : Payments → Call → Payments
+withCall p c =
     let i = laneOf c in
     let calls = getD (p .ongoing) i [] ++ (c ∷ []) in
-    pick (endsIn (moves (laneAt (s .lanes) i) (s .lines) c)) (record { ended = p .ended ++ (calls ∷ []); ongoing = set (p .ongoing) i [] })
+    pick (ends c) (record { ended = p .ended ++ (calls ∷ []); ongoing = set (p .ongoing) i [] })
     (record { ended = p .ended; ongoing = set (p .ongoing) i calls })
 
-unfoldable pub paymentsFrom : State → Payments → List Call → Payments
-paymentsFrom s p [] = p
-paymentsFrom s p (c ∷ cs) = paymentsFrom (step s c) (withCall s p c) cs
+unfoldable pub paymentsFrom : Payments → List Call → Payments
+paymentsFrom p [] = p
+paymentsFrom p (c ∷ cs) = paymentsFrom (withCall p c) cs
 
 unfoldable pub paymentsOf : List Call → Payments
-paymentsOf cs = paymentsFrom fresh (record { ended = []; ongoing = replicate 8 [] }) cs
+paymentsOf cs = paymentsFrom (record { ended = []; ongoing = replicate 8 [] }) cs
 
 unfoldable pub joined : List (List Call) → List Call
 joined [] = []
 joined (cs ∷ css) = cs ++ joined css
 
--- "each payment's calls in their own order, first the ended payments one after another in the order in which they ended, then the
+-- The third demand: "each payment's calls in their own order, first the ended payments one after another in the order in which they ended, then the
 -- calls of each payment still open, lane by lane"
 unfoldable pub oneByOne : List Call → List Call
 oneByOne cs = joined (paymentsOf cs .ended) ++ joined (paymentsOf cs .ongoing)
 
 -- ---- one payment, judged from its own messages
 
--- what its opening asked, after those lines
+-- what its opening asked, after those lines. A reversal looks at its own lane's lines only, of which none is added while its
+-- payment is open: so the lines may be those at its opening or those at its end
 unfoldable pub askOf : List Line → Call → Ask
 askOf ls (sale i amount) = askSale amount
 askOf ls (refund i password amount) = askRefund password amount

@@ -1,4 +1,4 @@
--- "Net turnover is a signed number": approved sales less approved reversals and refunds. Definitions only.
+-- "Net turnover is a signed number." The third demand: "approved sales less approved reversals and refunds". Definitions only.
 use mathlib.Core.List.{List, [], _∷_}
 use Prim.Native.Nat.{ℕ, _+_}
 use lib.IntN.{ℤ, pos, _-ℤ_}

@@ -5,7 +5,6 @@ mod hear;
 mod memory;
 
 use course::Answer;
-use course::Book;
 use course::Desk;
 use course::Kind;
 use course::Lane;
@@ -154,7 +153,7 @@ pub fn link_lost(desk: Desk, lane: u8) -> Answer
     }
 }
 
-// Closes the day: the book is empty after it.
+// Closes the day: what is left is a fresh desk.
 pub fn close(desk: Desk) -> Answer
     requires { ⌜ Valid desk ⌝ }
     ensures { λ r. ⌜ r ≡ closeAnswer desk ⌝ }
@@ -162,11 +161,9 @@ pub fn close(desk: Desk) -> Answer
     if places_in(desk) != 0 {
         return refused(desk, 19);
     }
-    let mut d = desk;
-    d.book = Book::empty();
     Answer {
         reply: Reply::Written(0),
-        desk: d,
+        desk: Desk::fresh(),
     }
 }
 

@@ -9,3 +9,6 @@ pub mod FieldBytes
 pub mod FieldShort
 pub mod MessageBytes
 pub mod MessageShort
+pub mod DigitLaws
+pub mod Numbers
+pub mod Told

@@ -60,11 +60,11 @@ receiptIn fs = receiptOf (valueIn 0x87 fs)
 unfoldable pub statusIn : List Field → Status
 statusIn fs = record { code = codeIn fs; amount = amountIn fs; receipt = receiptIn fs }
 
--- the fields of a status information; none of anything else
 unfoldable pub bodyFields : Body → List Field
 bodyFields (bytes s) = []
 bodyFields (listed password fs) = fs
 
+-- the fields of a status information; none of anything else
 unfoldable pub statusFields : Reading Message → List Field
 statusFields (got m) = pick (isStatus m) (bodyFields (m .body)) []
 statusFields (refused f) = []

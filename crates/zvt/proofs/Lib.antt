@@ -14,7 +14,6 @@ pub mod HeaderLaws
 pub mod BodyLaws
 pub mod MessageLaws
 pub mod ShortMessages
-pub mod DigitLaws
 pub mod ListedLaws
 pub mod PlaceLaws
 pub mod ValueLaws

@@ -16,13 +16,14 @@ use Rattle.messages.specs.Grammar.{Bytes}
 use Rattle.messages.proofs.ObjectSteps.{part-length}
 use Rattle.messages.proofs.ObjectBytes.{bytes-part}
 use Rattle.messages.proofs.FieldSteps.{list-none}
+use Rattle.messages.specs.Values.{fieldValue}
 use Rattle.zvt.specs.declared.Listed.{Listed}
 use Rattle.zvt.specs.declared.FieldAnswer.the-variants.{Field as listed-field, End}
 use Rattle.zvt.specs.declared.objects.Bounds.{Bounds}
 use Rattle.zvt.specs.declared.objects.BoundsRead.the-variants.{Bounds as bounds-read, Refused as bounds-refused}
 use Rattle.zvt.specs.Objects.{asBounds}
 use Rattle.zvt.specs.Fields.{fieldBounds}
-use Rattle.zvt.specs.List.{fieldValue, listedAt, listedFrom, firstListed, nthListed, namedListed, listFields, fieldsBetween, listedIn, ListIn}
+use Rattle.zvt.specs.List.{listedAt, listedFrom, firstListed, nthListed, namedListed, listFields, fieldsBetween, listedIn, ListIn}
 use Rattle.zvt.specs.Writing.{ListReads}
 use Rattle.zvt.proofs.ShortLists.{first-field}
 

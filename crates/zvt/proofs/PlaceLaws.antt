@@ -20,15 +20,15 @@ use Rattle.messages.specs.Grammar.{Bytes, FieldsOk, LayoutOk, LengthOk, Message
 use Rattle.messages.proofs.ObjectSteps.{tail}
 use Rattle.messages.proofs.FieldBytes.{list-complete}
 use Rattle.messages.proofs.MessageBytes.{read-sound, message-size}
-use Rattle.zvt.specs.declared.Refusal.{Refusal}
+use Rattle.messages.specs.declared.Refusal.{Refusal}
 use Rattle.zvt.specs.declared.Message.{Message}
 use Rattle.zvt.specs.declared.ReadAnswer.the-variants.{Accepted, Refused}
 use Rattle.zvt.specs.declared.Listed.{Listed}
 use Rattle.zvt.specs.declared.list.ListPlace.{ListPlace}
 use Rattle.zvt.specs.declared.list.ListPlace.the-variants.{Nowhere, Between}
 use Rattle.zvt.specs.Answers.{messageAnswer, asReadAnswer, readAnswer}
-use Rattle.zvt.specs.List.{listedFrom, listedBody, listedMessage, listFields, fieldsBetween, listedIn, ListIn, bodyPlace, messagePlace, listPlace, isStatus, placeOfStatus, statusPlace, namedListed}
-use Rattle.zvt.specs.Values.{bodyFields, statusFields}
+use Rattle.zvt.specs.List.{listedFrom, listedBody, listedMessage, listFields, fieldsBetween, listedIn, ListIn, bodyPlace, messagePlace, listPlace, placeOfStatus, statusPlace, namedListed}
+use Rattle.messages.specs.Values.{isStatus, bodyFields, statusFields}
 use Rattle.zvt.specs.Name.{NameAt, own, nameIn, nameOf, nameAt}
 use Rattle.zvt.specs.Writing.{ListReads}
 

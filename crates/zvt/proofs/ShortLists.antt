@@ -21,11 +21,11 @@ use Rattle.messages.proofs.Readings.{got-same, got-not-refused, then-got, then-
 use Rattle.messages.proofs.ObjectBytes.{bytes-drop, bytes-part, run-sound}
 use Rattle.messages.proofs.FieldSteps.{plain-got, container-got, field-got, list-none, list-step}
 use Rattle.messages.proofs.FieldBytes.{FieldSound, field-sound, list-sound, list-complete}
+use Rattle.messages.specs.Values.{fieldValue}
 use Rattle.zvt.specs.declared.objects.Bounds.{Bounds}
 use Rattle.zvt.specs.declared.objects.BoundsRead.the-variants.{Bounds as bounds-read, Refused as bounds-refused}
 use Rattle.zvt.specs.Objects.{asBounds, boundsIn}
 use Rattle.zvt.specs.Fields.{boundsBy, fieldBounds}
-use Rattle.zvt.specs.List.{fieldValue}
 use Rattle.zvt.specs.Writing.{headBytes, valueBytes, RunReads, shortFieldOf, ListReads, listWritten, shortListOf}
 use Rattle.zvt.proofs.ShortRuns.{Alone, run-alone}
 

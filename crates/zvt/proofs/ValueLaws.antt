@@ -19,8 +19,8 @@ use Rattle.messages.proofs.FieldBytes.{list-sound}
 use Rattle.zvt.specs.declared.Listed.{Listed}
 use Rattle.zvt.specs.declared.FieldAnswer.{FieldAnswer}
 use Rattle.zvt.specs.declared.FieldAnswer.the-variants.{Field as listed-field, End}
-use Rattle.zvt.specs.List.{fieldValue, namedListed, listFields, fieldsBetween, listedIn, ListIn}
-use Rattle.zvt.specs.Values.{Found, missing, found, valueIn}
+use Rattle.zvt.specs.List.{namedListed, listFields, fieldsBetween, listedIn, ListIn}
+use Rattle.messages.specs.Values.{fieldValue, Found, missing, found, valueIn}
 use Rattle.zvt.specs.Writing.{ListReads}
 use Rattle.zvt.proofs.ListedLaws.{no-fields, list-empty, first-in}
 

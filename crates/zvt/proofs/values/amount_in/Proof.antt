@@ -5,8 +5,8 @@ use borrow.Author.Needs.{needs}
 use Rattle.messages.specs.Reading.{among}
 use Rattle.messages.specs.Fields.{formatOf}
 use Rattle.messages.specs.Grammar.{SizeOk}
-use Rattle.zvt.specs.declared.ToldAmount.the-variants.{Amount}
-use Rattle.zvt.specs.Values.{amountOf, amountIn}
+use Rattle.messages.specs.declared.ToldAmount.the-variants.{Amount}
+use Rattle.messages.specs.Values.{amountOf, amountIn}
 use Rattle.zvt.proofs.BodyLaws.{bytes-known}
 use Rattle.zvt.proofs.ValueLaws.{Here, not-here, is-here}
 use Rattle.zvt.proofs.values.amount_in.Statement.{statement}

@@ -5,8 +5,8 @@ use borrow.Author.Needs.{needs}
 use Rattle.messages.specs.Reading.{among}
 use Rattle.messages.specs.Fields.{formatOf}
 use Rattle.messages.specs.Grammar.{SizeOk}
-use Rattle.zvt.specs.declared.ToldCode.the-variants.{Code}
-use Rattle.zvt.specs.Values.{codeOf, codeIn}
+use Rattle.messages.specs.declared.ToldCode.the-variants.{Code}
+use Rattle.messages.specs.Values.{codeOf, codeIn}
 use Rattle.zvt.proofs.BodyLaws.{bytes-known}
 use Rattle.zvt.proofs.ListedLaws.{part-first}
 use Rattle.zvt.proofs.ValueLaws.{Here, not-here, is-here}

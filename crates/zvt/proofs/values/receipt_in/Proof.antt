@@ -5,10 +5,10 @@ use borrow.Author.Needs.{needs}
 use Rattle.messages.specs.Reading.{among}
 use Rattle.messages.specs.Fields.{formatOf}
 use Rattle.messages.specs.Grammar.{SizeOk}
-use Rattle.zvt.specs.declared.ToldReceipt.the-variants.{Receipt}
-use Rattle.zvt.specs.Values.{receiptOf, receiptIn}
+use Rattle.messages.specs.declared.ToldReceipt.the-variants.{Receipt}
+use Rattle.messages.specs.Values.{receiptOf, receiptIn}
 use Rattle.zvt.proofs.BodyLaws.{bytes-known}
-use Rattle.zvt.proofs.DigitLaws.{number-below}
+use Rattle.messages.proofs.DigitLaws.{number-fits}
 use Rattle.zvt.proofs.ValueLaws.{Here, not-here, is-here}
 use Rattle.zvt.proofs.values.receipt_in.Statement.{statement}
 use Rattle.zvt.proofs.values.receipt_in.Tie as tie
@@ -57,7 +57,7 @@ cast-t14 : tie.Need-cast-t14
 unfolding SizeOk formatOf among
 cast-t14 c =
     let h = here (c .before .before .before) in
-    omega (arith, number-below 2 _ (c .number .result) (h .digits refl) (h .long ∙ h .size) (c .number .ensures))
+    omega (arith, number-fits 2 _ (c .number .result) (h .digits refl) (h .long ∙ h .size) (c .number .ensures))
 
 returns : tie.Need-returns
 unfolding receiptIn receiptOf

@@ -10,9 +10,9 @@ use lib.ListN.{length, getD, drop, set, length-append, drop-of-length-le}
 use lib.Seq.{drop-cons, drop-set-lt, getD-set-same, lt-length-set}
 use lib.Dec.{leb}
 use borrow.Author.Tests.{le-leb, leb-true}
 use Rattle.messages.specs.Fields.{decimal}
 use Rattle.messages.specs.Grammar.{Decimals}
-use Rattle.zvt.specs.Digits.{twoDigits, digitBytesOf, numberFrom, numberOf}
+use Rattle.messages.specs.Digits.{twoDigits, digitBytesOf, numberFrom, numberOf}
 
 pub digits-size : (k n : ℕ) → length (digitBytesOf k n) ≡ k
 unfolding digitBytesOf
@@ -77,9 +77,12 @@ number-from v (b ∷ s) h =
     let more : v * 100 + two + 1 ≤ (v + 1) * 100 = omega arith in
     rw pow-succ' (omega (arith, number-from (v * 100 + two) s (h .1), mul-le-mul-right (100 ^ length s) more))
 
-pub number-below : (k : ℕ) (s : List ℕ) (n : ℕ) → Decimals s → length s ≡ k → n ≡ numberOf s → n < 100 ^ k
+pub number-below : (s : List ℕ) → Decimals s → numberOf s < 100 ^ length s
 unfolding numberOf
-number-below k s n d l e = rw (e, ← l) (omega (arith, number-from 0 s d))
+number-below s h = omega (arith, number-from 0 s h)
+
+pub number-fits : (k : ℕ) (s : List ℕ) (n : ℕ) → Decimals s → length s ≡ k → n ≡ numberOf s → n < 100 ^ k
+number-fits k s n d l e = rw (e, ← l) (number-below s d)
 
 -- ---- one byte after the other: the first i bytes gave v
 pub number-step : (s : List ℕ) (i v : ℕ) → i < length s

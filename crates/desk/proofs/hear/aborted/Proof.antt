@@ -1,0 +1,25 @@
+-- `desk::hear::aborted` meets its contract. Assumes nothing.
+use native.Mathlib.Omega.{arith}
+use borrow.Author.Tests.{ne-eqb}
+use Rattle.zvt.proofs.BodyLaws.{bytes-known}
+use Rattle.desk.specs.Hear.{abortedIn}
+use Rattle.desk.proofs.HearLaws.{extent}
+use Rattle.desk.proofs.hear.aborted.Statement.{statement}
+use Rattle.desk.proofs.hear.aborted.Tie as tie
+
+returns : tie.Need-returns
+unfolding abortedIn
+returns c = rw (c .if1 .taken)
+
+shared-slice-read-t8 : tie.Need-shared-slice-read-t8
+shared-slice-read-t8 c =
+    let start = c .before .before .before in
+    let ends = extent (start .args .m) (start .args .s .now) (bytes-known _ (c .shared-slice-known .given)) (start .pre) in
+    omega (arith, c .before .if1 .left)
+
+returns-2 : tie.Need-returns-2
+unfolding abortedIn
+returns-2 c = rw (ne-eqb _ _ (c .before .if1 .left))
+
+pub aborted-spec : {M : Type 1} → statement M
+aborted-spec = tie.close (tie.spec returns shared-slice-read-t8 returns-2)

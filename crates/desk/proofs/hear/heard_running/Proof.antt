@@ -1,0 +1,58 @@
+-- `desk::hear::heard_running` meets its contract. Assumes nothing.
+use mathlib.Core.Path.{_≡_, sym, _∙_}
+use mathlib.Core.Bool.{true}
+use borrow.Author.Tests.{not-true, not-false}
+use Rattle.zvt.proofs.BodyLaws.{bytes-known}
+use Rattle.desk.specs.Hear.{ReadIn, inCourse}
+use Rattle.desk.proofs.HearLaws.{running-refused, running-unread, running-moved}
+use borrow.Author.Needs.{needs}
+use Rattle.desk.proofs.hear.heard_running.Statement.{statement}
+use Rattle.desk.proofs.hear.heard_running.Tie as tie
+
+in-pair : (c : tie.Else1) → let h = c .before .before .before .args .h in inCourse (h .class) (h .instruction) ≡ true
+in-pair c = sym (c .before .in-course .ensures) ∙ not-false _ (c .if1 .left)
+
+read-got : (c : tie.After-m) → ReadIn (c .m .given .0 .0) (c .before .before .before .before .before .before .args .s .now)
+unfolding ReadIn
+read-got c = sym (c .before .before .read .ensures) ∙ c .m .given .1
+
+in-course-requires : tie.Need-in-course-requires
+in-course-requires c κs = search needs
+
+returns : tie.Need-returns
+returns c = sym (running-refused _ _ _ (sym (c .before .in-course .ensures) ∙ not-true _ (c .if1 .taken)))
+
+read-requires : tie.Need-read-requires
+read-requires c κs = search needs
+
+enum-known-r : tie.Need-enum-known-r
+enum-known-r c = search needs
+
+enum-known-m : tie.Need-enum-known-m
+enum-known-m c = search needs
+
+moved-by-requires : tie.Need-moved-by-requires
+moved-by-requires c κs = read-got (c .before)
+
+returns-2 : tie.Need-returns-2
+returns-2 c =
+    sym (running-unread _ _ _ (in-pair (c .before .before .before .before)) _ (sym (c .before .before .before .read .ensures) ∙ c .before .r .given .1))
+
+returns-3 : tie.Need-returns-3
+returns-3 c =
+    let m = c .before .before in
+    let else = m .before .before .before in
+    c .moved-by .ensures ∙ sym (running-moved _ _ _ (in-pair else) _ (bytes-known _ (else .before .before .shared-slice-known .given)) (read-got m))
+
+pub heard-running-spec : {M : Type 1} → statement M
+heard-running-spec =
+    tie.close
+    (tie.spec
+    in-course-requires
+    returns
+    read-requires
+    enum-known-r
+    enum-known-m
+    moved-by-requires
+    returns-2
+    returns-3)
