@@ -2,30 +2,34 @@
 use libc::STDIN_FILENO;
 use libc::STDOUT_FILENO;
 use listing::Line;
+ghost use Prim.Native.Nat.{_≤_};
+ghost use lib.ListN.{length};
 
 // A line is at most 250 bytes long: five digits, four, four and five letters, 76 ids, three blanks and the line end.
 const LINE: usize = 256;
 
-// A message takes at least three bytes, so so many lines are enough, the last one counted.
-const LINES: u32 = 21846;
-
-fn print(size: usize, out: &mut [u8]) {
+fn print(size: usize, out: &mut [u8])
+    requires { ⌜ size ≤ length (now out) ⌝ }
+{
     let end = listing::text::add(b'\n', size, out);
     io::write_all(STDOUT_FILENO, &out[..end]);
 }
 
 fn list(s: &[u8]) {
-    let mut out = [0u8; LINE];
+    let mut space = [0u8; LINE];
+    let out: &mut [u8] = &mut space;
     let mut at: usize = 0;
-    for listed in 0..LINES {
-        match listing::line(&s[at..], listed, &mut out) {
+    let mut count: u32 = 0;
+    loop {
+        match listing::next_line(&s[at..], count, out) {
             Line::Last(size) => {
-                print(size, &mut out);
+                print(size, out);
                 return;
             }
             Line::Message(size, next) => {
-                print(size, &mut out);
+                print(size, out);
                 at += next;
+                count += 1;
             }
         }
     }

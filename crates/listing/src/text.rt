@@ -1,7 +1,13 @@
 // Text in a lent buffer: each function adds behind the first at bytes and answers where the text then ends. What does not fit is
 // left out.
+ghost use mathlib.Core.Path.{_≡_};
+ghost use Prim.Native.Nat.{_<_};
+ghost use mathlib.Core.List.{[], _∷_};
+ghost use Rattle.listing.specs.Text.{text, write, hexDigit, hexText, decimalText};
 
-pub fn add(b: u8, at: usize, out: &mut [u8]) -> usize {
+pub fn add(b: u8, at: usize, out: &mut [u8]) -> usize
+    ensures { λ r. ⌜ text r (now (out .exit)) ≡ write (b ∷ []) (text at (now (out .entry))) ⌝ }
+{
     if out.len() <= at {
         return at;
     }
@@ -9,7 +15,9 @@ pub fn add(b: u8, at: usize, out: &mut [u8]) -> usize {
     at + 1
 }
 
-pub fn add_all(v: &[u8], at: usize, out: &mut [u8]) -> usize {
+pub fn add_all(v: &[u8], at: usize, out: &mut [u8]) -> usize
+    ensures { λ r. ⌜ text r (now (out .exit)) ≡ write (now (v .entry)) (text at (now (out .entry))) ⌝ }
+{
     let mut to = at;
     let mut i: usize = 0;
     while i < v.len() {
@@ -19,18 +27,23 @@ pub fn add_all(v: &[u8], at: usize, out: &mut [u8]) -> usize {
     to
 }
 
-fn digit(v: u8) -> u8 {
-    let d = v % 16;
-    if d < 10 { b'0' + d } else { b'A' + (d - 10) }
+fn digit(d: u8) -> u8
+    requires { ⌜ d < 16 ⌝ }
+    ensures { λ r. ⌜ r ≡ hexDigit d ⌝ }
+{
+    if d < 10 { 48 + d } else { 55 + d }
 }
 
 // Two digits in capital hex.
-pub fn add_hex(b: u8, at: usize, out: &mut [u8]) -> usize {
-    let to = add(digit(b / 16), at, out);
-    add(digit(b), to, out)
+pub fn add_hex(b: u8, at: usize, out: &mut [u8]) -> usize
+    ensures { λ r. ⌜ text r (now (out .exit)) ≡ write (hexText b) (text at (now (out .entry))) ⌝ }
+{
+    add_all(&[digit(b / 16), digit(b % 16)], at, out)
 }
 
-pub fn add_decimal(n: u64, at: usize, out: &mut [u8]) -> usize {
+pub fn add_decimal(n: u64, at: usize, out: &mut [u8]) -> usize
+    ensures { λ r. ⌜ text r (now (out .exit)) ≡ write (decimalText n) (text at (now (out .entry))) ⌝ }
+{
     let mut digits = [0u8; 20];
     let k = io::decimal(n, &mut digits);
     add_all(&digits[..k], at, out)

@@ -193,7 +193,7 @@ pub fn list_text(s: &[u8], line: &mut [u8], out: &mut [u8]) -> usize {
     let mut at: usize = 0;
     let mut to: usize = 0;
     for listed in 0..21846 {
-        match listing::line(&s[at..], listed, line) {
+        match listing::next_line(&s[at..], listed, line) {
             Line::Last(size) => return add_all(&line[..size], to, out),
             Line::Message(size, next) => {
                 to = add_all(&line[..size], to, out);

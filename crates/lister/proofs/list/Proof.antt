@@ -1,0 +1,91 @@
+-- `lister::list`: safe, and each turn lists a message. Assumes nothing.
+use Prim.Native.Nat.{_+_, _≤_, _-_}
+use mathlib.Core.Logic.{_⊎_, inl, inr, ⊎-elim}
+use Rattle.listing.specs.Lines.{Bounded}
+use mathlib.Core.Path.{_≡_, refl}
+use lib.ListN.{length}
+use native.Mathlib.Omega.{arith}
+use borrow.Author.Needs.{needs}
+use Rattle.lister.proofs.list.Statement.{statement}
+use Rattle.lister.proofs.list.Tie as tie
+
+abbrev Inv-loop : tie.InvT-loop
+Inv-loop s out₀ at₀ count₀ out at count = (at ≤ length s) × ((count ≡ 0) ⊎ (count + (length s - at) ≤ 65536))
+
+abbrev μ-loop : tie.MeasureT-loop
+μ-loop s out₀ at₀ count₀ out at count = length s - at
+
+slice-aggregate-out : tie.Need-slice-aggregate-out Inv-loop μ-loop
+slice-aggregate-out c = search needs
+
+loop-holds : tie.Need-loop-holds Inv-loop μ-loop
+loop-holds c = (omega arith, inl refl)
+
+sub-next-line : tie.Need-sub-next-line Inv-loop μ-loop
+sub-next-line c = search needs
+
+part-next-line-start : tie.Need-part-next-line-start Inv-loop μ-loop
+part-next-line-start c = search needs
+
+part-next-line-end : tie.Need-part-next-line-end Inv-loop μ-loop
+part-next-line-end c = search needs
+
+next-line-requires : tie.Need-next-line-requires Inv-loop μ-loop
+next-line-requires c κs = search needs
+
+enum-known-size : tie.Need-enum-known-size Inv-loop μ-loop
+enum-known-size c = search needs
+
+print-requires : tie.Need-print-requires Inv-loop μ-loop
+unfolding Bounded
+print-requires c κs = rw (c .before .size .given .1) at (c .before .before .before .before .before .next-line .ensures .1)
+
+returns : tie.Need-returns Inv-loop μ-loop
+returns c = search needs
+
+enum-known-size-2 : tie.Need-enum-known-size-2 Inv-loop μ-loop
+enum-known-size-2 c = search needs
+
+print-requires-2 : tie.Need-print-requires-2 Inv-loop μ-loop
+unfolding Bounded
+print-requires-2 c κs = rw (c .before .before .size2 .given .1) at (c .before .before .before .before .before .before .next-line .ensures .1) .0
+
+add-at : tie.Need-add-at Inv-loop μ-loop
+unfolding Bounded
+add-at c = let h = rw (c .before .before .before .before .before .size2 .given .1) at (c .before .before .before .before .before .before .before .before .before .next-line .ensures .1) in omega (arith, h .2)
+
+add-count : tie.Need-add-count Inv-loop μ-loop
+add-count c = ⊎-elim (λ w. omega arith) (λ w. omega arith) (c .before .before .before .before .before .before .before .before .before .before .before .before .loop .inv .1)
+
+loop-less : tie.Need-loop-less Inv-loop μ-loop
+unfolding Bounded
+loop-less c = let h = rw (c .before .before .before .before .before .size2 .given .1) at (c .before .before .before .before .before .before .before .before .before .next-line .ensures .1) in omega (arith, h .1, h .2)
+
+loop-again : tie.Need-loop-again Inv-loop μ-loop
+unfolding Bounded
+loop-again c =
+    let h = rw (c .before .before .before .before .before .size2 .given .1) at (c .before .before .before .before .before .before .before .before .before .next-line .ensures .1) in
+    let turn = c .before .before .before .before .before .before .before .before .before .before .before .before .loop in
+    (omega (arith, h .2), inr (⊎-elim (λ w. omega (arith, h .1, h .2, h .3)) (λ w. omega (arith, h .1, h .2)) (turn .inv .1)))
+
+pub list-spec : {M : Type 1} → statement M
+list-spec =
+    tie.close
+    (tie.spec
+    Inv-loop
+    μ-loop
+    slice-aggregate-out
+    loop-holds
+    sub-next-line
+    part-next-line-start
+    part-next-line-end
+    next-line-requires
+    enum-known-size
+    print-requires
+    returns
+    enum-known-size-2
+    print-requires-2
+    add-at
+    add-count
+    loop-less
+    loop-again)

@@ -1,0 +1,89 @@
+-- The next line of a listing, case by case. Assumes nothing.
+use mathlib.Core.Path.{_≡_, refl, _∙_, ap}
+use mathlib.Core.List.{List}
+use Prim.Native.Nat.{ℕ, _+_, _≤_, _<_}
+use native.Mathlib.Omega.{arith}
+use borrow.Author.Tests.{lt-ltb, le-ltb, eq-eqb, ne-eqb}
+use lib.ListN.{length, take, length-take}
+use Rattle.messages.specs.Reading.{Reading, got, refused}
+use Rattle.messages.specs.Message.{Message, readOf, firstOf}
+use Rattle.messages.specs.Writing.{messageBytes}
+use Rattle.messages.specs.Grammar.{Bytes}
+use Rattle.messages.proofs.MessageBytes.{first-sound, read-complete}
+use Rattle.zvt.specs.declared.Refusal.{Refusal}
+use Rattle.zvt.specs.declared.Message.{Message as ReadMessage}
+use Rattle.zvt.specs.declared.FirstAnswer.{FirstAnswer}
+use Rattle.zvt.specs.declared.FirstAnswer.the-variants.{Accepted as first-accepted, Refused as first-refused}
+use Rattle.zvt.specs.Answers.{refusalOf, messageAnswer, asFirstAnswer, firstAnswer}
+use Rattle.zvt.specs.List.{listedMessage}
+use Rattle.listing.specs.declared.Line.the-variants.{Message as message-line, Last}
+use Rattle.listing.specs.Text.{Text, text, write}
+use Rattle.listing.specs.Lines.{messageText, okText, refusedText, Next, message, last, nextBy, nextOf, lineText, asLine, Shown, readText}
+use Rattle.listing.proofs.LineLaws.{message-ids}
+
+-- ---- a text that was written is shown
+pub shown-last : (n : Next) (w entry : List ℕ) (size : ℕ) (exit : List ℕ) → n ≡ last w → text size exit ≡ write w (text 0 entry)
+    → Shown n entry (Last size) exit
+unfolding asLine lineText
+shown-last n w entry size exit e k =
+    rw e (record { answer = ap (λ (t : Text). Last (t .at)) k; left = ap (λ (t : Text). t .bytes) k })
+
+pub shown-message : (n : Next) (w : List ℕ) (next : ℕ) (entry : List ℕ) (size : ℕ) (exit : List ℕ) → n ≡ message w next
+    → text size exit ≡ write w (text 0 entry) → Shown n entry (message-line size next) exit
+unfolding asLine lineText
+shown-message n w next entry size exit e k =
+    rw e (record { answer = ap (λ (t : Text). message-line (t .at) next) k; left = ap (λ (t : Text). t .bytes) k })
+
+-- ---- the cases
+pub next-over : (count : ℕ) (s : List ℕ) → 65536 < length s → nextOf count s ≡ last (refusedText count 2)
+unfolding nextOf
+next-over count s h = rw (lt-ltb 65536 (length s) h)
+
+pub next-none : (count : ℕ) (s : List ℕ) → length s ≡ 0 → nextOf count s ≡ last (okText count)
+unfolding nextOf
+next-none count s h = let k : length s ≤ 65536 = omega arith in rw (le-ltb 65536 (length s) k, eq-eqb (length s) 0 h)
+
+module _ (count : ℕ) (s : List ℕ) (most : length s ≤ 65536) (some : length s ≡ 0 → ⊥) where
+  next-some : nextOf count s ≡ nextBy count (firstOf s)
+  unfolding nextOf
+  next-some = rw (le-ltb 65536 (length s) most, ne-eqb (length s) 0 some)
+
+  pub next-refused : (f : Refusal) → firstAnswer s ≡ first-refused f → nextOf count s ≡ last (refusedText count (f .number))
+  unfolding firstAnswer asFirstAnswer nextBy refusalOf
+  next-refused f e = next-some ∙ go (firstOf s) e
+    where
+      go : (x : Reading Message) → asFirstAnswer x ≡ first-refused f → nextBy count x ≡ last (refusedText count (f .number))
+      go (got m) k = let z : _≡_ {A = ℕ} 0 1 = cc in absurd (omega arith)
+      go (refused r) k = let same : refusalOf r ≡ f = cc in ap (λ (q : Refusal). last (refusedText count (q .number))) same
+
+-- the text of a message by what the reader answers
+told : (count : ℕ) (t : Message) (m : ReadMessage) (x : Reading Message) (next : ℕ) → messageAnswer t ≡ m → length (messageBytes t) ≡ next → x ≡ got t
+    → nextBy count (got t) ≡ message (readText (count + 1) m (listedMessage x)) next
+unfolding nextBy messageText readText messageAnswer
+told count t m x next same size e = rw (e, ← size, ← same, message-ids t)
+
+-- a message's own part of the input is that message
+module _ (s : List ℕ) (b : Bytes s) (m : ReadMessage) (next : ℕ) (e : firstAnswer s ≡ first-accepted m next) where
+  whole : (x : Reading Message) → firstOf s ≡ x → asFirstAnswer x ≡ first-accepted m next
+      → (t : Message) × (firstOf s ≡ got t) × (messageAnswer t ≡ m) × (length (messageBytes t) ≡ next) × (readOf (take next s) ≡ got t)
+  unfolding asFirstAnswer
+  whole (got t) k h =
+      let sound = first-sound s t b k in
+      let same : messageAnswer t ≡ m = cc in
+      let size : length (messageBytes t) ≡ next = cc in
+      (t, k, same, size, rw (← size, ← (sound .0)) (read-complete t (sound .1)))
+  whole (refused r) k h = let z : _≡_ {A = ℕ} 0 1 = cc in absurd (omega arith)
+
+  pub next-within : next ≤ length s
+  unfolding firstAnswer
+  next-within =
+      let w = whole (firstOf s) refl e in
+      let sound = first-sound s (w .0) b (w .1) in
+      omega (arith, w .3, ap length (sound .0), length-take (length (messageBytes (w .0))) s)
+
+  pub next-message : (count : ℕ) → length s ≤ 65536 → (length s ≡ 0 → ⊥)
+      → nextOf count s ≡ message (readText (count + 1) m (listedMessage (readOf (take next s)))) next
+  unfolding firstAnswer
+  next-message count most some =
+      let w = whole (firstOf s) refl e in
+      next-some count s most some ∙ ap (nextBy count) (w .1) ∙ told count (w .0) m (readOf (take next s)) next (w .2) (w .3) (w .4)

@@ -1,0 +1,92 @@
+-- `listing::add_ids`: what is left to write comes to the same at every turn. Assumes nothing.
+use Prim.Native.Nat.{_-_}
+use mathlib.Core.Path.{_≡_, refl, sym, ap, _∙_}
+use lib.ListN.{length, drop}
+use native.Mathlib.Omega.{arith}
+use borrow.Author.Needs.{needs}
+use Rattle.messages.specs.Message.{readOf}
+use Rattle.zvt.specs.List.{listedMessage, fieldAnswer}
+use Rattle.zvt.proofs.BodyLaws.{bytes-known}
+use Rattle.listing.specs.Text.{Text, text, write}
+use Rattle.listing.specs.Lines.{listedText}
+use Rattle.listing.proofs.TextLaws.{write-room}
+use Rattle.listing.proofs.LineLaws.{ids-step, ids-end, ids-all}
+use Rattle.listing.proofs.add_ids.Statement.{statement}
+use Rattle.listing.proofs.add_ids.Tie as tie
+
+abbrev Inv-loop : tie.InvT-loop
+Inv-loop s at out₀ to₀ k₀ out to k = (length out ≡ length out₀) × (write (listedText (drop k (listedMessage (readOf s)))) (text to out) ≡ write (listedText (listedMessage (readOf s))) (text at out₀))
+
+abbrev μ-loop : tie.MeasureT-loop
+μ-loop s at out₀ to₀ k₀ out to k = length s - k
+
+loop-holds : tie.Need-loop-holds Inv-loop μ-loop
+loop-holds c = (refl, refl)
+
+field-at-requires : tie.Need-field-at-requires Inv-loop μ-loop
+field-at-requires c κs = search needs
+
+enum-told : tie.Need-enum-told Inv-loop μ-loop
+enum-told c = search needs
+
+same-length : tie.Need-same-length Inv-loop μ-loop
+same-length c = search needs
+
+returns : tie.Need-returns Inv-loop μ-loop
+unfolding fieldAnswer
+returns c = let turn = c .before .before .before .before in sym (ids-end (turn .loop .k) _ _ (sym (c .before .before .field-at .ensures) ∙ c .enum-told .given .1)) ∙ turn .loop .inv .1
+
+enum-known-f : tie.Need-enum-known-f Inv-loop μ-loop
+enum-known-f c = search needs
+
+add-requires : tie.Need-add-requires Inv-loop μ-loop
+add-requires c κs = search needs
+
+add-hex-requires : tie.Need-add-hex-requires Inv-loop μ-loop
+add-hex-requires c κs = search needs
+
+add-k : tie.Need-add-k Inv-loop μ-loop
+add-k c = search needs
+
+loop-less : tie.Need-loop-less Inv-loop μ-loop
+loop-less c = search needs
+
+loop-again : tie.Need-loop-again Inv-loop μ-loop
+unfolding fieldAnswer
+loop-again c =
+    let turn = c .before .before .before .before .before .before .before .before .before .before .before .before .before in
+    let s = turn .before .before .before .args .s .now in
+    let t = text (turn .loop .to) (turn .loop .out) in
+    let f = c .before .before .before .before .before .before .before .before .before .f .given in
+    let blank = c .before .before .before .before .before .before .add .ensures in
+    let hex = c .before .before .add-hex .ensures in
+    let step = ids-step (turn .loop .k) (listedMessage (readOf s)) (f .0 .0) t (sym (c .before .before .before .before .before .before .before .before .before .before .before .field-at .ensures) ∙ f .1) in (
+      ap (λ (x : Text). length (x .bytes)) hex ∙ write-room _ _ ∙ ap (λ (x : Text). length (x .bytes)) blank ∙ write-room _ t ∙ turn .loop .inv .0,
+      cc (blank, hex, step),
+    )
+
+same-length-2 : tie.Need-same-length-2 Inv-loop μ-loop
+same-length-2 c = search needs
+
+returns-2 : tie.Need-returns-2 Inv-loop μ-loop
+returns-2 c = let turn = c .before in sym (ids-all _ (turn .loop .k) _ (bytes-known _ (turn .before .before .shared-slice-known .given)) (omega arith)) ∙ turn .loop .inv .1
+
+pub add-ids-spec : {M : Type 1} → statement M
+add-ids-spec =
+    tie.close
+    (tie.spec
+    Inv-loop
+    μ-loop
+    loop-holds
+    field-at-requires
+    enum-told
+    same-length
+    returns
+    enum-known-f
+    add-requires
+    add-hex-requires
+    add-k
+    loop-less
+    loop-again
+    same-length-2
+    returns-2)
