@@ -5,7 +5,6 @@ mod orders;
 mod turns;
 mod words;
 
-use desk::Desk;
 use libc::STDOUT_FILENO;
 use turns::State;
 use turns::Turn;

@@ -4,17 +4,17 @@ use crate::orders::Call;
 use crate::orders::Order;
 use crate::orders::Question;
 use crate::orders::Reading;
+use course::Answer;
+use course::Book;
+use course::Desk;
 use course::Lane;
-use desk::Answer;
-use desk::Book;
-use desk::Desk;
-use desk::LaneAnswer;
-use desk::LineAnswer;
-use desk::Reply;
+use course::LaneAnswer;
+use course::LineAnswer;
+use course::Reply;
 use zvt::ReadAnswer;
 use zvt::ShortenAnswer;
 ghost use Prim.Native.Nat.{_≤_};
-ghost use Rattle.desk.specs.Desk.{Valid};
+ghost use Rattle.course.specs.Memory.{Valid};
 ghost use Rattle.script.specs.Script.{Ready};
 
 // The desk, and how many bytes are lent to a call that writes.
