@@ -26,7 +26,7 @@ use Rattle.course.specs.declared.Moved.{Moved}
 use Rattle.course.specs.declared.Moved.the-variants.{Refused, Stays, Becomes, Ends}
 use Rattle.course.specs.Numbers.{amountOk, passwordOk}
 use Rattle.course.specs.Lanes.{blankLine}
-use Rattle.course.specs.Course.{pairIs, heardWaiting, amountBy, isReversal, settledAs, completedBy, abortedBy, reportedBy, movedBy, afterBody, heardRunning, heardBy, afterHeader, isIdle, heard, lostBy, concerns, lastFrom, lastLine, Ask, askSale, askRefund, askReversal, openedBy, Call, sale, refund, reversal, message, lost, moves}
+use Rattle.course.specs.Course.{runningPairs, pairIs, heardWaiting, amountBy, isReversal, settledAs, completedBy, abortedBy, reportedBy, movedBy, afterBody, heardRunning, heardBy, afterHeader, isIdle, heard, lostBy, concerns, lastFrom, lastLine, Ask, askSale, askRefund, askReversal, openedBy, Call, sale, refund, reversal, message, lost, moves}
 use Rattle.course.specs.Memory.{toldSmall}
 
 abbrev pub Small : ℕ → Type 0
@@ -103,7 +103,7 @@ module _ (l : Lane) (h : LaneFits l) where
         (λ _. pick-test Fits (eqb (x .class) 0x84) (λ _. omega arith) (λ _. tt)))
         (λ _. tt)
     header-fits Running x =
-        pick-test Fits (among (0x04FF ∷ 0x06D1 ∷ 0x06D3 ∷ 0x040F ∷ 0x061E ∷ 0x060F ∷ []) (x .class * 256 + x .instruction))
+        pick-test Fits (among runningPairs (x .class * 256 + x .instruction))
         (λ _. read-fits (readOf s) refl)
         (λ _. tt)
 

@@ -22,7 +22,7 @@ use Rattle.course.specs.declared.Line.{Line}
 use Rattle.course.specs.declared.Moved.{Moved}
 use Rattle.course.specs.declared.Moved.the-variants.{Refused, Stays, Becomes, Ends}
 use Rattle.course.specs.Lanes.{waitingLane, runningLane, reportedLane}
-use Rattle.course.specs.Course.{pairIs, heardWaiting, settledAs, completedBy, abortedBy, reportedBy, movedBy, afterBody, heardRunning, heardBy, afterHeader, isIdle, heard, lostBy, Ask, openedBy, Call, sale, refund, reversal, message, lost, opens, moves}
+use Rattle.course.specs.Course.{runningPairs, pairIs, heardWaiting, settledAs, completedBy, abortedBy, reportedBy, movedBy, afterBody, heardRunning, heardBy, afterHeader, isIdle, heard, lostBy, Ask, openedBy, Call, sale, refund, reversal, message, lost, opens, moves}
 use Rattle.course.specs.Payments.{endsBy, ends, askOf, orElse, remembered, verdictOf, verdict}
 
 -- not refused
@@ -197,7 +197,7 @@ module _ (l : Lane) (i : ℕ) (s : List ℕ) where
   running : (h : Header) → isIdle (l .phase) ≡ false → Goes (heardRunning l s h)
   unfolding heardRunning afterBody
   running h idle =
-      pick-test Goes (among (0x04FF ∷ 0x06D1 ∷ 0x06D3 ∷ 0x040F ∷ 0x061E ∷ 0x060F ∷ []) (h .class * 256 + h .instruction))
+      pick-test Goes (among runningPairs (h .class * 256 + h .instruction))
       (λ _. go (readOf s) refl) (λ _. refuses _)
     where
       go : (r : Reading Message) → readOf s ≡ r → Goes (afterBody l r)
@@ -289,17 +289,17 @@ module _ (l : Lane) (s : List ℕ) where
   running-ends : (h : Header) → wholeHeader s ≡ got h → Right (heardRunning l s h)
   unfolding heardRunning afterBody readOf
   running-ends h w =
-      pick-test Right (among (0x04FF ∷ 0x06D1 ∷ 0x06D3 ∷ 0x040F ∷ 0x061E ∷ 0x060F ∷ []) (h .class * 256 + h .instruction))
+      pick-test Right (among runningPairs (h .class * 256 + h .instruction))
       (λ t. go (readOf s) refl t) (λ _. refused-right _)
     where
       -- none of the six begins with 84
-      not-84 : among (0x04FF ∷ 0x06D1 ∷ 0x06D3 ∷ 0x040F ∷ 0x061E ∷ 0x060F ∷ []) (h .class * 256 + h .instruction) ≡ true → h .class ≡ 0x84 → ⊥
+      not-84 : among runningPairs (h .class * 256 + h .instruction) ≡ true → h .class ≡ 0x84 → ⊥
       not-84 t c =
-          let u = above (0x04FF ∷ 0x06D1 ∷ 0x06D3 ∷ 0x040F ∷ 0x061E ∷ 0x060F ∷ []) (h .class * 256 + h .instruction) (omega arith) in
+          let u = above runningPairs (h .class * 256 + h .instruction) (omega arith) in
           let z : _≡_ {A = ℕ} 0 1 = cc in omega arith
 
       go : (r : Reading Message) → readOf s ≡ r
-          → among (0x04FF ∷ 0x06D1 ∷ 0x06D3 ∷ 0x040F ∷ 0x061E ∷ 0x060F ∷ []) (h .class * 256 + h .instruction) ≡ true → Right (afterBody l r)
+          → among runningPairs (h .class * 256 + h .instruction) ≡ true → Right (afterBody l r)
       go (refused f) e t = refused-right _
       go (got m) e t = moved-ends m e (rw (of-header s h m (sym (then-on _ h w) ∙ e)) (ne-eqb (h .class) 0x84 (not-84 t)))
 

@@ -9,7 +9,7 @@ use native.Mathlib.Omega.{arith}
 use lib.ListN.{length, getD, set, take, drop, replicate, length-set}
 use lib.Seq.{length-take-le, set-getD, take-suc-set, getD-set-other}
 use lib.Dec.{ltb, leb, eqb}
-use borrow.Author.Tests.{leb-false, ltb-false, eqb-true}
+use borrow.Author.Tests.{leb-false, ltb-false}
 use Rattle.messages.specs.Reading.{pick}
 use Rattle.messages.proofs.Readings.{pick-test}
 use Rattle.course.specs.declared.Lane.{Lane}

@@ -21,7 +21,7 @@ use Rattle.course.specs.declared.Phase.{Phase}
 use Rattle.course.specs.declared.Phase.the-variants.{Idle, Waiting, Running}
 use Rattle.course.specs.declared.Lane.{Lane}
 use Rattle.course.specs.declared.Moved.{Moved}
-use Rattle.course.specs.Course.{pairIs, isReversal, heardWaiting, completedBy, settledAs, abortedBy, reportedBy, movedBy, afterBody, heardRunning, heardBy, afterHeader, isIdle, heard, lostBy, answered, Ask, openedBy, Call, sale, refund, reversal, message, lost, laneOf, opens, moves, writes}
+use Rattle.course.specs.Course.{runningPairs, pairIs, isReversal, heardWaiting, completedBy, settledAs, abortedBy, reportedBy, movedBy, afterBody, heardRunning, heardBy, afterHeader, isIdle, heard, lostBy, answered, Ask, openedBy, Call, sale, refund, reversal, message, lost, laneOf, opens, moves, writes}
 use Rattle.course.specs.Desk.{State, laneAt, load, Decision, refuse, accept, unlessRefused, decide}
 use Rattle.course.specs.Payments.{askOf}
 use Rattle.course.proofs.Commands.{sale-size, refund-size, reversal-size}
@@ -205,7 +205,7 @@ OneOf (k ∷ ks) x = (k ≡ x) ⊎ OneOf ks x
 abbrev pub Allowed : Phase → Header → Type 0
 Allowed Idle h = ⊥
 Allowed Waiting h = (h .size ≡ 0) × (((h .class ≡ 0x80) × (h .instruction ≡ 0x00)) ⊎ (h .class ≡ 0x84))
-Allowed Running h = OneOf (0x04FF ∷ 0x06D1 ∷ 0x06D3 ∷ 0x040F ∷ 0x061E ∷ 0x060F ∷ []) (h .class * 256 + h .instruction)
+Allowed Running h = OneOf runningPairs (h .class * 256 + h .instruction)
 
 -- "06 1E: .. an empty body is refused with 1"
 abbrev pub EmptyAbort : Message → Type 0
@@ -237,7 +237,7 @@ among-test (k ∷ ks) x = or-test (eqb-test k x) (among-test ks x)
 unfoldable allowedBy : Phase → Header → Bool
 allowedBy Idle h = false
 allowedBy Waiting h = eqb (h .size) 0 && (pairIs (h .class) (h .instruction) 0x80 0x00 || eqb (h .class) 0x84)
-allowedBy Running h = among (0x04FF ∷ 0x06D1 ∷ 0x06D3 ∷ 0x040F ∷ 0x061E ∷ 0x060F ∷ []) (h .class * 256 + h .instruction)
+allowedBy Running h = among runningPairs (h .class * 256 + h .instruction)
 
 allowed-test : (p : Phase) (h : Header) → (allowedBy p h ≡ true) ↔ Allowed p h
 unfolding allowedBy

@@ -90,10 +90,12 @@ afterBody l (refused f) = no (f .number)
 afterBody l (got m) = movedBy l m
 
 -- the six pairs that a running lane takes; any other is 15, before the body is read
+abbrev pub runningPairs : List ℕ
+runningPairs = 0x04FF ∷ 0x06D1 ∷ 0x06D3 ∷ 0x040F ∷ 0x061E ∷ 0x060F ∷ []
+
 unfoldable pub heardRunning : Lane → List ℕ → Header → Moved
 heardRunning l s h =
-    pick (among (0x04FF ∷ 0x06D1 ∷ 0x06D3 ∷ 0x040F ∷ 0x061E ∷ 0x060F ∷ []) (h .class * 256 + h .instruction)) (afterBody l (readOf s))
-    (no 15)
+    pick (among runningPairs (h .class * 256 + h .instruction)) (afterBody l (readOf s)) (no 15)
 
 unfoldable pub heardBy : Phase → Lane → List ℕ → Header → Moved
 heardBy Idle l s h = no 14

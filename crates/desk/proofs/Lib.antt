@@ -1,2 +1,3 @@
 -- The laws that the proofs of the functions cite, by subject.
 pub mod HearLaws
+pub mod DeskLaws

@@ -5,8 +5,8 @@ use mathlib.Core.Bool.{Bool, false}
 use mathlib.Core.List.{List, [], _∷_, _++_}
 use lib.ListN.{length, getD, drop}
 use lib.Dec.{eqb}
-use Rattle.messages.specs.Reading.{Reading, got, pick, among}
-use Rattle.messages.specs.Message.{Header as MessageHeader, Message as MessageTree, readOf}
+use Rattle.messages.specs.Reading.{pick, among}
+use Rattle.messages.specs.Message.{Header as MessageHeader}
 use Rattle.messages.specs.Values.{statusOf}
 use Rattle.messages.specs.declared.Status.{Status}
 use Rattle.zvt.specs.Answers.{readAnswer}
@@ -18,7 +18,7 @@ use Rattle.course.specs.declared.Moved.{Moved}
 use Rattle.course.specs.declared.Moved.the-variants.{Stays, Ends}
 use Rattle.course.specs.declared.Outcome.the-variants.{Declined}
 use Rattle.course.specs.Commands.{replyBytes}
-use Rattle.course.specs.Course.{no, pairIs, heardWaiting, heardRunning, completedBy, reportedBy}
+use Rattle.course.specs.Course.{no, runningPairs, heardWaiting, heardRunning, completedBy, reportedBy}
 
 -- the bytes were read as that message
 unfoldable pub ReadIn : Message → List ℕ → Type 0
@@ -29,8 +29,7 @@ unfoldable pub headerBy : Header → MessageHeader
 headerBy h = record { class = h .class; instruction = h .instruction; long = false; size = h .length }
 
 unfoldable pub inCourse : ℕ → ℕ → Bool
-inCourse class instruction =
-    among (0x04FF ∷ 0x06D1 ∷ 0x06D3 ∷ 0x040F ∷ 0x061E ∷ 0x060F ∷ []) (class * 256 + instruction)
+inCourse class instruction = among runningPairs (class * 256 + instruction)
 
 unfoldable pub waitingMoved : Lane → Header → Moved
 waitingMoved l h = heardWaiting l (headerBy h)

@@ -16,10 +16,8 @@ use zvt::Message;
 use zvt::ReadAnswer;
 ghost use mathlib.Core.Path.{_≡_};
 ghost use mathlib.Core.Bool.{_&&_};
-ghost use mathlib.Core.List.{_++_};
 ghost use Prim.Native.Nat.{_≤_};
-ghost use lib.ListN.{length, drop};
-ghost use Rattle.messages.specs.Message.{readOf};
+ghost use lib.ListN.{length};
 ghost use Rattle.course.specs.Lanes.{receiptBy, lineAt};
 ghost use Rattle.course.specs.Course.{isApproved, isSale, concerns, completedBy, settledAs, amountBy, answered, heard};
 ghost use Rattle.course.specs.Desk.{place};
@@ -198,7 +196,8 @@ pub fn aborted(s: &[u8], m: Message) -> Moved
         return Moved::Refused(Refusal { number: 1 });
     }
     let at = m.start;
-    Moved::Ends(Outcome::Declined, 0, s[at])
+    let code = s[at];
+    Moved::Ends(Outcome::Declined, 0, code)
 }
 
 // 04 0F: with a code it replaces the remembered status.

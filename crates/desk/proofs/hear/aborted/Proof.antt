@@ -11,8 +11,8 @@ returns : tie.Need-returns
 unfolding abortedIn
 returns c = rw (c .if1 .taken)
 
-shared-slice-read-t8 : tie.Need-shared-slice-read-t8
-shared-slice-read-t8 c =
+shared-slice-read-code : tie.Need-shared-slice-read-code
+shared-slice-read-code c =
     let start = c .before .before .before in
     let ends = extent (start .args .m) (start .args .s .now) (bytes-known _ (c .shared-slice-known .given)) (start .pre) in
     omega (arith, c .before .if1 .left)
@@ -22,4 +22,4 @@ unfolding abortedIn
 returns-2 c = rw (ne-eqb _ _ (c .before .if1 .left))
 
 pub aborted-spec : {M : Type 1} → statement M
-aborted-spec = tie.close (tie.spec returns shared-slice-read-t8 returns-2)
+aborted-spec = tie.close (tie.spec returns shared-slice-read-code returns-2)

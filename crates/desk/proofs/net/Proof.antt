@@ -1,0 +1,124 @@
+-- `desk::net` meets its contract. Assumes nothing.
+use mathlib.Core.Path.{_≡_, _∙_}
+use Prim.Native.Nat.{_≤_, _<_, _-_, _^_}
+use native.Mathlib.Omega.{arith}
+use lib.ListN.{getD, take}
+use mir.Facts.{toZ-ofZ}
+use Rattle.course.specs.declared.Desk.{Desk}
+use Rattle.course.specs.Lanes.{blankLine}
+use Rattle.course.specs.Memory.{Valid}
+use Rattle.course.specs.Turnover.{gains, losses, netOf}
+use Rattle.course.proofs.Sums.{gainOf, lossOf, gains-take, losses-take, gain-small, loss-small, gains-most, losses-most}
+use Rattle.desk.proofs.DeskLaws.{signed, difference-fits}
+use Rattle.desk.proofs.net.Statement.{statement}
+use Rattle.desk.proofs.net.Tie as tie
+
+-- plus and minus are the gains and losses of the first i lines
+abbrev Inv-loop : tie.InvT-loop
+Inv-loop book count plus₀ minus₀ i₀ plus minus i = (i ≤ count) × (plus ≡ gains (take i (book .lines))) × (minus ≡ losses (take i (book .lines)))
+
+abbrev μ-loop : tie.MeasureT-loop
+μ-loop book count plus₀ minus₀ i₀ plus minus i = count - i
+
+abbrev Loop : Type 0
+Loop = tie.At-loop Inv-loop μ-loop
+
+abbrev desk : Loop → Desk
+desk c = c .before .before .args .desk
+
+valid : (c : Loop) → Valid (desk c)
+valid c = c .before .before .pre
+
+-- at the end both sums fit a signed number
+small : (c : tie.After-loop Inv-loop μ-loop) → (c .before .loop .plus < 2 ^ 63) × (c .before .loop .minus < 2 ^ 63)
+small c =
+    let q = c .before in
+    let v = valid q in
+    (omega (arith, gains-most (desk q) v (q .loop .i)), omega (arith, losses-most (desk q) v (q .loop .i)))
+
+loop-holds : tie.Need-loop-holds Inv-loop μ-loop
+unfolding gains losses
+loop-holds c = omega arith
+
+mul-l : tie.Need-mul-l Inv-loop μ-loop
+mul-l c = omega arith
+
+element-copy-out-l : tie.Need-element-copy-out-l Inv-loop μ-loop
+element-copy-out-l c = omega arith
+
+gain-requires : tie.Need-gain-requires Inv-loop μ-loop
+gain-requires c κs = tt
+
+add-plus : tie.Need-add-plus Inv-loop μ-loop
+add-plus c =
+    let q = c .before .before .before in
+    let i = q .loop .i in
+    let e : c .gain .result ≡ gainOf (getD (desk q .book .lines) i blankLine) = c .gain .ensures in
+    omega (arith, gain-small (desk q) (valid q) i, gains-most (desk q) (valid q) i)
+
+loss-requires : tie.Need-loss-requires Inv-loop μ-loop
+loss-requires c κs = tt
+
+add-minus : tie.Need-add-minus Inv-loop μ-loop
+add-minus c =
+    let q = c .before .before .before .before in
+    let i = q .loop .i in
+    let e : c .loss .result ≡ lossOf (getD (desk q .book .lines) i blankLine) = c .loss .ensures in
+    omega (arith, loss-small (desk q) (valid q) i, losses-most (desk q) (valid q) i)
+
+add-i : tie.Need-add-i Inv-loop μ-loop
+add-i c = omega arith
+
+loop-less : tie.Need-loop-less Inv-loop μ-loop
+loop-less c = omega arith
+
+loop-again : tie.Need-loop-again Inv-loop μ-loop
+loop-again c =
+    let q = c .before .before .before .before in
+    let i = q .loop .i in
+    let ls = desk q .book .lines in
+    let e : c .loss .result ≡ lossOf (getD ls i blankLine) = c .loss .ensures in
+    let e′ : c .before .gain .result ≡ gainOf (getD ls i blankLine) = c .before .gain .ensures in
+    omega (arith, gains-take ls i (omega arith), losses-take ls i (omega arith))
+
+cast-result : tie.Need-cast-result Inv-loop μ-loop
+cast-result c = record { sfits = small c .0 }
+
+cast-result-2 : tie.Need-cast-result-2 Inv-loop μ-loop
+cast-result-2 c = record { sfits = small c .1 }
+
+sub-result : tie.Need-sub-result Inv-loop μ-loop
+sub-result c =
+    let n = small c in
+    rw (signed (c .before .loop .plus) (n .0), signed (c .before .loop .minus) (n .1))
+    (difference-fits (c .before .loop .plus) (c .before .loop .minus) (n .0) (n .1))
+
+returns : tie.Need-returns Inv-loop μ-loop
+unfolding netOf
+returns c =
+    let n = small c in
+    let e : c .before .loop .i ≡ desk (c .before) .book .count = omega arith in
+    toZ-ofZ (sub-result c)
+    ∙ rw (signed (c .before .loop .plus) (n .0), signed (c .before .loop .minus) (n .1))
+    (rw (c .before .loop .inv .1, c .before .loop .inv .2, e))
+
+pub net-spec : {M : Type 1} → statement M
+net-spec =
+    tie.close
+    (tie.spec
+    Inv-loop
+    μ-loop
+    loop-holds
+    mul-l
+    element-copy-out-l
+    gain-requires
+    add-plus
+    loss-requires
+    add-minus
+    add-i
+    loop-less
+    loop-again
+    cast-result
+    cast-result-2
+    sub-result
+    returns)

@@ -1,0 +1,50 @@
+-- `desk::open_sale` meets its contract. Assumes nothing.
+use mathlib.Core.Path.{_∙_}
+use lib.ListN.{length}
+use Rattle.course.proofs.Opening.{sale-open, sale-leaves}
+use borrow.Author.Needs.{needs}
+use Rattle.desk.proofs.open_sale.Statement.{statement}
+use Rattle.desk.proofs.open_sale.Tie as tie
+
+amount-ok-requires : tie.Need-amount-ok-requires
+amount-ok-requires c κs = search needs
+
+sale-bytes-requires : tie.Need-sale-bytes-requires
+sale-bytes-requires c κs = search needs
+
+waiting-requires : tie.Need-waiting-requires
+waiting-requires c κs = search needs
+
+slice-aggregate-open : tie.Need-slice-aggregate-open
+slice-aggregate-open c = search needs
+
+open-requires : tie.Need-open-requires
+open-requires c κs = search needs
+
+same-length : tie.Need-same-length
+same-length c = search needs
+
+returns : tie.Need-returns
+returns c =
+    let o = c .before .before in
+    let w = o .before .before .before in
+    let a = w .before .before .before .before .args in (
+      o .«open» .ensures .0
+          ∙ rw (w .before .before .amount-ok .ensures, w .before .sale-bytes .ensures, w .waiting .ensures)
+          (sale-open (a .desk) (a .lane) (a .amount) (length (a .out .now))),
+      o .«open» .ensures .1
+          ∙ rw (w .before .before .amount-ok .ensures, w .before .sale-bytes .ensures)
+          (sale-leaves (a .desk) (a .lane) (a .amount) (a .out .now)),
+    )
+
+pub open-sale-spec : {M : Type 1} → statement M
+open-sale-spec =
+    tie.close
+    (tie.spec
+    amount-ok-requires
+    sale-bytes-requires
+    waiting-requires
+    slice-aggregate-open
+    open-requires
+    same-length
+    returns)
