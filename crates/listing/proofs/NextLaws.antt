@@ -10,7 +10,7 @@ use Rattle.messages.specs.Message.{Message, readOf, firstOf}
 use Rattle.messages.specs.Writing.{messageBytes}
 use Rattle.messages.specs.Grammar.{Bytes}
 use Rattle.messages.proofs.MessageBytes.{first-sound, read-complete}
-use Rattle.zvt.specs.declared.Refusal.{Refusal}
+use Rattle.messages.specs.declared.Refusal.{Refusal}
 use Rattle.zvt.specs.declared.Message.{Message as ReadMessage}
 use Rattle.zvt.specs.declared.FirstAnswer.{FirstAnswer}
 use Rattle.zvt.specs.declared.FirstAnswer.the-variants.{Accepted as first-accepted, Refused as first-refused}
