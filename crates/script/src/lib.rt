@@ -21,6 +21,7 @@ const BYTES: usize = 32768;
 // No answer is longer: the longest is a till's own name, given back.
 const TEXT: usize = 65536;
 
+// Every answer fits the buffer, so nothing is left unprinted.
 fn print(size: usize, text: &[u8]) {
     if text.len() < size {
         return;
@@ -60,7 +61,7 @@ fn line(
     t
 }
 
-// The answers to a script go to standard output.
+// The answers to a script go to standard output. No contract can say what is written there.
 pub fn play(script: &[u8]) {
     if LIMIT < script.len() {
         io::write_all(STDOUT_FILENO, b"input too long\n");

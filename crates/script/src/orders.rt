@@ -7,6 +7,8 @@ use crate::turns::State;
 use crate::words::following;
 use crate::words::word;
 use check::same;
+ghost use mathlib.Core.Path.{_≡_};
+ghost use Prim.Native.Nat.{min};
 ghost use lib.ListN.{length};
 ghost use Rattle.script.specs.Script.{sizeOf, Within};
 
@@ -34,6 +36,7 @@ pub(crate) enum Reading {
     Name,
 }
 
+// Bad: the line is not understood. Pass: it is blank, or begins with #.
 pub(crate) enum Order {
     Bad,
     Pass,
@@ -52,15 +55,21 @@ pub(crate) struct Asked {
 }
 
 // A number over the width of its type is passed on as the greatest of that type: the desk refuses it.
-fn as_lane(n: u64) -> u8 {
+fn as_lane(n: u64) -> u8
+    ensures { λ r. ⌜ r ≡ min n 255 ⌝ }
+{
     if 255 < n { 255 } else { n as u8 }
 }
 
-fn as_password(n: u64) -> u32 {
+fn as_password(n: u64) -> u32
+    ensures { λ r. ⌜ r ≡ min n 4294967295 ⌝ }
+{
     if 4294967295 < n { 4294967295 } else { n as u32 }
 }
 
-fn as_receipt(n: u64) -> u16 {
+fn as_receipt(n: u64) -> u16
+    ensures { λ r. ⌜ r ≡ min n 65535 ⌝ }
+{
     if 65535 < n { 65535 } else { n as u16 }
 }
 

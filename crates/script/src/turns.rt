@@ -152,6 +152,7 @@ fn reply(r: Reply, lent: &[u8], out: &mut [u8]) -> usize {
     }
 }
 
+// The call and its answer.
 fn call(state: State, c: Call, s: &[u8], lent: &mut [u8], out: &mut [u8]) -> Turn
     requires { ⌜ Ready state ⌝ }
     ensures { λ r. ⌜ Ready (r .state) ⌝ }
@@ -170,6 +171,7 @@ fn call(state: State, c: Call, s: &[u8], lent: &mut [u8], out: &mut [u8]) -> Tur
     )
 }
 
+// The script goes on, or ends here.
 fn next(state: State, size: usize) -> Turn
     requires { ⌜ Ready state ⌝ }
     ensures { λ r. ⌜ Ready (r .state) ⌝ }
