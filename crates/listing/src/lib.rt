@@ -24,7 +24,7 @@ pub enum Line {
 }
 
 // The ids of the list of the message that s is, a blank before each.
-fn add_ids(s: &[u8], at: usize, out: &mut [u8]) -> usize
+pub fn add_ids(s: &[u8], at: usize, out: &mut [u8]) -> usize
     ensures { λ r. ⌜ text r (now (out .exit)) ≡ write (listedText (listedMessage (readOf (now (s .entry))))) (text at (now (out .entry))) ⌝ }
 {
     let mut to = at;

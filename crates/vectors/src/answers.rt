@@ -1,4 +1,5 @@
 // The reader's answers as text.
+use crate::words::upto;
 use listing::Line;
 use listing::text::add;
 use listing::text::add_all;
@@ -13,6 +14,8 @@ use zvt::ShortenAnswer;
 use zvt::ToldAmount;
 use zvt::ToldCode;
 use zvt::ToldReceipt;
+ghost use Prim.Native.Nat.{_<_};
+ghost use lib.ListN.{length};
 
 // What every byte of a lent buffer is before a call.
 const BLANK: u8 = 0xC3;
@@ -59,32 +62,28 @@ pub fn header_text(s: &[u8], out: &mut [u8]) -> usize {
     }
 }
 
-// The ids of the list of the message that s is.
+// The ids of the list of the message that s is, where it has any.
 fn add_fields(s: &[u8], at: usize, out: &mut [u8]) -> usize {
-    let mut to = at;
-    for k in 0..256 {
-        match zvt::field_at(s, k) {
-            FieldAnswer::End => return to,
-            FieldAnswer::Field(f) => {
-                if k == 0 {
-                    to = add_all(b" fields", to, out);
-                }
-                to = add(b' ', to, out);
-                to = add_hex(f.id, to, out);
-            }
+    match zvt::field_at(s, 0) {
+        FieldAnswer::End => at,
+        FieldAnswer::Field(_) => {
+            let to = add_all(b" fields", at, out);
+            listing::add_ids(s, to, out)
         }
     }
-    to
+}
+
+fn add_form(shortest: bool, at: usize, out: &mut [u8]) -> usize {
+    if shortest {
+        return add_all(b" short", at, out);
+    }
+    add_all(b" long", at, out)
 }
 
 // The message that s is, read as m.
 fn message_text(s: &[u8], m: Message, out: &mut [u8]) -> usize {
     let mut to = add_header(m.class, m.instruction, m.start, m.length, out);
-    if m.shortest {
-        to = add_all(b" short", to, out);
-    } else {
-        to = add_all(b" long", to, out);
-    }
+    to = add_form(m.shortest, to, out);
     to = add_all(b" objects ", to, out);
     to = add_decimal(m.objects as u64, to, out);
     add_fields(s, to, out)
@@ -101,7 +100,8 @@ pub fn first_text(s: &[u8], out: &mut [u8]) -> usize {
     match zvt::read_first(s) {
         FirstAnswer::Refused(f) => add_refused(f.number, 0, out),
         FirstAnswer::Accepted(m, next) => {
-            let to = message_text(&s[..next], m, out);
+            let own = upto(next, s);
+            let to = message_text(&s[..own], m, out);
             let end = add_all(b" next ", to, out);
             add_decimal(next as u64, end, out)
         }
@@ -121,27 +121,36 @@ fn touched(s: &[u8]) -> usize {
     0
 }
 
-// Shortens into a blank buffer. Bytes that it should have left alone are told too.
-pub fn shorten_text(s: &[u8], room: &mut [u8], out: &mut [u8]) -> usize {
-    let mut written: usize = 0;
-    let mut to: usize = 0;
-    match zvt::shorten(s, room) {
-        ShortenAnswer::Refused(f) => {
-            to = add_refused(f.number, 0, out);
-        }
-        ShortenAnswer::Written(n) => {
-            to = add_bytes(&room[..n], 0, out);
-            written = n;
-        }
+// Bytes of a buffer that a call should have left alone.
+fn add_touched(written: usize, room: &[u8], at: usize, out: &mut [u8]) -> usize {
+    if touched(room) <= written {
+        return at;
     }
-    if written < touched(room) {
-        return add_all(b" and more", to, out);
-    }
-    to
+    add_all(b" and more", at, out)
 }
 
-pub fn field_text(k: u64, s: &[u8], out: &mut [u8]) -> usize {
-    match zvt::field_at(s, k as usize) {
+fn add_shortened(answer: ShortenAnswer, room: &[u8], out: &mut [u8]) -> usize {
+    match answer {
+        ShortenAnswer::Refused(f) => {
+            let to = add_refused(f.number, 0, out);
+            add_touched(0, room, to, out)
+        }
+        ShortenAnswer::Written(n) => {
+            let size = upto(n, room);
+            let to = add_bytes(&room[..size], 0, out);
+            add_touched(size, room, to, out)
+        }
+    }
+}
+
+// Shortens into a blank buffer.
+pub fn shorten_text(s: &[u8], room: &mut [u8], out: &mut [u8]) -> usize {
+    let answer = zvt::shorten(s, room);
+    add_shortened(answer, room, out)
+}
+
+pub fn field_text(k: usize, s: &[u8], out: &mut [u8]) -> usize {
+    match zvt::field_at(s, k) {
         FieldAnswer::End => add_all(b"end", 0, out),
         FieldAnswer::Field(f) => {
             let mut to = add_hex(f.id, 0, out);
@@ -176,33 +185,46 @@ fn add_receipt(r: ToldReceipt, at: usize, out: &mut [u8]) -> usize {
 
 pub fn status_text(s: &[u8], out: &mut [u8]) -> usize {
     let t = zvt::read_status(s);
+    let code = t.code;
+    let amount = t.amount;
+    let receipt = t.receipt;
     let mut to = add_all(b"code ", 0, out);
-    to = add_code(t.code, to, out);
+    to = add_code(code, to, out);
     to = add_all(b" amount ", to, out);
-    to = add_amount(t.amount, to, out);
+    to = add_amount(amount, to, out);
     to = add_all(b" receipt ", to, out);
-    add_receipt(t.receipt, to, out)
+    add_receipt(receipt, to, out)
 }
 
-pub fn name_text(s: &[u8], own: &[u8], out: &mut [u8]) -> usize {
+pub fn name_text<'a>(s: &'a [u8], own: &'a [u8], out: &mut [u8]) -> usize {
     add_bytes(zvt::card_name(s, own), 0, out)
+}
+
+fn add_line(size: usize, line: &[u8], at: usize, out: &mut [u8]) -> usize {
+    let end = upto(size, line);
+    add_all(&line[..end], at, out)
+}
+
+fn add_line_and_stroke(size: usize, line: &[u8], at: usize, out: &mut [u8]) -> usize {
+    let to = add_line(size, line, at, out);
+    add_all(b" / ", to, out)
 }
 
 // The lines of a listing, ` / ` between two of them.
 pub fn list_text(s: &[u8], line: &mut [u8], out: &mut [u8]) -> usize {
     let mut at: usize = 0;
+    let mut count: u32 = 0;
     let mut to: usize = 0;
-    for listed in 0..21846 {
-        match listing::next_line(&s[at..], listed, line) {
-            Line::Last(size) => return add_all(&line[..size], to, out),
+    loop {
+        match listing::next_line(&s[at..], count, line) {
+            Line::Last(size) => return add_line(size, line, to, out),
             Line::Message(size, next) => {
-                to = add_all(&line[..size], to, out);
-                to = add_all(b" / ", to, out);
+                to = add_line_and_stroke(size, line, to, out);
                 at += next;
+                count += 1;
             }
         }
     }
-    to
 }
 
 // What reading the message that s is comes to: a number of refusal, or 0.
@@ -213,53 +235,66 @@ fn refusal(s: &[u8]) -> u8 {
     }
 }
 
+fn add_span(first: u8, last: u8, at: usize, out: &mut [u8]) -> usize {
+    let to = add_hex(first, at, out);
+    if last <= first {
+        return to;
+    }
+    let end = add(b'-', to, out);
+    add_hex(last, end, out)
+}
+
 // The values from first up to last, which all came to the same.
 fn add_range(first: u8, last: u8, number: u8, at: usize, out: &mut [u8]) -> usize {
-    let mut to = add_hex(first, at, out);
-    if first < last {
-        to = add(b'-', to, out);
-        to = add_hex(last, to, out);
-    }
+    let to = add_span(first, last, at, out);
     if number == 0 {
         return add_all(b":ok", to, out);
     }
-    to = add(b':', to, out);
-    add_decimal(number as u64, to, out)
+    let end = add(b':', to, out);
+    add_decimal(number as u64, end, out)
+}
+
+fn add_item(first: u8, last: u8, number: u8, at: usize, out: &mut [u8]) -> usize {
+    let to = add_range(first, last, number, at, out);
+    add(b' ', to, out)
 }
 
 // Reads s with each value in turn for its byte at place, and tells the ranges of values that come to the same.
-pub fn each_text(s: &mut [u8], place: usize, out: &mut [u8]) -> usize {
+pub fn each_text(s: &mut [u8], place: usize, out: &mut [u8]) -> usize
+    requires { ⌜ place < length (now s) ⌝ }
+{
     let mut to: usize = 0;
     let mut first: u8 = 0;
+    let mut value: u8 = 0;
     s[place] = 0;
     let mut number = refusal(s);
-    for v in 1..256 {
-        let value = (v % 256) as u8;
+    while value < 255 {
+        let last = value;
+        value += 1;
         s[place] = value;
         let next = refusal(s);
         if next != number {
-            to = add_range(first, value - 1, number, to, out);
-            to = add(b' ', to, out);
+            to = add_item(first, last, number, to, out);
             first = value;
             number = next;
         }
     }
-    add_range(first, 255, number, to, out)
+    add_range(first, value, number, to, out)
 }
 
 // A till's numbers as bytes of digits; one that its type does not hold is told.
-pub fn amount_text(n: u64, out: &mut [u8]) -> usize {
-    add_bytes(&zvt::amount_bytes(n), 0, out)
+pub fn amount_text(n: usize, out: &mut [u8]) -> usize {
+    add_bytes(&zvt::amount_bytes(n as u64), 0, out)
 }
 
-pub fn password_text(n: u64, out: &mut [u8]) -> usize {
+pub fn password_text(n: usize, out: &mut [u8]) -> usize {
     if 4294967295 < n {
         return add_all(b"too large", 0, out);
     }
     add_bytes(&zvt::password_bytes(n as u32), 0, out)
 }
 
-pub fn receipt_text(n: u64, out: &mut [u8]) -> usize {
+pub fn receipt_text(n: usize, out: &mut [u8]) -> usize {
     if 65535 < n {
         return add_all(b"too large", 0, out);
     }

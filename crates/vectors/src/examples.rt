@@ -1,12 +1,12 @@
 // An example: a line of the data file, `KIND WORD = ANSWER` or `KIND WORD WORD = ANSWER`.
 use crate::answers;
-use crate::notation::Bytes;
 use crate::notation::Number;
 use crate::notation::bytes_of;
-use crate::notation::number;
+use crate::notation::number_of;
 use crate::words::head;
 use crate::words::same;
 use crate::words::tail;
+use crate::words::upto;
 
 pub enum Kind {
     Header,
@@ -122,18 +122,17 @@ fn of_bytes_and_number(
     match kind {
         Kind::Each => {
             let place = k.value;
-            if s.len() as u64 <= place {
+            if s.len() <= place {
                 return Made::Bad;
             }
-            Made::Text(answers::each_text(s, place as usize, got))
+            Made::Text(answers::each_text(s, place, got))
         }
         Kind::Within => {
             let size = k.value;
-            if (room.len() as u64) < size {
+            if room.len() < size {
                 return Made::Bad;
             }
-            let n = size as usize;
-            Made::Text(answers::shorten_text(s, &mut room[..n], got))
+            Made::Text(answers::shorten_text(s, &mut room[..size], got))
         }
         Kind::Field => Made::Text(answers::field_text(k.value, s, got)),
         _ => Made::Bad,
@@ -143,46 +142,68 @@ fn of_bytes_and_number(
 fn one_word(name: &[u8], w: &[u8], a: &mut [u8], b: &mut [u8], got: &mut [u8]) -> Made {
     let counted = kind_of_number(name);
     if let Kind::Unknown = counted {
-        return match bytes_of(w, a) {
-            Bytes::Bad => Made::Bad,
-            Bytes::Bytes(n) => of_bytes(kind_of_bytes(name), &a[..n], b, got),
-        };
+        let v = bytes_of(w, a);
+        if !v.good {
+            return Made::Bad;
+        }
+        let n = v.size;
+        return of_bytes(kind_of_bytes(name), &a[..n], b, got);
     }
-    let k = number(w);
+    let k = number_of(w);
     if k.size == 0 || k.size != w.len() {
         return Made::Bad;
     }
     of_number(counted, k, got)
 }
 
-fn two_words(name: &[u8], v: &[u8], w: &[u8], a: &mut [u8], b: &mut [u8], got: &mut [u8]) -> Made {
-    let Bytes::Bytes(n) = bytes_of(v, a) else {
+// KIND BYTES BYTES
+fn of_name(s: &[u8], w: &[u8], b: &mut [u8], got: &mut [u8]) -> Made {
+    let v = bytes_of(w, b);
+    if !v.good {
         return Made::Bad;
-    };
+    }
+    let n = v.size;
+    Made::Text(answers::name_text(s, &b[..n], got))
+}
+
+fn two_words(name: &[u8], v: &[u8], w: &[u8], a: &mut [u8], b: &mut [u8], got: &mut [u8]) -> Made {
+    let m = bytes_of(v, a);
+    if !m.good {
+        return Made::Bad;
+    }
+    let n = m.size;
     let kind = kind_of_two(name);
     if let Kind::Name = kind {
-        return match bytes_of(w, b) {
-            Bytes::Bad => Made::Bad,
-            Bytes::Bytes(m) => Made::Text(answers::name_text(&a[..n], &b[..m], got)),
-        };
+        return of_name(&a[..n], w, b, got);
     }
-    let k = number(w);
+    let k = number_of(w);
     if k.size == 0 || k.size != w.len() {
         return Made::Bad;
     }
     of_bytes_and_number(kind, &mut a[..n], k, b, got)
 }
 
-// Bytes are compared as bytes, so that they may be written in any groups; all else as text.
-fn compared(answer: &[u8], size: usize, b: &mut [u8], got: &[u8], want: &mut [u8]) -> Outcome {
-    if same(answer, &got[..size]) {
-        return Outcome::Same;
+// Whether a text is that answer. Bytes may be written in any groups.
+fn agrees(answer: &[u8], text: &[u8], b: &mut [u8], want: &mut [u8]) -> bool {
+    if same(answer, text) {
+        return true;
     }
-    match bytes_of(answer, b) {
-        Bytes::Bad => Outcome::Differs(size),
-        Bytes::Bytes(n) => {
-            let to = answers::add_bytes(&b[..n], 0, want);
-            if same(&want[..to], &got[..size]) {
+    let v = bytes_of(answer, b);
+    if !v.good {
+        return false;
+    }
+    let n = v.size;
+    let to = answers::add_bytes(&b[..n], 0, want);
+    let end = upto(to, want);
+    same(&want[..end], text)
+}
+
+fn compared(answer: &[u8], made: Made, b: &mut [u8], got: &[u8], want: &mut [u8]) -> Outcome {
+    match made {
+        Made::Bad => Outcome::Bad,
+        Made::Text(size) => {
+            let end = upto(size, got);
+            if agrees(answer, &got[..end], b, want) {
                 Outcome::Same
             } else {
                 Outcome::Differs(size)
@@ -191,9 +212,8 @@ fn compared(answer: &[u8], size: usize, b: &mut [u8], got: &[u8], want: &mut [u8
     }
 }
 
-// Runs the example of a line; a and b take bytes, got and want text.
+// Runs the example of a line; a and b, which is blank, take bytes, got and want text.
 pub fn run(line: &[u8], a: &mut [u8], b: &mut [u8], got: &mut [u8], want: &mut [u8]) -> Outcome {
-    answers::blank(b);
     let name = head(line);
     let words = tail(line);
     let v = head(words);
@@ -201,16 +221,12 @@ pub fn run(line: &[u8], a: &mut [u8], b: &mut [u8], got: &mut [u8], want: &mut [
     let w = head(more);
     let last = tail(more);
     if same(w, b"=") {
-        return match one_word(name, v, a, b, got) {
-            Made::Bad => Outcome::Bad,
-            Made::Text(size) => compared(last, size, b, got, want),
-        };
+        let made = one_word(name, v, a, b, got);
+        return compared(last, made, b, got, want);
     }
     if !same(head(last), b"=") {
         return Outcome::Bad;
     }
-    match two_words(name, v, w, a, b, got) {
-        Made::Bad => Outcome::Bad,
-        Made::Text(size) => compared(tail(last), size, b, got, want),
-    }
+    let made = two_words(name, v, w, a, b, got);
+    compared(tail(last), made, b, got, want)
 }

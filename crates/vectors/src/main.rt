@@ -6,6 +6,9 @@ mod words;
 
 use examples::Outcome;
 use libc::STDOUT_FILENO;
+use words::find;
+use words::upto;
+ghost use Prim.Native.Nat.{_≤_};
 
 // Room for the bytes of an example, for a message or a line, for the text of an answer.
 const BYTES: usize = 65600;
@@ -14,21 +17,15 @@ const ROOM: usize = 4200;
 
 const TEXT: usize = 8600;
 
-struct Tally {
-    lines: u64,
-    examples: u64,
-    differ: u64,
+// Whether a line is an example, and whether it differs, each 0 or 1.
+struct Counted {
+    example: u64,
+    differs: u64,
 }
 
-fn line_end(s: &[u8]) -> usize {
-    let mut i: usize = 0;
-    while i < s.len() {
-        if s[i] == b'\n' {
-            return i;
-        }
-        i += 1;
-    }
-    i
+struct Totals {
+    examples: u64,
+    differ: u64,
 }
 
 fn print_line(number: u64, text: &[u8], more: &[u8]) {
@@ -39,70 +36,76 @@ fn print_line(number: u64, text: &[u8], more: &[u8]) {
     io::write_all(STDOUT_FILENO, b"\n");
 }
 
-fn print_last(t: Tally) {
-    io::print_decimal(STDOUT_FILENO, t.examples);
-    io::write_all(STDOUT_FILENO, b" examples, ");
-    io::print_decimal(STDOUT_FILENO, t.differ);
-    io::write_all(STDOUT_FILENO, b" differ\n");
-}
-
 // One line of the file: empty lines and those that begin with # are no examples.
-fn line(s: &[u8], t: Tally, a: &mut [u8], b: &mut [u8], got: &mut [u8], want: &mut [u8]) -> Tally {
-    let lines = t.lines + 1;
-    let examples = t.examples + 1;
-    let differ = t.differ + 1;
+fn checked(
+    s: &[u8],
+    number: u64,
+    a: &mut [u8],
+    b: &mut [u8],
+    got: &mut [u8],
+    want: &mut [u8],
+) -> Counted
+    ensures { λ r. ⌜ (r .example ≤ 1) × (r .differs ≤ 1) ⌝ }
+{
     if s.len() == 0 || s[0] == b'#' {
-        return Tally {
-            lines,
-            examples: t.examples,
-            differ: t.differ,
+        return Counted {
+            example: 0,
+            differs: 0,
         };
     }
+    answers::blank(b);
     match examples::run(s, a, b, got, want) {
-        Outcome::Same => Tally {
-            lines,
-            examples,
-            differ: t.differ,
+        Outcome::Same => Counted {
+            example: 1,
+            differs: 0,
         },
         Outcome::Differs(size) => {
-            print_line(lines, b" gives ", &got[..size]);
-            Tally {
-                lines,
-                examples,
-                differ,
+            let end = upto(size, got);
+            print_line(number, b" gives ", &got[..end]);
+            Counted {
+                example: 1,
+                differs: 1,
             }
         }
         Outcome::Bad => {
-            print_line(lines, b" not understood", b"");
-            Tally {
-                lines,
-                examples,
-                differ,
+            print_line(number, b" not understood", b"");
+            Counted {
+                example: 1,
+                differs: 1,
             }
         }
     }
 }
 
-fn run(text: &[u8]) {
+fn run(text: &[u8], a: &mut [u8], b: &mut [u8], got: &mut [u8], want: &mut [u8]) -> Totals {
+    let mut from: usize = 0;
+    let mut number: u64 = 0;
+    let mut examples: u64 = 0;
+    let mut differ: u64 = 0;
+    while from < text.len() {
+        let to = from + find(&text[from..], b'\n');
+        number += 1;
+        let c = checked(&text[from..to], number, a, b, got, want);
+        examples += c.example;
+        differ += c.differs;
+        if to == text.len() {
+            return Totals { examples, differ };
+        }
+        from = to + 1;
+    }
+    Totals { examples, differ }
+}
+
+fn run_all(text: &[u8]) {
     let mut a = [0u8; BYTES];
     let mut b = [0u8; ROOM];
     let mut got = [0u8; TEXT];
     let mut want = [0u8; TEXT];
-    let mut t = Tally {
-        lines: 0,
-        examples: 0,
-        differ: 0,
-    };
-    let mut from: usize = 0;
-    while from < text.len() {
-        let to = from + line_end(&text[from..]);
-        t = line(&text[from..to], t, &mut a, &mut b, &mut got, &mut want);
-        if to == text.len() {
-            break;
-        }
-        from = to + 1;
-    }
-    print_last(t);
+    let t = run(text, &mut a, &mut b, &mut got, &mut want);
+    io::print_decimal(STDOUT_FILENO, t.examples);
+    io::write_all(STDOUT_FILENO, b" examples, ");
+    io::print_decimal(STDOUT_FILENO, t.differ);
+    io::write_all(STDOUT_FILENO, b" differ\n");
 }
 
 fn main() {
@@ -120,5 +123,5 @@ fn main() {
         io::write_all(STDOUT_FILENO, b"file too long\n");
         return;
     }
-    run(&text[..n]);
+    run_all(&text[..n]);
 }

@@ -1,58 +1,85 @@
 // The notation of the data file. Bytes are groups of hexadecimal pairs with a dot between two groups; `*N` behind a group stands
 // for N times that group; `-` is no bytes.
 use crate::words::same;
+ghost use mathlib.Core.Path.{_≡_};
+ghost use Prim.Native.Nat.{_*_, _≤_};
+ghost use lib.ListN.{length};
+ghost use Rattle.io.specs.Counts.{Counts};
 
 // The most times that a group can stand.
-const TIMES: u64 = 65537;
+const TIMES: usize = 65537;
 
 // A number and how many digits it takes; no digits where it is none or too large.
 pub struct Number {
-    pub value: u64,
+    pub value: usize,
     pub size: usize,
 }
 
-// How many bytes of the text were used, and how many were made of them.
-enum Group {
-    Group(usize, usize),
-    Bad,
+// How many bytes of the text were used, none where it is no group, and how many were made of them.
+pub struct Group {
+    pub used: usize,
+    pub made: usize,
 }
 
-pub enum Bytes {
-    Bytes(usize),
-    Bad,
+// Whether the text stands for bytes, and how many.
+pub struct Bytes {
+    pub good: bool,
+    pub size: usize,
+}
+
+fn wide(b: u8) -> usize
+    ensures { λ r. ⌜ r ≡ b ⌝ }
+{
+    b as usize
 }
 
 // The decimal number that s begins with.
-pub fn number(s: &[u8]) -> Number {
-    let mut v: u64 = 0;
+pub fn number_of(s: &[u8]) -> Number
+    ensures { λ r. ⌜ r .size ≤ length (now (s .entry)) ⌝ }
+{
+    let mut v: usize = 0;
     let mut i: usize = 0;
     while i < s.len() {
         let b = s[i];
-        if b < b'0' || b'9' < b {
-            break;
+        if b < b'0' {
+            return Number { value: v, size: i };
+        }
+        if b'9' < b {
+            return Number { value: v, size: i };
         }
         if 1_000_000_000_000_000_000 < v {
             return Number { value: 0, size: 0 };
         }
-        v = v * 10 + (b - b'0') as u64;
+        v = v * 10 + wide(b - b'0');
         i += 1;
     }
     Number { value: v, size: i }
 }
 
 // The value of a hexadecimal digit, and 16 for any other byte.
-fn hex_digit(b: u8) -> u8 {
-    if b'0' <= b && b <= b'9' {
+fn hex_digit(b: u8) -> u8
+    ensures { λ r. ⌜ r ≤ 16 ⌝ }
+{
+    if b < b'0' {
+        return 16;
+    }
+    if b <= b'9' {
         return b - b'0';
     }
-    if b'A' <= b && b <= b'F' {
+    if b < b'A' {
+        return 16;
+    }
+    if b <= b'F' {
         return b - b'A' + 10;
     }
     16
 }
 
 // The bytes of the pairs that s begins with, as far as out holds them; how many there are.
-fn pairs(s: &[u8], out: &mut [u8]) -> usize {
+fn pairs(s: &[u8], out: &mut [u8]) -> usize
+    ensures used { λ r. ⌜ r * 2 ≤ length (now (s .entry)) ⌝ }
+    ensures made { λ r. ⌜ r ≤ length (now (out .exit)) ⌝ }
+{
     let mut i: usize = 0;
     let mut n: usize = 0;
     while n < out.len() {
@@ -61,7 +88,10 @@ fn pairs(s: &[u8], out: &mut [u8]) -> usize {
         }
         let high = hex_digit(s[i]);
         let low = hex_digit(s[i + 1]);
-        if 15 < high || 15 < low {
+        if 15 < high {
+            return n;
+        }
+        if 15 < low {
             return n;
         }
         out[n] = high * 16 + low;
@@ -80,62 +110,84 @@ fn repeat(size: usize, out: &mut [u8]) {
     }
 }
 
-// So many times the first size bytes of out.
-fn repeated(used: usize, size: usize, times: u64, out: &mut [u8]) -> Group {
-    if TIMES < times || TIMES < size as u64 {
-        return Group::Bad;
+// So many times the first size bytes of out, of a text of which so many bytes were used.
+fn repeated(used: usize, size: usize, times: usize, out: &mut [u8]) -> Group
+    ensures used { λ r. ⌜ r .used ≤ used ⌝ }
+    ensures made { λ r. ⌜ r .made ≤ length (now (out .exit)) ⌝ }
+{
+    if TIMES < times {
+        return Group { used: 0, made: 0 };
     }
-    let total = size * (times as usize);
+    if TIMES < size {
+        return Group { used: 0, made: 0 };
+    }
+    let total = size * times;
     if out.len() < total {
-        return Group::Bad;
+        return Group { used: 0, made: 0 };
     }
     repeat(size, &mut out[..total]);
-    Group::Group(used, total)
+    Group { used, made: total }
 }
 
 // The group that s begins with.
-fn group(s: &[u8], out: &mut [u8]) -> Group {
+fn group_of(s: &[u8], out: &mut [u8]) -> Group
+    ensures used { λ r. ⌜ r .used ≤ length (now (s .entry)) ⌝ }
+    ensures made { λ r. ⌜ r .made ≤ length (now (out .exit)) ⌝ }
+{
     let n = pairs(s, out);
     let used = n * 2;
-    if n == 0 {
-        return Group::Bad;
-    }
     if s.len() == used {
-        return Group::Group(used, n);
+        return Group { used, made: n };
     }
     if s[used] != b'*' {
-        return Group::Group(used, n);
+        return Group { used, made: n };
     }
     let from = used + 1;
-    let k = number(&s[from..]);
+    let k = number_of(&s[from..]);
     if k.size == 0 {
-        return Group::Bad;
+        return Group { used: 0, made: 0 };
     }
     repeated(from + k.size, n, k.value, out)
 }
 
 // The bytes that s stands for, at the start of out.
-pub fn bytes_of(s: &[u8], out: &mut [u8]) -> Bytes {
+pub fn bytes_of(s: &[u8], out: &mut [u8]) -> Bytes
+    ensures { λ r. ⌜ Counts (r .size) (now (out .exit)) ⌝ }
+{
     if same(s, b"-") {
-        return Bytes::Bytes(0);
+        return Bytes {
+            good: true,
+            size: 0,
+        };
     }
     let mut from: usize = 0;
     let mut at: usize = 0;
     while from < s.len() {
-        match group(&s[from..], &mut out[at..]) {
-            Group::Bad => return Bytes::Bad,
-            Group::Group(used, made) => {
-                from += used;
-                at += made;
-            }
+        let g = group_of(&s[from..], &mut out[at..]);
+        if g.used == 0 {
+            return Bytes {
+                good: false,
+                size: 0,
+            };
         }
+        from += g.used;
+        at += g.made;
         if from == s.len() {
-            return Bytes::Bytes(at);
+            return Bytes {
+                good: true,
+                size: at,
+            };
         }
         if s[from] != b'.' {
-            return Bytes::Bad;
+            return Bytes {
+                good: false,
+                size: 0,
+            };
         }
         from += 1;
     }
-    Bytes::Bad
+    Bytes {
+        good: false,
+        size: 0,
+    }
 }

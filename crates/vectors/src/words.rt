@@ -1,26 +1,36 @@
 // Words of a line, one blank between two of them.
+ghost use Rattle.io.specs.Counts.{Counts};
 
-// Where the first word of s ends.
-fn word_end(s: &[u8]) -> usize {
+// n, or the length of s where that is less.
+pub fn upto(n: usize, s: &[u8]) -> usize
+    ensures { λ r. ⌜ Counts r (now (s .entry)) ⌝ }
+{
+    if s.len() < n { s.len() } else { n }
+}
+
+// Where the first b of s stands, or the end of s.
+pub fn find(s: &[u8], b: u8) -> usize
+    ensures { λ r. ⌜ Counts r (now (s .entry)) ⌝ }
+{
     let mut i: usize = 0;
     while i < s.len() {
-        if s[i] == b' ' {
-            return i;
+        if s[i] == b {
+            return upto(i, s);
         }
         i += 1;
     }
-    i
+    upto(i, s)
 }
 
 // The first word of s.
 pub fn head<'a>(s: &'a [u8]) -> &'a [u8] {
-    let end = word_end(s);
+    let end = find(s, b' ');
     &s[..end]
 }
 
 // What follows the first word of s and the blank behind it.
 pub fn tail<'a>(s: &'a [u8]) -> &'a [u8] {
-    let end = word_end(s);
+    let end = find(s, b' ');
     if end == s.len() {
         return &s[end..];
     }
