@@ -4,6 +4,7 @@ use course::Lane;
 use course::Line;
 use course::Outcome;
 use course::Phase;
+use listing::add_ids;
 use listing::text::add;
 use listing::text::add_all;
 use listing::text::add_decimal;
@@ -12,7 +13,6 @@ use messages::Status;
 use messages::ToldAmount;
 use messages::ToldCode;
 use messages::ToldReceipt;
-use zvt::FieldAnswer;
 use zvt::Message;
 ghost use mathlib.Core.Path.{_≡_};
 ghost use lib.IntN.{natAbs};
@@ -194,23 +194,6 @@ pub(crate) fn add_lane(lane: u8, l: Lane, at: usize, out: &mut [u8]) -> usize {
     let mut to = add_decimal(lane as u64, at, out);
     to = add_phase(l, to, out);
     add_end(to, out)
-}
-
-// The ids of the list of the message that s is.
-fn add_ids(s: &[u8], at: usize, out: &mut [u8]) -> usize {
-    let mut to = at;
-    let mut k: usize = 0;
-    while k < s.len() {
-        match zvt::field_at(s, k) {
-            FieldAnswer::End => return to,
-            FieldAnswer::Field(f) => {
-                to = add(b' ', to, out);
-                to = add_hex(f.id, to, out);
-            }
-        }
-        k += 1;
-    }
-    to
 }
 
 // The message that s is, read as m.
