@@ -68,7 +68,9 @@ few s (refused f) e b = omega arith
 
 pub ids-all : (s : List ℕ) (k : ℕ) (t : Text) → Bytes s → length s ≤ k → write (listedText (drop k (listedMessage (readOf s)))) t ≡ t
 unfolding listedText write
-ids-all s k t b h = let l : length (listedMessage (readOf s)) ≤ k = omega (arith, few s (readOf s) refl b) in rw (drop-of-length-le (listedMessage (readOf s)) l)
+ids-all s k t b h =
+    let l : length (listedMessage (readOf s)) ≤ k = omega (arith, few s (readOf s) refl b) in
+    rw (drop-of-length-le (listedMessage (readOf s)) l)
 
 -- ---- the ids that the reader answers are those of the message
 pub listed-ids : (fs : List Field) (at : ℕ) → listedText (listedFrom at fs) ≡ idsText fs

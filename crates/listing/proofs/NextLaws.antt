@@ -57,7 +57,8 @@ module _ (count : ℕ) (s : List ℕ) (most : length s ≤ 65536) (some : length
       go (refused r) k = let same : refusalOf r ≡ f = cc in ap (λ (q : Refusal). last (refusedText count (q .number))) same
 
 -- the text of a message by what the reader answers
-told : (count : ℕ) (t : Message) (m : ReadMessage) (x : Reading Message) (next : ℕ) → messageAnswer t ≡ m → length (messageBytes t) ≡ next → x ≡ got t
+told : (count : ℕ) (t : Message) (m : ReadMessage) (x : Reading Message) (next : ℕ) → messageAnswer t ≡ m
+    → length (messageBytes t) ≡ next → x ≡ got t
     → nextBy count (got t) ≡ message (readText (count + 1) m (listedMessage x)) next
 unfolding nextBy messageText readText messageAnswer
 told count t m x next same size e = rw (e, ← size, ← same, message-ids t)

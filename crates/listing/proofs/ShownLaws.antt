@@ -22,7 +22,8 @@ use Rattle.listing.specs.Lines.{okText, refusedText, Next, message, last
 use Rattle.listing.proofs.TextLaws.{written-in}
 
 -- the text lies in the buffer
-fits : (w entry : List ℕ) (size : ℕ) (exit : List ℕ) → size ≡ (write w (text 0 entry)) .at → exit ≡ (write w (text 0 entry)) .bytes → size ≤ length exit
+fits : (w entry : List ℕ) (size : ℕ) (exit : List ℕ) → size ≡ (write w (text 0 entry)) .at → exit ≡ (write w (text 0 entry)) .bytes
+    → size ≤ length exit
 fits w entry size exit at left = written-in w 0 entry size exit (ap₂ text at left) (omega arith)
 
 last-fits : (n : Next) (entry : List ℕ) (size : ℕ) (exit : List ℕ) → Shown n entry (Last size) exit → size ≤ length exit
@@ -47,7 +48,8 @@ by-cases count s w next true none e k = let z : _≡_ {A = ℕ} 0 1 = cc in absu
 by-cases count s w next false true e k = let z : _≡_ {A = ℕ} 0 1 = cc in absurd (omega arith)
 by-cases count s w next false false e k = (ltb-false _ _ e, k)
 
-message-fits : (count : ℕ) (s entry : List ℕ) (size next : ℕ) (exit : List ℕ) → Bytes s → Shown (nextOf count s) entry (message-line size next) exit
+message-fits : (count : ℕ) (s entry : List ℕ) (size next : ℕ) (exit : List ℕ) → Bytes s
+    → Shown (nextOf count s) entry (message-line size next) exit
     → Bounded s exit (message-line size next)
 unfolding nextOf asLine messageBytes Bounded
 message-fits count s entry size next exit b h = go (nextOf count s) refl h
@@ -61,8 +63,12 @@ message-fits count s entry size next exit b h = go (nextOf count s) refl h
         let c = by-cases count s w to (ltb 65536 (length s)) (eqb (length s) 0) refl e in
         let f = by-first count (firstOf s) w to (c .1) in
         let sound = first-sound s (f .0) b (f .1) in
-        let cut = length-take (length (messageBytes (f .0))) s in
-        (fits (lineText (message w to)) entry size exit at (k .left), omega (arith, same, f .2), omega (arith, same, f .2, ap length (sound .0), cut), c .0)
+        let cut = length-take (length (messageBytes (f .0))) s in (
+          fits (lineText (message w to)) entry size exit at (k .left),
+          omega (arith, same, f .2),
+          omega (arith, same, f .2, ap length (sound .0), cut),
+          c .0,
+        )
 
 bounded : (count : ℕ) (s entry : List ℕ) (r : Line) (exit : List ℕ) → Bytes s → Shown (nextOf count s) entry r exit → Bounded s exit r
 unfolding Bounded
@@ -70,6 +76,7 @@ bounded count s entry (message-line size next) exit b h = message-fits count s e
 bounded count s entry (Last size) exit b h = last-fits (nextOf count s) entry size exit h
 
 -- both clauses from the first
-pub shown-so : (count : ℕ) (s entry : List ℕ) (r : Line) (exit : List ℕ) → ((i : ℕ) → Fits w8 (getD s i 0)) → Shown (nextOf count s) entry r exit
+pub shown-so : (count : ℕ) (s entry : List ℕ) (r : Line) (exit : List ℕ) → ((i : ℕ) → Fits w8 (getD s i 0))
+    → Shown (nextOf count s) entry r exit
     → Shown (nextOf count s) entry r exit × Bounded s exit r
 shown-so count s entry r exit b h = (h, bounded count s entry r exit (bytes-known s b) h)

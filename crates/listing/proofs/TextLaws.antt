@@ -66,7 +66,8 @@ unfolding write
 write-in [] t h = h
 write-in (b ∷ w) t h = write-in w (one b t) (one-in b t h)
 
-pub written-in : (w : List ℕ) (at : ℕ) (entry : List ℕ) (r : ℕ) (exit : List ℕ) → text r exit ≡ write w (text at entry) → at ≤ length entry → r ≤ length exit
+pub written-in : (w : List ℕ) (at : ℕ) (entry : List ℕ) (r : ℕ) (exit : List ℕ) → text r exit ≡ write w (text at entry)
+    → at ≤ length entry → r ≤ length exit
 written-in w at entry r exit e h =
     omega (arith, write-in w (text at entry) h, ap (λ (t : Text). t .at) e, ap (λ (t : Text). length (t .bytes)) e)
 

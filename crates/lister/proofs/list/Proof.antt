@@ -48,25 +48,40 @@ enum-known-size-2 c = search needs
 
 print-requires-2 : tie.Need-print-requires-2 Inv-loop μ-loop
 unfolding Bounded
-print-requires-2 c κs = rw (c .before .before .size2 .given .1) at (c .before .before .before .before .before .before .next-line .ensures .1) .0
+print-requires-2 c κs =
+    let told = c .before .before in
+    rw (told .size2 .given .1) at (told .before .before .before .before .next-line .ensures .1) .0
 
 add-at : tie.Need-add-at Inv-loop μ-loop
 unfolding Bounded
-add-at c = let h = rw (c .before .before .before .before .before .size2 .given .1) at (c .before .before .before .before .before .before .before .before .before .next-line .ensures .1) in omega (arith, h .2)
+add-at c =
+    let told = c .before .before .before .before .before in
+    let line = told .before .before .before .before in
+    let h = rw (told .size2 .given .1) at (line .next-line .ensures .1) in
+    omega (arith, h .2)
 
 add-count : tie.Need-add-count Inv-loop μ-loop
-add-count c = ⊎-elim (λ w. omega arith) (λ w. omega arith) (c .before .before .before .before .before .before .before .before .before .before .before .before .loop .inv .1)
+add-count c =
+    let turn = c .before .before .before .before .before .before .before .before .before .before .before .before .loop in
+    ⊎-elim (λ w. omega arith) (λ w. omega arith) (turn .inv .1)
 
 loop-less : tie.Need-loop-less Inv-loop μ-loop
 unfolding Bounded
-loop-less c = let h = rw (c .before .before .before .before .before .size2 .given .1) at (c .before .before .before .before .before .before .before .before .before .next-line .ensures .1) in omega (arith, h .1, h .2)
+loop-less c =
+    let told = c .before .before .before .before .before in
+    let line = told .before .before .before .before in
+    let h = rw (told .size2 .given .1) at (line .next-line .ensures .1) in
+    omega (arith, h .1, h .2)
 
 loop-again : tie.Need-loop-again Inv-loop μ-loop
 unfolding Bounded
 loop-again c =
-    let h = rw (c .before .before .before .before .before .size2 .given .1) at (c .before .before .before .before .before .before .before .before .before .next-line .ensures .1) in
-    let turn = c .before .before .before .before .before .before .before .before .before .before .before .before .loop in
-    (omega (arith, h .2), inr (⊎-elim (λ w. omega (arith, h .1, h .2, h .3)) (λ w. omega (arith, h .1, h .2)) (turn .inv .1)))
+    let told = c .before .before .before .before .before in
+    let line = told .before .before .before .before in
+    let h = rw (told .size2 .given .1) at (line .next-line .ensures .1) in (
+      omega (arith, h .2),
+      inr (⊎-elim (λ w. omega (arith, h .1, h .2, h .3)) (λ w. omega (arith, h .1, h .2)) (line .before .before .before .loop .inv .1)),
+    )
 
 pub list-spec : {M : Type 1} → statement M
 list-spec =

@@ -11,10 +11,16 @@ add-requires : tie.Need-add-requires
 add-requires c κs = search needs
 
 slice-reshare-prefix-write-all : tie.Need-slice-reshare-prefix-write-all
-slice-reshare-prefix-write-all c = let a = c .before .before .before .before .before .args in written-in _ (a .size) (a .out .now) _ _ (c .before .before .add .ensures) (omega arith)
+slice-reshare-prefix-write-all c =
+    let end = c .before .before in
+    let a = end .before .before .before .args in
+    written-in _ (a .size) (a .out .now) _ _ (end .add .ensures) (omega arith)
 
 slice-aggregate-write-all : tie.Need-slice-aggregate-write-all
-slice-aggregate-write-all c = let a = c .before .before .before .before .before .before .args in sym (length-take-le _ _ (written-in _ (a .size) (a .out .now) _ _ (c .before .before .before .add .ensures) (omega arith)))
+slice-aggregate-write-all c =
+    let end = c .before .before .before in
+    let a = end .before .before .before .args in
+    sym (length-take-le _ _ (written-in _ (a .size) (a .out .now) _ _ (end .add .ensures) (omega arith)))
 
 write-all-requires : tie.Need-write-all-requires
 write-all-requires c κs = search needs

@@ -19,7 +19,10 @@ same-length c = search needs
 
 returns : tie.Need-returns
 unfolding endText
-returns c = both _ _ _ (c .before .before .before .before .before .before .add-all .ensures) (c .before .before .add-decimal .ensures)
+returns c =
+    let number = c .before .before in
+    let word = number .before .before .before .before in
+    both _ _ _ (word .add-all .ensures) (number .add-decimal .ensures)
 
 pub add-end-spec : {M : Type 1} → statement M
 add-end-spec =

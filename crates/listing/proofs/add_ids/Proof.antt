@@ -1,5 +1,5 @@
 -- `listing::add_ids`: what is left to write comes to the same at every turn. Assumes nothing.
-use Prim.Native.Nat.{_-_}
+use Prim.Native.Nat.{ℕ, _-_}
 use mathlib.Core.Path.{_≡_, refl, sym, ap, _∙_}
 use lib.ListN.{length, drop}
 use native.Mathlib.Omega.{arith}
@@ -15,7 +15,9 @@ use Rattle.listing.proofs.add_ids.Statement.{statement}
 use Rattle.listing.proofs.add_ids.Tie as tie
 
 abbrev Inv-loop : tie.InvT-loop
-Inv-loop s at out₀ to₀ k₀ out to k = (length out ≡ length out₀) × (write (listedText (drop k (listedMessage (readOf s)))) (text to out) ≡ write (listedText (listedMessage (readOf s))) (text at out₀))
+Inv-loop s at out₀ to₀ k₀ out to k =
+    (length out ≡ length out₀)
+    × (write (listedText (drop k (listedMessage (readOf s)))) (text to out) ≡ write (listedText (listedMessage (readOf s))) (text at out₀))
 
 abbrev μ-loop : tie.MeasureT-loop
 μ-loop s at out₀ to₀ k₀ out to k = length s - k
@@ -34,7 +36,10 @@ same-length c = search needs
 
 returns : tie.Need-returns Inv-loop μ-loop
 unfolding fieldAnswer
-returns c = let turn = c .before .before .before .before in sym (ids-end (turn .loop .k) _ _ (sym (c .before .before .field-at .ensures) ∙ c .enum-told .given .1)) ∙ turn .loop .inv .1
+returns c =
+    let field = c .before .before in
+    let turn = field .before .before in
+    sym (ids-end (turn .loop .k) _ _ (sym (field .field-at .ensures) ∙ c .enum-told .given .1)) ∙ turn .loop .inv .1
 
 enum-known-f : tie.Need-enum-known-f Inv-loop μ-loop
 enum-known-f c = search needs
@@ -54,22 +59,26 @@ loop-less c = search needs
 loop-again : tie.Need-loop-again Inv-loop μ-loop
 unfolding fieldAnswer
 loop-again c =
-    let turn = c .before .before .before .before .before .before .before .before .before .before .before .before .before in
-    let s = turn .before .before .before .args .s .now in
+    let digits = c .before .before in
+    let blank = digits .before .before .before .before in
+    let told = blank .before .before .before in
+    let field = told .before .before in
+    let turn = field .before .before in
     let t = text (turn .loop .to) (turn .loop .out) in
-    let f = c .before .before .before .before .before .before .before .before .before .f .given in
-    let blank = c .before .before .before .before .before .before .add .ensures in
-    let hex = c .before .before .add-hex .ensures in
-    let step = ids-step (turn .loop .k) (listedMessage (readOf s)) (f .0 .0) t (sym (c .before .before .before .before .before .before .before .before .before .before .before .field-at .ensures) ∙ f .1) in (
-      ap (λ (x : Text). length (x .bytes)) hex ∙ write-room _ _ ∙ ap (λ (x : Text). length (x .bytes)) blank ∙ write-room _ t ∙ turn .loop .inv .0,
-      cc (blank, hex, step),
+    let step = ids-step (turn .loop .k) _ (told .f .given .0 .0) t (sym (field .field-at .ensures) ∙ told .f .given .1) in
+    let room : Text → ℕ = λ x. length (x .bytes) in (
+      ap room (digits .add-hex .ensures) ∙ write-room _ _ ∙ ap room (blank .add .ensures) ∙ write-room _ t ∙ turn .loop .inv .0,
+      cc (blank .add .ensures, digits .add-hex .ensures, step),
     )
 
 same-length-2 : tie.Need-same-length-2 Inv-loop μ-loop
 same-length-2 c = search needs
 
 returns-2 : tie.Need-returns-2 Inv-loop μ-loop
-returns-2 c = let turn = c .before in sym (ids-all _ (turn .loop .k) _ (bytes-known _ (turn .before .before .shared-slice-known .given)) (omega arith)) ∙ turn .loop .inv .1
+returns-2 c =
+    let turn = c .before in
+    let known = turn .before .before .shared-slice-known .given in
+    sym (ids-all _ (turn .loop .k) _ (bytes-known _ known) (omega arith)) ∙ turn .loop .inv .1
 
 pub add-ids-spec : {M : Type 1} → statement M
 add-ids-spec =

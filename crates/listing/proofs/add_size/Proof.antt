@@ -28,14 +28,24 @@ same-length c = search needs
 
 returns : tie.Need-returns
 unfolding sizeText formText
-returns c = both _ _ _ (c .before .before .before .before .before .before .before .before .before .before .before .before .add .ensures) (both _ _ _ (c .before .before .before .before .before .before .before .before .add-decimal .ensures) (rw (c .before .before .before .before .before .if1 .taken) (c .before .before .add-all .ensures)))
+returns c =
+    let word = c .before .before in
+    let number = word .before .before .before .before .before .before in
+    let blank = number .before .before .before .before in
+    both _ _ _ (blank .add .ensures)
+    (both _ _ _ (number .add-decimal .ensures) (rw (word .before .before .before .if1 .taken) (word .add-all .ensures)))
 
 same-length-2 : tie.Need-same-length-2
 same-length-2 c = search needs
 
 returns-2 : tie.Need-returns-2
 unfolding sizeText formText
-returns-2 c = both _ _ _ (c .before .before .before .before .before .before .before .before .before .before .before .before .add .ensures) (both _ _ _ (c .before .before .before .before .before .before .before .before .add-decimal .ensures) (rw (c .before .before .before .before .before .if1 .left) (c .before .before .add-all2 .ensures)))
+returns-2 c =
+    let word = c .before .before in
+    let number = word .before .before .before .before .before .before in
+    let blank = number .before .before .before .before in
+    both _ _ _ (blank .add .ensures)
+    (both _ _ _ (number .add-decimal .ensures) (rw (word .before .before .before .if1 .left) (word .add-all2 .ensures)))
 
 pub add-size-spec : {M : Type 1} → statement M
 add-size-spec =

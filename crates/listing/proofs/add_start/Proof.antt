@@ -22,7 +22,13 @@ same-length c = search needs
 
 returns : tie.Need-returns
 unfolding startText
-returns c = both _ _ _ (c .before .before .before .before .before .before .before .before .before .before .before .before .before .before .add-decimal .ensures) (both _ _ _ (c .before .before .before .before .before .before .before .before .before .before .add .ensures) (both _ _ _ (c .before .before .before .before .before .before .add-hex .ensures) (c .before .before .add-hex2 .ensures)))
+returns c =
+    let second = c .before .before in
+    let first = second .before .before .before .before in
+    let blank = first .before .before .before .before in
+    let number = blank .before .before .before .before in
+    both _ _ _ (number .add-decimal .ensures)
+    (both _ _ _ (blank .add .ensures) (both _ _ _ (first .add-hex .ensures) (second .add-hex2 .ensures)))
 
 pub add-start-spec : {M : Type 1} → statement M
 add-start-spec =

@@ -19,7 +19,11 @@ same-length c = search needs
 
 returns : tie.Need-returns
 unfolding readText
-returns c = both _ _ _ (c .before .before .before .before .before .before .before .before .before .before .add-start .ensures) (both _ _ _ (c .before .before .before .before .before .before .add-size .ensures) (c .before .before .add-ids .ensures))
+returns c =
+    let ids = c .before .before in
+    let size = ids .before .before .before .before in
+    let start = size .before .before .before .before in
+    both _ _ _ (start .add-start .ensures) (both _ _ _ (size .add-size .ensures) (ids .add-ids .ensures))
 
 pub message-line-spec : {M : Type 1} → statement M
 message-line-spec =

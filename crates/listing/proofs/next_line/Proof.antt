@@ -16,7 +16,10 @@ same-length : tie.Need-same-length
 same-length c = search needs
 
 returns : tie.Need-returns
-returns c = shown-so _ _ _ _ _ (c .before .before .before .before .before .before .shared-slice-known .given) (shown-last _ _ _ _ _ (next-over _ _ (omega arith)) (c .before .before .refused-line .ensures))
+returns c =
+    let line = c .before .before in
+    let s = line .before .before .before .before in
+    shown-so _ _ _ _ _ (s .shared-slice-known .given) (shown-last _ _ _ _ _ (next-over _ _ (omega arith)) (line .refused-line .ensures))
 
 ok-line-requires : tie.Need-ok-line-requires
 ok-line-requires c κs = search needs
@@ -25,7 +28,10 @@ same-length-2 : tie.Need-same-length-2
 same-length-2 c = search needs
 
 returns-2 : tie.Need-returns-2
-returns-2 c = shown-so _ _ _ _ _ (c .before .before .before .before .before .before .before .shared-slice-known .given) (shown-last _ _ _ _ _ (next-none _ _ (omega arith)) (c .before .before .ok-line .ensures))
+returns-2 c =
+    let line = c .before .before in
+    let s = line .before .before .before .before .before in
+    shown-so _ _ _ _ _ (s .shared-slice-known .given) (shown-last _ _ _ _ _ (next-none _ _ (omega arith)) (line .ok-line .ensures))
 
 read-first-requires : tie.Need-read-first-requires
 read-first-requires c κs = search needs
@@ -40,7 +46,12 @@ enum-known-m : tie.Need-enum-known-m
 enum-known-m c = search needs
 
 slice-aggregate-message-line : tie.Need-slice-aggregate-message-line
-slice-aggregate-message-line c = sym (length-take-le _ _ (next-within _ (bytes-known _ (c .before .before .before .before .before .before .before .before .shared-slice-known .given)) _ _ (sym (c .before .before .before .before .read-first .ensures) ∙ c .before .before .m .given .1)))
+slice-aggregate-message-line c =
+    let told = c .before .before in
+    let first = told .before .before in
+    let s = first .before .before .before .before in
+    let message = sym (first .read-first .ensures) ∙ told .m .given .1 in
+    sym (length-take-le _ _ (next-within _ (bytes-known _ (s .shared-slice-known .given)) _ _ message))
 
 add-message-line : tie.Need-add-message-line
 add-message-line c = search needs
@@ -52,13 +63,28 @@ same-length-3 : tie.Need-same-length-3
 same-length-3 c = search needs
 
 returns-3 : tie.Need-returns-3
-returns-3 c = shown-so _ _ _ _ _ (c .before .before .before .before .before .before .before .before .before .before .before .shared-slice-known .given) (shown-last _ _ _ _ _ (next-refused _ _ (omega arith) (λ k. omega arith) _ (sym (c .before .before .before .before .before .before .before .read-first .ensures) ∙ c .before .before .before .before .before .f .given .1)) (c .before .before .refused-line2 .ensures))
+returns-3 c =
+    let line = c .before .before in
+    let told = line .before .before .before in
+    let first = told .before .before in
+    let s = first .before .before .before .before in
+    let refusal = sym (first .read-first .ensures) ∙ told .f .given .1 in
+    shown-so _ _ _ _ _ (s .shared-slice-known .given)
+    (shown-last _ _ _ _ _ (next-refused _ _ (omega arith) (λ k. omega arith) _ refusal) (line .refused-line2 .ensures))
 
 same-length-4 : tie.Need-same-length-4
 same-length-4 c = search needs
 
 returns-4 : tie.Need-returns-4
-returns-4 c = shown-so _ _ _ _ _ (c .before .before .before .before .before .before .before .before .before .before .before .before .shared-slice-known .given) (shown-message _ _ _ _ _ _ (next-message _ (bytes-known _ (c .before .before .before .before .before .before .before .before .before .before .before .before .shared-slice-known .given)) _ _ (sym (c .before .before .before .before .before .before .before .before .read-first .ensures) ∙ c .before .before .before .before .before .before .m .given .1) _ (omega arith) (λ k. omega arith)) (c .before .before .message-line .ensures))
+returns-4 c =
+    let line = c .before .before in
+    let told = line .before .before .before .before in
+    let first = told .before .before in
+    let s = first .before .before .before .before in
+    let message = sym (first .read-first .ensures) ∙ told .m .given .1 in
+    let known = s .shared-slice-known .given in
+    shown-so _ _ _ _ _ known
+    (shown-message _ _ _ _ _ _ (next-message _ (bytes-known _ known) _ _ message _ (omega arith) (λ k. omega arith)) (line .message-line .ensures))
 
 pub next-line-spec : {M : Type 1} → statement M
 next-line-spec =

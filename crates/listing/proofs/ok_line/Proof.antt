@@ -19,7 +19,10 @@ same-length c = search needs
 
 returns : tie.Need-returns
 unfolding okText
-returns c = both _ _ _ (c .before .before .before .before .before .before .before .add-end .ensures) (c .before .before .add-all .ensures)
+returns c =
+    let word = c .before .before in
+    let start = word .before .before .before .before .before in
+    both _ _ _ (start .add-end .ensures) (word .add-all .ensures)
 
 pub ok-line-spec : {M : Type 1} → statement M
 ok-line-spec =

@@ -22,7 +22,11 @@ same-length c = search needs
 
 returns : tie.Need-returns
 unfolding refusedText
-returns c = both _ _ _ (c .before .before .before .before .before .before .before .before .before .before .before .add-end .ensures) (both _ _ _ (c .before .before .before .before .before .before .add-all .ensures) (c .before .before .add-decimal .ensures))
+returns c =
+    let number = c .before .before in
+    let word = number .before .before .before .before in
+    let start = word .before .before .before .before .before in
+    both _ _ _ (start .add-end .ensures) (both _ _ _ (word .add-all .ensures) (number .add-decimal .ensures))
 
 pub refused-line-spec : {M : Type 1} → statement M
 refused-line-spec =

@@ -7,7 +7,9 @@ use Rattle.vectors.proofs.run.Statement.{statement}
 use Rattle.vectors.proofs.run.Tie as tie
 
 abbrev Inv-loop : tie.InvT-loop
-Inv-loop text a₀ b₀ got₀ want₀ from₀ number₀ examples₀ differ₀ a b got want from number examples differ = (from ≤ length text) × (number ≤ from) × (examples ≤ from) × (differ ≤ from) × (length a ≡ length a₀) × (length b ≡ length b₀) × (length got ≡ length got₀) × (length want ≡ length want₀)
+Inv-loop text a₀ b₀ got₀ want₀ from₀ number₀ examples₀ differ₀ a b got want from number examples differ =
+    (from ≤ length text) × (number ≤ from) × (examples ≤ from) × (differ ≤ from)
+    × (length a ≡ length a₀) × (length b ≡ length b₀) × (length got ≡ length got₀) × (length want ≡ length want₀)
 
 abbrev μ-loop : tie.MeasureT-loop
 μ-loop text a₀ b₀ got₀ want₀ from₀ number₀ examples₀ differ₀ a b got want from number examples differ = length text - from

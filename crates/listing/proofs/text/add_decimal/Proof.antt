@@ -24,7 +24,12 @@ same-length : tie.Need-same-length
 same-length c = search needs
 
 returns : tie.Need-returns
-returns c = let a = c .before .before .before .before .before .before .before .before .args in let d = c .before .before .before .before .before .decimal in c .before .before .add-all .ensures ∙ ap (λ (w : List ℕ). write w (text (a .at) (a .out .now))) (d .ensures .1 .1 ∙ decimals _ _ (d .ensures .1 .0))
+returns c =
+    let all = c .before .before in
+    let d = all .before .before .before .decimal in
+    let a = all .before .before .before .before .before .before .args in
+    all .add-all .ensures
+    ∙ ap (λ (w : List ℕ). write w (text (a .at) (a .out .now))) (d .ensures .1 .1 ∙ decimals _ _ (d .ensures .1 .0))
 
 pub add-decimal-spec : {M : Type 1} → statement M
 add-decimal-spec =

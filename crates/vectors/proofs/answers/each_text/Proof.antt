@@ -7,7 +7,8 @@ use Rattle.vectors.proofs.answers.each_text.Statement.{statement}
 use Rattle.vectors.proofs.answers.each_text.Tie as tie
 
 abbrev Inv-loop : tie.InvT-loop
-Inv-loop s₀ place out₀ to₀ first₀ value₀ number₀ s out to first value number = (length s ≡ length s₀) × (length out ≡ length out₀) × (place < length s)
+Inv-loop s₀ place out₀ to₀ first₀ value₀ number₀ s out to first value number =
+    (length s ≡ length s₀) × (length out ≡ length out₀) × (place < length s)
 
 abbrev μ-loop : tie.MeasureT-loop
 μ-loop s₀ place out₀ to₀ first₀ value₀ number₀ s out to first value number = 255 - value

@@ -10,7 +10,9 @@ use Rattle.vectors.proofs.answers.list_text.Statement.{statement}
 use Rattle.vectors.proofs.answers.list_text.Tie as tie
 
 abbrev Inv-loop : tie.InvT-loop
-Inv-loop s line₀ out₀ at₀ count₀ to₀ line out at count to = (length line ≡ length line₀) × (length out ≡ length out₀) × (at ≤ length s) × ((count ≡ 0) ⊎ (count + (length s - at) ≤ 65536))
+Inv-loop s line₀ out₀ at₀ count₀ to₀ line out at count to =
+    (length line ≡ length line₀) × (length out ≡ length out₀) × (at ≤ length s)
+    × ((count ≡ 0) ⊎ (count + (length s - at) ≤ 65536))
 
 abbrev μ-loop : tie.MeasureT-loop
 μ-loop s line₀ out₀ at₀ count₀ to₀ line out at count to = length s - at
@@ -53,21 +55,36 @@ add-line-and-stroke-requires c κs = search needs
 
 add-at : tie.Need-add-at Inv-loop μ-loop
 unfolding Bounded
-add-at c = let h = rw (c .before .before .before .before .before .before .size2 .given .1) at (c .before .before .before .before .before .before .before .before .before .before .next-line .ensures .1) in omega (arith, h .2)
+add-at c =
+    let told = c .before .before .before .before .before .before in
+    let line = told .before .before .before .before in
+    let h = rw (told .size2 .given .1) at (line .next-line .ensures .1) in
+    omega (arith, h .2)
 
 add-count : tie.Need-add-count Inv-loop μ-loop
-add-count c = ⊎-elim (λ w. omega arith) (λ w. omega arith) (c .before .before .before .before .before .before .before .before .before .before .before .before .before .loop .inv .3)
+add-count c =
+    let turn = c .before .before .before .before .before .before .before .before .before .before .before .before .before .loop in
+    ⊎-elim (λ w. omega arith) (λ w. omega arith) (turn .inv .3)
 
 loop-less : tie.Need-loop-less Inv-loop μ-loop
 unfolding Bounded
-loop-less c = let h = rw (c .before .before .before .before .before .before .size2 .given .1) at (c .before .before .before .before .before .before .before .before .before .before .next-line .ensures .1) in omega (arith, h .1, h .2)
+loop-less c =
+    let told = c .before .before .before .before .before .before in
+    let line = told .before .before .before .before in
+    let h = rw (told .size2 .given .1) at (line .next-line .ensures .1) in
+    omega (arith, h .1, h .2)
 
 loop-again : tie.Need-loop-again Inv-loop μ-loop
 unfolding Bounded
 loop-again c =
-    let h = rw (c .before .before .before .before .before .before .size2 .given .1) at (c .before .before .before .before .before .before .before .before .before .before .next-line .ensures .1) in
-    let turn = c .before .before .before .before .before .before .before .before .before .before .before .before .before .loop in
-    (search needs, search needs, omega (arith, h .2), inr (⊎-elim (λ w. omega (arith, h .1, h .2, h .3)) (λ w. omega (arith, h .1, h .2)) (turn .inv .3)))
+    let told = c .before .before .before .before .before .before in
+    let line = told .before .before .before .before in
+    let h = rw (told .size2 .given .1) at (line .next-line .ensures .1) in (
+      search needs,
+      search needs,
+      omega (arith, h .2),
+      inr (⊎-elim (λ w. omega (arith, h .1, h .2, h .3)) (λ w. omega (arith, h .1, h .2)) (line .before .before .before .loop .inv .3)),
+    )
 
 pub list-text-spec : {M : Type 1} → statement M
 list-text-spec =

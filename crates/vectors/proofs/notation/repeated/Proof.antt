@@ -15,7 +15,9 @@ returns-2 : tie.Need-returns-2
 returns-2 c = search needs
 
 mul-total : tie.Need-mul-total
-mul-total c = omega (arith, mul-le-mul {n₁ = c .before .before .before .args .size} {m₁ = c .before .before .before .args .times} {n₂ = 65537} {m₂ = 65537} (omega arith) (omega arith))
+mul-total c =
+    let a = c .before .before .before .args in
+    omega (arith, mul-le-mul {n₁ = a .size} {m₁ = a .times} {n₂ = 65537} {m₂ = 65537} (omega arith) (omega arith))
 
 returns-3 : tie.Need-returns-3
 returns-3 c = search needs

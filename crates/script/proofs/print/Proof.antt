@@ -1,0 +1,22 @@
+-- Text within its buffer is printed. Assumes nothing.
+use mathlib.Core.Path.{sym}
+use native.Mathlib.Omega.{arith}
+use lib.Seq.{length-take-le}
+use borrow.Author.Needs.{needs}
+use Rattle.script.proofs.print.Statement.{statement}
+use Rattle.script.proofs.print.Tie as tie
+
+returns : tie.Need-returns
+returns c = search needs
+
+slice-aggregate-write-all : tie.Need-slice-aggregate-write-all
+slice-aggregate-write-all c = let s = c .before .before .before .args in sym (length-take-le (s .size) (s .text .now) (omega arith))
+
+write-all-requires : tie.Need-write-all-requires
+write-all-requires c κs = search needs
+
+returns-2 : tie.Need-returns-2
+returns-2 c = search needs
+
+pub print-spec : {M : Type 1} → statement M
+print-spec = tie.close (tie.spec returns slice-aggregate-write-all write-all-requires returns-2)

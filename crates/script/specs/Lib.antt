@@ -1,0 +1,2 @@
+-- What the functions of a script promise one another.
+pub mod Script

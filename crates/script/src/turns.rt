@@ -1,0 +1,220 @@
+// What a line does, and its answer.
+use crate::answers;
+use crate::orders::Call;
+use crate::orders::Order;
+use crate::orders::Question;
+use crate::orders::Reading;
+use course::Answer;
+use course::Book;
+use course::Desk;
+use course::Lane;
+use course::LaneAnswer;
+use course::LineAnswer;
+use course::Reply;
+use zvt::ReadAnswer;
+use zvt::ShortenAnswer;
+ghost use Prim.Native.Nat.{_≤_};
+ghost use Rattle.course.specs.Memory.{Valid};
+ghost use Rattle.script.specs.Script.{Ready};
+
+// The desk, and how many bytes are lent to a call that writes.
+pub(crate) struct State {
+    pub(crate) desk: Desk,
+    pub(crate) room: usize,
+}
+
+impl State {
+    // The most bytes that can be lent: a message with a body of 4,096 bytes.
+    pub(crate) const ROOM: usize = 4101;
+
+    pub(crate) fn start() -> Self
+        ensures { λ r. ⌜ Ready r ⌝ }
+    {
+        State {
+            desk: Desk::fresh(),
+            room: State::ROOM,
+        }
+    }
+}
+
+// What a line leaves: the state, how long the text of its answer is, and whether the script goes on.
+pub(crate) struct Turn {
+    pub(crate) state: State,
+    pub(crate) size: usize,
+    pub(crate) more: bool,
+}
+
+// The lines of the book.
+fn book(desk: Desk, out: &mut [u8]) -> usize
+    requires { ⌜ Valid desk ⌝ }
+{
+    let mut to: usize = 0;
+    let mut k: usize = 0;
+    while k < Book::LINES {
+        match desk::line_at(desk, k) {
+            LineAnswer::End => return answers::add_count(k as u64, to, out),
+            LineAnswer::Line(l) => {
+                k += 1;
+                to = answers::add_line(k as u64, l, to, out);
+            }
+        }
+    }
+    answers::add_count(k as u64, to, out)
+}
+
+// The eight lanes.
+fn lanes(desk: Desk, out: &mut [u8]) -> usize
+    requires { ⌜ Valid desk ⌝ }
+{
+    let mut to: usize = 0;
+    let mut lane: u8 = 0;
+    while lane < Lane::COUNT {
+        match desk::lane_at(desk, lane) {
+            LaneAnswer::Refused(_) => return to,
+            LaneAnswer::Lane(l) => {
+                to = answers::add_lane(lane, l, to, out);
+            }
+        }
+        lane += 1;
+    }
+    to
+}
+
+fn question(desk: Desk, q: Question, out: &mut [u8]) -> usize
+    requires { ⌜ Valid desk ⌝ }
+{
+    match q {
+        Question::Book => book(desk, out),
+        Question::Lanes => lanes(desk, out),
+        Question::Net => answers::signed(desk::net(desk), out),
+    }
+}
+
+fn read(s: &[u8], out: &mut [u8]) -> usize {
+    match zvt::read(s) {
+        ReadAnswer::Refused(r) => answers::refused(r.number, out),
+        ReadAnswer::Accepted(m) => answers::message(s, m, out),
+    }
+}
+
+fn shorten(s: &[u8], lent: &mut [u8], out: &mut [u8]) -> usize {
+    answers::blank(lent);
+    match zvt::shorten(s, lent) {
+        ShortenAnswer::Refused(r) => answers::refused_call(r.number, lent, out),
+        ShortenAnswer::Written(n) => answers::written(n, lent, out),
+    }
+}
+
+fn name<'a>(s: &'a [u8], own: &'a [u8], out: &mut [u8]) -> usize {
+    let to = answers::add_bytes(zvt::card_name(s, own), 0, out);
+    answers::add_end(to, out)
+}
+
+fn reading<'a>(r: Reading, s: &'a [u8], own: &'a [u8], lent: &mut [u8], out: &mut [u8]) -> usize {
+    match r {
+        Reading::Read => read(s, out),
+        Reading::Shorten => shorten(s, lent, out),
+        Reading::Name => name(s, own, out),
+    }
+}
+
+// The call itself.
+fn called(desk: Desk, c: Call, s: &[u8], lent: &mut [u8]) -> Answer
+    requires { ⌜ Valid desk ⌝ }
+    ensures { λ r. ⌜ Valid (r .desk) ⌝ }
+{
+    match c {
+        Call::Sale(lane, amount) => desk::open_sale(desk, lane, amount, lent),
+        Call::Refund(lane, password, amount) => desk::open_refund(
+            desk,
+            lane,
+            password,
+            amount,
+            lent,
+        ),
+        Call::Reversal(lane, password, receipt) => desk::open_reversal(
+            desk,
+            lane,
+            password,
+            receipt,
+            lent,
+        ),
+        Call::Terminal(lane) => desk::terminal(desk, lane, s, lent),
+        Call::Lost(lane) => desk::link_lost(desk, lane),
+        Call::Close => desk::close(desk),
+    }
+}
+
+fn reply(r: Reply, lent: &[u8], out: &mut [u8]) -> usize {
+    match r {
+        Reply::Refused(f) => answers::refused_call(f.number, lent, out),
+        Reply::Written(n) => answers::written(n, lent, out),
+    }
+}
+
+// The call and its answer.
+fn call(state: State, c: Call, s: &[u8], lent: &mut [u8], out: &mut [u8]) -> Turn
+    requires { ⌜ Ready state ⌝ }
+    ensures { λ r. ⌜ Ready (r .state) ⌝ }
+{
+    answers::blank(lent);
+    let before = state.desk;
+    let a = called(before, c, s, lent);
+    let r = a.reply;
+    let desk = a.desk;
+    next(
+        State {
+            desk,
+            room: state.room,
+        },
+        reply(r, lent, out),
+    )
+}
+
+// The script goes on, or ends here.
+fn next(state: State, size: usize) -> Turn
+    requires { ⌜ Ready state ⌝ }
+    ensures { λ r. ⌜ Ready (r .state) ⌝ }
+{
+    Turn {
+        state,
+        size,
+        more: true,
+    }
+}
+
+fn last(state: State, size: usize) -> Turn
+    requires { ⌜ Ready state ⌝ }
+    ensures { λ r. ⌜ Ready (r .state) ⌝ }
+{
+    Turn {
+        state,
+        size,
+        more: false,
+    }
+}
+
+// Line number `line`, which asks for o, with the message s, the till's own name and the room to be lent from then on.
+pub(crate) fn act<'a>(
+    state: State,
+    line: u64,
+    o: Order,
+    s: &'a [u8],
+    own: &'a [u8],
+    room: usize,
+    lent: &mut [u8],
+    out: &mut [u8],
+) -> Turn
+    requires { ⌜ Ready state × (room ≤ 4101) ⌝ }
+    ensures { λ r. ⌜ Ready (r .state) ⌝ }
+{
+    let desk = state.desk;
+    match o {
+        Order::Bad => last(state, answers::not_understood(line, out)),
+        Order::Pass => next(state, 0),
+        Order::Room => next(State { desk, room }, answers::ok(out)),
+        Order::Question(q) => next(state, question(desk, q, out)),
+        Order::Reading(r) => next(state, reading(r, s, own, lent, out)),
+        Order::Call(c) => call(state, c, s, lent, out),
+    }
+}

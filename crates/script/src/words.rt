@@ -1,0 +1,41 @@
+// The words of a line: what lies between its blanks.
+ghost use Prim.Native.Nat.{_≤_};
+ghost use lib.ListN.{length};
+
+// How many words follow the first.
+pub(crate) fn following(s: &[u8]) -> usize {
+    let mut n: usize = 0;
+    let mut i: usize = 0;
+    while i < s.len() {
+        if s[i] == b' ' {
+            n += 1;
+        }
+        i += 1;
+    }
+    n
+}
+
+// Where word number k begins, the first being number 0.
+fn start(s: &[u8], k: usize) -> usize
+    ensures { λ r. ⌜ r ≤ length (now (s .entry)) ⌝ }
+{
+    let mut left = k;
+    let mut i: usize = 0;
+    while i < s.len() {
+        if left == 0 {
+            return i;
+        }
+        if s[i] == b' ' {
+            left -= 1;
+        }
+        i += 1;
+    }
+    i
+}
+
+// Word number k; no bytes where there is none.
+pub(crate) fn word<'a>(s: &'a [u8], k: usize) -> &'a [u8] {
+    let from = start(s, k);
+    let to = bytes::scan::find(s, from, s.len(), b' ');
+    &s[from..to]
+}

@@ -1,0 +1,8 @@
+// Plays the script on standard input.
+use libc::STDIN_FILENO;
+
+fn main() {
+    let mut input = [0u8; script::LIMIT + 1];
+    let n = io::read_full(STDIN_FILENO, &mut input);
+    script::play(&input[..n]);
+}
