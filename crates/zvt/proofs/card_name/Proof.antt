@@ -5,7 +5,7 @@ use borrow.Author.Needs.{needs}
 use Rattle.messages.specs.Grammar.{Bytes}
 use Rattle.zvt.specs.declared.FieldAnswer.the-variants.{Field as listed-field}
 use Rattle.zvt.specs.List.{namedListed, listedIn}
-use Rattle.zvt.proofs.BodyLaws.{bytes-known}
+use Rattle.zvt.proofs.Slices.{bytes-known}
 use Rattle.zvt.proofs.PlaceLaws.{StatusIn, status-at, status-nowhere}
 use Rattle.zvt.proofs.ValueLaws.{Here, is-here}
 use Rattle.zvt.proofs.NameLaws.{own-name, part-name, name-missing, name-empty, name-found, name-inside}

@@ -3,7 +3,7 @@ use mathlib.Core.Path.{_≡_, sym, ap, _∙_}
 use borrow.Author.Needs.{needs}
 use Rattle.messages.specs.Message.{readOf}
 use Rattle.zvt.specs.List.{ListIn, listedIn, listedMessage, nthListed, fieldAnswer}
-use Rattle.zvt.proofs.BodyLaws.{bytes-known}
+use Rattle.zvt.proofs.Slices.{bytes-known}
 use Rattle.zvt.proofs.PlaceLaws.{list-at, list-nowhere}
 use Rattle.zvt.proofs.field_at.Statement.{statement}
 use Rattle.zvt.proofs.field_at.Tie as tie

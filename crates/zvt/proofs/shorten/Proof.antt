@@ -10,7 +10,7 @@ use Rattle.zvt.specs.declared.objects.Tally.{Tally}
 use Rattle.zvt.specs.declared.headers.HeaderRead.the-variants.{Header as header-read}
 use Rattle.zvt.specs.Header.{wholeAnswer}
 use Rattle.zvt.proofs.HeaderLaws.{whole-within}
-use Rattle.zvt.proofs.BodyLaws.{bytes-known}
+use Rattle.zvt.proofs.Slices.{bytes-known}
 use Rattle.zvt.proofs.ShortMessages.{no-header, no-body, Short, short-found, no-room, lent-out, message-room, written-out}
 use Rattle.zvt.proofs.body.body_in.Reads as body-in-reads
 use Rattle.zvt.proofs.headers.whole_header.Reads as whole-header-reads

@@ -7,7 +7,7 @@ use borrow.Author.Needs.{needs}
 use Rattle.messages.proofs.ObjectSteps.{part-length}
 use Rattle.zvt.specs.declared.FieldAnswer.the-variants.{Field}
 use Rattle.zvt.specs.List.{firstListed, listedIn}
-use Rattle.zvt.proofs.BodyLaws.{bytes-known}
+use Rattle.zvt.proofs.Slices.{bytes-known}
 use Rattle.zvt.proofs.ListedLaws.{part-first, list-empty, first-is, first-never}
 use Rattle.zvt.proofs.list.field_from.Statement.{statement}
 use Rattle.zvt.proofs.list.field_from.Tie as tie

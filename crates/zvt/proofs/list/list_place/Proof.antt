@@ -5,7 +5,7 @@ use borrow.Author.Needs.{needs}
 use Rattle.messages.specs.Grammar.{Bytes}
 use Rattle.zvt.specs.declared.ReadAnswer.the-variants.{Accepted}
 use Rattle.zvt.specs.Answers.{readAnswer}
-use Rattle.zvt.proofs.BodyLaws.{bytes-known}
+use Rattle.zvt.proofs.Slices.{bytes-known}
 use Rattle.zvt.proofs.PlaceLaws.{placeBy, no-place, start-small, place-is}
 use Rattle.zvt.proofs.list.list_place.Statement.{statement}
 use Rattle.zvt.proofs.list.list_place.Tie as tie

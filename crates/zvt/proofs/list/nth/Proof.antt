@@ -5,7 +5,7 @@ use Prim.Native.Nat.{_-_}
 use native.Mathlib.Omega.{arith}
 use borrow.Author.Needs.{needs}
 use Rattle.zvt.specs.List.{ListIn, nthListed, listedIn}
-use Rattle.zvt.proofs.BodyLaws.{bytes-known}
+use Rattle.zvt.proofs.Slices.{bytes-known}
 use Rattle.zvt.proofs.ListedLaws.{Next, next-in, nth-end, nth-here, nth-next}
 use Rattle.zvt.proofs.list.nth.Statement.{statement}
 use Rattle.zvt.proofs.list.nth.Tie as tie

@@ -4,7 +4,7 @@ use borrow.Author.Needs.{needs}
 use Rattle.messages.specs.Grammar.{Bytes}
 use Rattle.zvt.specs.declared.ReadAnswer.the-variants.{Accepted}
 use Rattle.zvt.specs.Answers.{readAnswer}
-use Rattle.zvt.proofs.BodyLaws.{bytes-known}
+use Rattle.zvt.proofs.Slices.{bytes-known}
 use Rattle.zvt.proofs.PlaceLaws.{no-status, other-class, other-instruction, status-is}
 use Rattle.zvt.proofs.list.status_place.Statement.{statement}
 use Rattle.zvt.proofs.list.status_place.Tie as tie

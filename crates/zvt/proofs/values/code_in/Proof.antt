@@ -7,7 +7,7 @@ use Rattle.messages.specs.Fields.{formatOf}
 use Rattle.messages.specs.Grammar.{SizeOk}
 use Rattle.messages.specs.declared.ToldCode.the-variants.{Code}
 use Rattle.messages.specs.Values.{codeOf, codeIn}
-use Rattle.zvt.proofs.BodyLaws.{bytes-known}
+use Rattle.zvt.proofs.Slices.{bytes-known}
 use Rattle.zvt.proofs.ListedLaws.{part-first}
 use Rattle.zvt.proofs.ValueLaws.{Here, not-here, is-here}
 use Rattle.zvt.proofs.values.code_in.Statement.{statement}

@@ -9,7 +9,7 @@ use Rattle.messages.specs.declared.Layout.{Layout}
 use Rattle.messages.proofs.ObjectSteps.{part-length}
 use Rattle.messages.proofs.ObjectBytes.{bytes-part}
 use Rattle.zvt.specs.Writing.{Put, shortBodyOf, headerBytes, headerLayout, bodyPart, shortMessageOf}
-use Rattle.zvt.proofs.BodyLaws.{bytes-known}
+use Rattle.zvt.proofs.Slices.{bytes-known}
 use Rattle.zvt.proofs.Back.{put-as, lent-all, says, head-room, then-head}
 use Rattle.zvt.proofs.ShortBodies.{body-fits}
 use Rattle.zvt.proofs.format.layout_of.Reads as layout-of-reads
