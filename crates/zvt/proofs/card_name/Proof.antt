@@ -19,9 +19,9 @@ use Rattle.zvt.proofs.name.name_size.Reads as name-size-reads
 
 -- the list of the status information, and field 8B in it
 abbrev Placed : Type 0
-Placed = lts.After-from (status-place-reads.Asked, status-place-reads.Learnt, named-reads.Asked, named-reads.Learnt, name-size-reads.Asked, name-size-reads.Learnt) reads.Pre reads.Post
+Placed = tie.After-from
 
-abbrev start : Placed → lts.After-shared-slice-known (status-place-reads.Asked, status-place-reads.Learnt, named-reads.Asked, named-reads.Learnt, name-size-reads.Asked, name-size-reads.Learnt) reads.Pre reads.Post
+abbrev start : Placed → tie.After-shared-slice-known
 start c = c .before .before .before .before
 
 abbrev args : Placed → lts.Start (status-place-reads.Asked, status-place-reads.Learnt, named-reads.Asked, named-reads.Learnt, name-size-reads.Asked, name-size-reads.Learnt) reads.Pre reads.Post
@@ -34,7 +34,7 @@ status : (c : Placed) → StatusIn (c .from .given .0 .0) (c .from .given .0 .1 
 status c = status-at _ _ _ (bytes c) (sym (c .before .before .status-place .ensures) ∙ c .from .given .1)
 
 abbrev Found : Type 0
-Found = lts.After-f (status-place-reads.Asked, status-place-reads.Learnt, named-reads.Asked, named-reads.Learnt, name-size-reads.Asked, name-size-reads.Learnt) reads.Pre reads.Post
+Found = tie.After-f
 
 abbrev placed : Found → Placed
 placed c = c .before .before .before .before

@@ -7,16 +7,12 @@ use Rattle.zvt.proofs.Slices.{bytes-known}
 use Rattle.zvt.proofs.PlaceLaws.{list-at, list-nowhere}
 use Rattle.zvt.proofs.field_at.Statement.{statement}
 use Rattle.zvt.proofs.field_at.Tie as tie
-use Rattle.zvt.proofs.field_at.Reads as reads
-use Rattle.zvt.proofs.field_at.Lts as lts
-use Rattle.zvt.proofs.list.list_place.Reads as list-place-reads
-use Rattle.zvt.proofs.list.nth.Reads as nth-reads
 
 -- where the list lies
 abbrev Placed : Type 0
-Placed = lts.After-from (list-place-reads.Asked, list-place-reads.Learnt, nth-reads.Asked, nth-reads.Learnt) reads.Pre reads.Post
+Placed = tie.After-from
 
-abbrev start : Placed → lts.After-shared-slice-known (list-place-reads.Asked, list-place-reads.Learnt, nth-reads.Asked, nth-reads.Learnt) reads.Pre reads.Post
+abbrev start : Placed → tie.After-shared-slice-known
 start c = c .before .before .before
 
 list : (c : Placed)

@@ -11,16 +11,12 @@ use Rattle.zvt.proofs.Slices.{bytes-known}
 use Rattle.zvt.proofs.ListedLaws.{part-first, list-empty, first-is, first-never}
 use Rattle.zvt.proofs.list.field_from.Statement.{statement}
 use Rattle.zvt.proofs.list.field_from.Tie as tie
-use Rattle.zvt.proofs.list.field_from.Reads as reads
-use Rattle.zvt.proofs.list.field_from.Lts as lts
-use Rattle.zvt.proofs.fields.field_bounds.Reads as field-bounds-reads
-use Rattle.zvt.proofs.format.format_of.Reads as format-of-reads
 
 -- the bounds that were found
 abbrev Found : Type 0
-Found = lts.After-b (format-of-reads.Asked, format-of-reads.Learnt, field-bounds-reads.Asked, field-bounds-reads.Learnt) reads.Pre reads.Post
+Found = tie.After-b
 
-abbrev asked : Found → lts.After-field-bounds (format-of-reads.Asked, format-of-reads.Learnt, field-bounds-reads.Asked, field-bounds-reads.Learnt) reads.Pre reads.Post
+abbrev asked : Found → tie.After-field-bounds
 asked c = c .before .before
 
 found : (c : Found)

@@ -8,19 +8,12 @@ use Rattle.zvt.proofs.Slices.{bytes-known}
 use Rattle.zvt.proofs.ValueLaws.{Here, fixed-plain, fixed-size, not-here, is-here}
 use Rattle.zvt.proofs.values.number_in.Statement.{statement}
 use Rattle.zvt.proofs.values.number_in.Tie as tie
-use Rattle.zvt.proofs.values.number_in.Reads as reads
-use Rattle.zvt.proofs.values.number_in.Lts as lts
-use Rattle.zvt.proofs.digits.number.Reads as number-reads
-use Rattle.zvt.proofs.list.named.Reads as named-reads
 
 -- the field that was found
-abbrev Found-field : Type 0
-Found-field = lts.After-f (named-reads.Asked, named-reads.Learnt, number-reads.Asked, number-reads.Learnt) reads.Pre reads.Post
-
-abbrev start : Found-field → lts.After-shared-slice-known (named-reads.Asked, named-reads.Learnt, number-reads.Asked, number-reads.Learnt) reads.Pre reads.Post
+abbrev start : tie.After-f → tie.After-shared-slice-known
 start c = c .before .before .before
 
-here : (c : Found-field) → let a = start c .before .args in Here (a .id) (a .from) (a .end) (a .s .now) (c .f .given .0 .0)
+here : (c : tie.After-f) → let a = start c .before .args in Here (a .id) (a .from) (a .end) (a .s .now) (c .f .given .0 .0)
 here c =
     is-here _ _ _ _ (bytes-known _ (start c .shared-slice-known .given)) (start c .before .pre .0) _ (fixed-plain _ _ (start c .before .pre .1 .1))
     (sym (c .before .before .named .ensures) ∙ c .f .given .1)

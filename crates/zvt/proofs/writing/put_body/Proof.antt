@@ -57,7 +57,7 @@ returns-2 c =
 
 -- ---- a password, and a list behind it
 abbrev Secured : Type 0
-Secured = lts.After-enum-told3 (put-reads.Asked, put-reads.Learnt, put-list-reads.Asked, put-list-reads.Learnt) reads.Pre reads.Post
+Secured = tie.After-enum-told3
 
 abbrev start : Secured → lts.Start (put-reads.Asked, put-reads.Learnt, put-list-reads.Asked, put-list-reads.Learnt) reads.Pre reads.Post
 start c = c .before .before .before .before
