@@ -9,13 +9,10 @@ use Rattle.zvt.proofs.field_at.Statement.{statement}
 use Rattle.zvt.proofs.field_at.Tie as tie
 
 -- where the list lies
-abbrev Placed : Type 0
-Placed = tie.After-from
-
-abbrev start : Placed → tie.After-shared-slice-known
+abbrev start : tie.After-from → tie.After-shared-slice-known
 start c = c .before .before .before
 
-list : (c : Placed)
+list : (c : tie.After-from)
     → let s = start c .before .args .s .now in
     let g = c .from .given .0 in
     ListIn (g .0) (g .1 .0) s × (listedMessage (readOf s) ≡ listedIn (g .0) (g .1 .0) s)

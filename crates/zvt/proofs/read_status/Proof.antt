@@ -8,13 +8,10 @@ use Rattle.zvt.proofs.read_status.Statement.{statement}
 use Rattle.zvt.proofs.read_status.Tie as tie
 
 -- where the list lies
-abbrev Placed : Type 0
-Placed = tie.After-from
-
-abbrev start : Placed → tie.After-shared-slice-known
+abbrev start : tie.After-from → tie.After-shared-slice-known
 start c = c .before .before .before
 
-status : (c : Placed) → let g = c .from .given .0 in StatusIn (g .0) (g .1 .0) (start c .before .args .s .now)
+status : (c : tie.After-from) → let g = c .from .given .0 in StatusIn (g .0) (g .1 .0) (start c .before .args .s .now)
 status c = status-at _ _ _ (bytes-known _ (start c .shared-slice-known .given)) (sym (c .before .before .status-place .ensures) ∙ c .from .given .1)
 
 status-place-requires : tie.Need-status-place-requires

@@ -13,13 +13,10 @@ use Rattle.zvt.proofs.list.field_from.Statement.{statement}
 use Rattle.zvt.proofs.list.field_from.Tie as tie
 
 -- the bounds that were found
-abbrev Found : Type 0
-Found = tie.After-b
-
-abbrev asked : Found → tie.After-field-bounds
+abbrev asked : tie.After-b → tie.After-field-bounds
 asked c = c .before .before
 
-found : (c : Found)
+found : (c : tie.After-b)
     → let a = asked c .before .before .before .before .before .before .args in
     let x = c .b .given .0 .0 in
     (x .from ≤ x .to) × (a .at + x .to ≤ a .end)

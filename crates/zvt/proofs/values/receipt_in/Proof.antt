@@ -26,10 +26,11 @@ unfolding formatOf among
 cast-short c =
     let d = c .before in
     let g = d .before .before .before in
-    omega
-    (arith,
-    number-small 0x87 2 _ _ _ _ (bytes-known _ (g .shared-slice-known .given)) (g .before .pre) refl refl
-    (sym (d .before .before .number-in .ensures) ∙ d .n .given .1))
+    omega (
+      arith,
+      number-small 0x87 2 _ _ _ _ (bytes-known _ (g .shared-slice-known .given)) (g .before .pre) refl refl
+          (sym (d .before .before .number-in .ensures) ∙ d .n .given .1),
+    )
 
 returns : tie.Need-returns
 unfolding receiptIn receiptOf

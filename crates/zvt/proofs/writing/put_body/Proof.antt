@@ -11,12 +11,8 @@ use Rattle.zvt.specs.Writing.{ListReads, shortListOf, shortBodyOf}
 use Rattle.zvt.proofs.Slices.{bytes-known}
 use Rattle.zvt.proofs.Back.{fits-as, put-as, rest-fits, first-lent, first-room, first-put}
 use Rattle.zvt.proofs.ShortBodies.{plain-short, list-short, secured-short}
-use Rattle.zvt.proofs.writing.put.Reads as put-reads
-use Rattle.zvt.proofs.writing.put_list.Reads as put-list-reads
 use Rattle.zvt.proofs.writing.put_body.Statement.{statement}
 use Rattle.zvt.proofs.writing.put_body.Tie as tie
-use Rattle.zvt.proofs.writing.put_body.Reads as reads
-use Rattle.zvt.proofs.writing.put_body.Lts as lts
 
 -- ---- plain bytes
 enum-told : tie.Need-enum-told
@@ -56,19 +52,16 @@ returns-2 c =
     put-as (sym (list-short (a .args .layout) (a .args .s .now) (t .enum-told2 .given .1) (a .pre .1) .1)) (c .before .before .put-list .ensures)
 
 -- ---- a password, and a list behind it
-abbrev Secured : Type 0
-Secured = tie.After-enum-told3
-
-abbrev start : Secured → lts.Start (put-reads.Asked, put-reads.Learnt, put-list-reads.Asked, put-list-reads.Learnt) reads.Pre reads.Post
+abbrev start : tie.After-enum-told3 → tie.Start
 start c = c .before .before .before .before
 
-abbrev bytes : Secured → List ℕ
+abbrev bytes : tie.After-enum-told3 → List ℕ
 bytes c = start c .args .s .now
 
-abbrev out : Secured → List ℕ
+abbrev out : tie.After-enum-told3 → List ℕ
 out c = start c .args .out .now
 
-secured : (c : Secured) → (3 ≤ length (bytes c)) × ListReads (drop 3 (bytes c))
+secured : (c : tie.After-enum-told3) → (3 ≤ length (bytes c)) × ListReads (drop 3 (bytes c))
     × (shortBodyOf (start c .args .layout) (bytes c) ≡ take 3 (bytes c) ++ shortListOf (drop 3 (bytes c)))
 secured c = secured-short _ _ (bytes-known _ (c .before .before .before .shared-slice-known .given)) (c .enum-told3 .given .1) (start c .pre .1)
 
