@@ -3,9 +3,7 @@ use mathlib.Core.Path.{_≡_, refl, ap, _∙_}
 use mathlib.Core.List.{List, []}
 use Prim.Native.Nat.{ℕ, _+_, _-_, _<_, _≤_}
 use native.Mathlib.Omega.{arith}
-use lib.ListN.{length, getD, take, drop, length-append}
-use mir.Val.{Fits}
-use mir.Syntax.{w8}
+use lib.ListN.{length, take, drop, length-append}
 use borrow.Author.Tests.{lt-ltb, le-ltb}
 use Rattle.messages.specs.declared.Fault.{Fault}
 use Rattle.messages.specs.declared.Layout.the-variants.{Plain, List as FieldList, Secured}
@@ -27,11 +25,6 @@ use Rattle.zvt.specs.Fields.{decimalsAnswer, spareList, listTally, listA
 use Rattle.zvt.specs.Body.{spareBody, bodyTally, securedAnswer, bodyAnswer}
 use Rattle.zvt.proofs.RunLaws.{part-got, part-stopped}
 use Rattle.zvt.proofs.FieldLaws.{decimals-then, decimals-got, decimals-stopped}
-
--- what is known of a slice of bytes
-pub bytes-known : (s : List ℕ) → ((i : ℕ) → Fits w8 (getD s i 0)) → Bytes s
-unfolding Bytes
-bytes-known s h i = omega (arith, h i)
 
 -- ---- fields behind a password, or behind nothing
 abbrev sizedTally : ℕ → ListRead → Tally

@@ -1,4 +1,5 @@
 -- The laws that the proofs of the functions cite, by subject.
+pub mod Slices
 pub mod Back
 pub mod ShortRuns
 pub mod Masks

@@ -141,10 +141,14 @@ module _ (s : List ℕ) (r : Refusal) (e : readAnswer s ≡ Refused r) where
   unfolding statusPlace placeOfStatus
   no-status = rw (not-accepted s r e .1)
 
-module _ (s : List ℕ) (x : Message) (b : Bytes s) (e : readAnswer s ≡ Accepted x) where
+-- bytes that were read as that message
+abbrev pub Was : List ℕ → Message → Type 0
+Was s x = Bytes s × (readAnswer s ≡ Accepted x)
+
+module _ (s : List ℕ) (x : Message) (w : Was s x) where
   pub start-small : x .start ≤ 5
   unfolding messageAnswer
-  start-small = rw (← (accepted s x e .2)) (small (accepted s x e .0 .long))
+  start-small = rw (← (accepted s x (w .1) .2)) (small (accepted s x (w .1) .0 .long))
     where
       small : (long : Bool) → headerSize long ≤ 5
       small false = omega arith
@@ -153,27 +157,27 @@ module _ (s : List ℕ) (x : Message) (b : Bytes s) (e : readAnswer s ≡ Accept
   pub place-is : (l : Layout) → layoutOf (x .class) (x .instruction) ≡ l → placeBy (x .start) (length s) l ≡ listPlace s
   unfolding listPlace messageAnswer
   place-is l h =
-      let k = accepted s x e in
-      rw (← h, ← (k .2), k .1) (layout-place s (k .0) b (k .1))
+      let k = accepted s x (w .1) in
+      rw (← h, ← (k .2), k .1) (layout-place s (k .0) (w .0) (k .1))
 
   pub other-class : (x .class ≡ 0x04 → ⊥) → Nowhere ≡ statusPlace s
   unfolding statusPlace placeOfStatus messageAnswer
   other-class n =
-      let k = accepted s x e in
+      let k = accepted s x (w .1) in
       let c : eqb (k .0 .class) 0x04 ≡ false = rw (← (k .2)) at (ne-eqb (x .class) 0x04 n) in
       rw (k .1, c)
 
   pub other-instruction : (x .instruction ≡ 0x0F → ⊥) → Nowhere ≡ statusPlace s
   unfolding statusPlace placeOfStatus messageAnswer
   other-instruction n =
-      let k = accepted s x e in
+      let k = accepted s x (w .1) in
       let c : eqb (k .0 .instruction) 0x0F ≡ false = rw (← (k .2)) at (ne-eqb (x .instruction) 0x0F n) in
       rw (k .1, c, and-false (eqb (k .0 .class) 0x04))
 
   pub status-is : x .class ≡ 0x04 → x .instruction ≡ 0x0F → Between (x .start) (length s) ≡ statusPlace s
   unfolding listPlace statusPlace placeOfStatus placeBy messageAnswer layoutOf among
   status-is c i =
-      let k = accepted s x e in
+      let k = accepted s x (w .1) in
       let class : k .0 .class ≡ 0x04 = rw (← (k .2)) at c in
       let instruction : k .0 .instruction ≡ 0x0F = rw (← (k .2)) at i in
       place-is FieldList (rw (c, i)) ∙ rw (k .1, class, instruction)

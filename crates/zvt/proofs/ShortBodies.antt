@@ -26,9 +26,9 @@ pub body-written : (layout : Layout) (s : List ℕ) (b : Body) → bodyOf 0 s la
 unfolding shortBodyOf bodyWritten
 body-written layout s b e = rw e
 
-pub plain-body : (layout : Layout) (s : List ℕ) → layout ≡ Plain → s ≡ shortBodyOf layout s
+pub plain-short : (layout : Layout) (s : List ℕ) → layout ≡ Plain → s ≡ shortBodyOf layout s
 unfolding bodyOf bodyBytes shortBody
-plain-body layout s e = rw e (sym (body-written Plain s (bytes s) refl))
+plain-short layout s e = rw e (sym (body-written Plain s (bytes s) refl))
 
 list-reads : (s : List ℕ) → BodyReads FieldList s → ListReads s × (shortBodyOf FieldList s ≡ shortListOf s)
 unfolding BodyReads ListReads bodyOf bodyBytes shortBody
@@ -39,8 +39,8 @@ list-reads s r =
           ∙ sym (list-written s (l .0) (l .1)),
     )
 
-pub list-body : (layout : Layout) (s : List ℕ) → layout ≡ FieldList → BodyReads layout s → ListReads s × (shortBodyOf layout s ≡ shortListOf s)
-list-body layout s e r = rw e (list-reads s (rw e at r))
+pub list-short : (layout : Layout) (s : List ℕ) → layout ≡ FieldList → BodyReads layout s → ListReads s × (shortBodyOf layout s ≡ shortListOf s)
+list-short layout s e r = rw e (list-reads s (rw e at r))
 
 -- a password, and the list behind it
 abbrev Behind : Layout → List ℕ → Type 0
@@ -59,8 +59,8 @@ secured-reads s bs r =
           ∙ ap (λ (w : List ℕ). take 3 s ++ w) (sym (list-written (drop 3 s) _ a)),
     )
 
-pub secured-body : (layout : Layout) (s : List ℕ) → Bytes s → layout ≡ Secured → BodyReads layout s → Behind layout s
-secured-body layout s bs e r = rw e (secured-reads s bs (rw e at r))
+pub secured-short : (layout : Layout) (s : List ℕ) → Bytes s → layout ≡ Secured → BodyReads layout s → Behind layout s
+secured-short layout s bs e r = rw e (secured-reads s bs (rw e at r))
 
 -- it is no longer than the body
 pub body-fits : (layout : Layout) (s : List ℕ) → Bytes s → BodyReads layout s → length (shortBodyOf layout s) ≤ length s

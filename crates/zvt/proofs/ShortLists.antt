@@ -149,6 +149,9 @@ pub record FirstField (s : List ℕ) (r : ListRead) (b : Bounds) : Type 0 where
   pub behind : listOf [] 0 0 (drop (b .to) s) ≡ got rest
   pub all : r .fields ≡ field ∷ rest .fields
 
+read-fields : (x y : ListRead) → got x ≡ got y → y .fields ≡ x .fields
+read-fields x y e = ap (λ (r : ListRead). r .fields) (sym (got-same e))
+
 pub first-field : (s : List ℕ) (r : ListRead) → Bytes s → listOf [] 0 0 s ≡ got r → 0 < length s → (b : Bounds) × FirstField s r b
 first-field s r bs e l =
     let k = then-got (fieldOf [] 0 0 s) _ r (sym (list-step [] 0 0 s l) ∙ e) in
@@ -169,7 +172,7 @@ first-field s r bs e l =
         short = field-short s b o (at .3) sound (at .2);
         rest = record { fields = q .0 .fields; count = 0 + countFields (q .0 .fields) };
         behind = rw (at .2) alone;
-        all = ap (λ (x : ListRead). x .fields) (sym (got-same (q .2)));
+        all = read-fields _ r (q .2);
       },
     )
 

@@ -3,19 +3,24 @@ use mathlib.Core.Path.{_≡_, refl, sym}
 use mathlib.Core.Bool.{Bool, true, false}
 use mathlib.Core.Logic.{⊎-elim}
 use mathlib.Core.List.{List, [], _∷_}
-use Prim.Native.Nat.{ℕ, zero, suc, _+_, _-_, _≤_}
+use Prim.Native.Nat.{ℕ, zero, suc, _+_, _-_, _^_, _<_, _≤_}
 use native.Mathlib.Nat.{eq-or-lt-of-le}
 use native.Mathlib.Omega.{arith}
 use lib.ListN.{length, getD}
 use lib.Dec.{eqb}
 use borrow.Author.Tests.{eqb-true}
-use Rattle.messages.specs.Reading.{pick, part}
+use Rattle.messages.specs.declared.Format.the-variants.{Fixed, Container}
+use Rattle.messages.specs.Reading.{pick, part, among}
+use Rattle.messages.specs.Digits.{numberOf}
 use Rattle.messages.specs.Fields.{formatOf, holdsDigits, Field, plain, container, fieldId}
 use Rattle.messages.specs.Grammar.{Bytes, Decimals, SizeOk, FieldOk, ListOk}
 use Rattle.messages.proofs.Readings.{pick-test}
 use Rattle.messages.proofs.ObjectSteps.{part-length}
 use Rattle.messages.proofs.ObjectBytes.{bytes-part}
 use Rattle.messages.proofs.FieldBytes.{list-sound}
+use Rattle.messages.proofs.DigitLaws.{number-fits}
+use Rattle.zvt.specs.declared.values.NumberFound.the-variants.{Missing as no-number, Number}
+use Rattle.zvt.specs.Numbers.{numberFound}
 use Rattle.zvt.specs.declared.Listed.{Listed}
 use Rattle.zvt.specs.declared.FieldAnswer.{FieldAnswer}
 use Rattle.zvt.specs.declared.FieldAnswer.the-variants.{Field as listed-field, End}
@@ -66,6 +71,34 @@ holds id seen (f ∷ fs) v n ok e =
 between-ok : (a e : ℕ) (s : List ℕ) → Bytes s → ListIn a e s → ListOk [] (fieldsBetween a e s)
 unfolding fieldsBetween listFields ListReads
 between-ok a e s b l = let r = l .reads in rw (r .1) (list-sound [] 0 0 (part a e s) (r .0) (bytes-part a e s b) (r .1) .1)
+
+-- a field of bytes in a fixed number is no container
+pub fixed-plain : (id k : ℕ) → formatOf id ≡ Fixed k → id ≡ 0x06 → ⊥
+unfolding formatOf among
+fixed-plain id k f e = let q : Container ≡ Fixed k = rw e at f in let z : _≡_ {A = ℕ} 0 1 = cc in omega arith
+
+pub fixed-size : (id k v : ℕ) → formatOf id ≡ Fixed k → SizeOk (formatOf id) v → v ≡ k
+unfolding SizeOk
+fixed-size id k v f h = rw f at h
+
+-- ---- what a number that is found says of the value
+pub number-none : (x : Found) → numberFound x ≡ no-number → x ≡ missing
+unfolding numberFound
+number-none missing e = refl
+number-none (found v) e = absurd (let z : _≡_ {A = ℕ} 0 1 = cc in omega arith)
+
+pub number-some : (x : Found) (n : ℕ) → numberFound x ≡ Number n → (v : List ℕ) × (x ≡ found v) × (n ≡ numberOf v)
+unfolding numberFound
+number-some missing n e = absurd (let z : _≡_ {A = ℕ} 0 1 = cc in omega arith)
+number-some (found v) n e = (v, refl, cc)
+
+pub number-small : (id k a e : ℕ) (s : List ℕ) (n : ℕ) → Bytes s → ListIn a e s → formatOf id ≡ Fixed k → holdsDigits id ≡ true
+    → numberFound (valueIn id (fieldsBetween a e s)) ≡ Number n → n < 100 ^ k
+unfolding Holds
+number-small id k a e s n b l f d q =
+    let v = number-some _ n q in
+    let h = holds id [] (fieldsBetween a e s) (v .0) (fixed-plain id k f) (between-ok a e s b l) (v .1) in
+    number-fits k (v .0) n (h .1 d) (fixed-size id k _ f (h .0)) (v .2)
 
 -- ---- both together
 pub record Here (id a e : ℕ) (s : List ℕ) (l : Listed) : Type 0 where

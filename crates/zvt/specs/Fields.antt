@@ -5,9 +5,9 @@ use mathlib.Core.List.{List, []}
 use lib.ListN.{length, getD, drop}
 use Rattle.messages.specs.declared.Format.{Format}
 use Rattle.messages.specs.declared.Format.the-variants.{Unknown, Fixed, Digits, Container}
-use Rattle.messages.specs.Reading.{Reading, got, refused, no, pick, unless, andThen, part}
+use Rattle.messages.specs.Reading.{Reading, got, refused, no, unless, andThen, part}
 use Rattle.messages.specs.Objects.{formSize, lenOf}
-use Rattle.messages.specs.Fields.{formatOf, unknown, holdsDigits, digitsOf, unlessUndecimal, digitsIn, Field, plain, FieldRead, ListRead, fieldBy, listOf}
+use Rattle.messages.specs.Fields.{formatOf, unknown, digitsOf, unlessUndecimal, digitsIn, Field, plain, FieldRead, ListRead, fieldBy, listOf}
 use Rattle.messages.specs.Writing.{fieldBytes, listBytes}
 use Rattle.messages.specs.Shortest.{shortField, shortList}
 use Rattle.zvt.specs.declared.objects.Bounds.{Bounds}

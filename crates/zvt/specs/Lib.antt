@@ -8,3 +8,4 @@ pub mod Answers
 pub mod Writing
 pub mod List
 pub mod Name
+pub mod Numbers

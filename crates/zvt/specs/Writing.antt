@@ -1,7 +1,6 @@
 -- What the writers of the shortest message put down. Definitions only.
 use mathlib.Core.Path.{_≡_}
 use Prim.Native.Nat.{ℕ, _+_, _-_}
-use mathlib.Core.Bool.{true, false}
 use mathlib.Core.List.{List, [], _∷_, _++_}
 use lib.ListN.{length, take, drop}
 use lib.Dec.{leb, ltb}
@@ -10,7 +9,7 @@ use Rattle.messages.specs.Reading.{Reading, got, refused, noHeader, pick, unles
 use Rattle.messages.specs.Objects.{RunRead, runOf}
 use Rattle.messages.specs.Fields.{ListRead, listOf}
 use Rattle.messages.specs.Message.{Body, bodyOf, layoutOf}
-use Rattle.messages.specs.Writing.{lenBytes, sized, runBytes, listBytes, bodyBytes, lengthBytes}
+use Rattle.messages.specs.Writing.{lenBytes, runBytes, listBytes, bodyBytes, lengthBytes}
 use Rattle.messages.specs.Shortest.{formFor, shortRun, shortList, shortBody, shorten}
 use Rattle.zvt.specs.declared.Header.{Header}
 use Rattle.zvt.specs.declared.objects.Bounds.{Bounds}

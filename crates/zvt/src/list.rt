@@ -8,8 +8,6 @@ use crate::format::layout_of;
 use crate::objects::BoundsRead;
 use messages::Layout;
 ghost use mathlib.Core.Path.{_≡_};
-ghost use Prim.Native.Nat.{_+_, _≤_};
-ghost use lib.ListN.{length};
 ghost use Rattle.zvt.specs.List.{ListIn, listPlace, statusPlace, firstListed, nthListed, namedListed, listedIn};
 
 // Where a message's list lies, from and to, if it has one.

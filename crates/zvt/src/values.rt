@@ -7,7 +7,8 @@ use messages::ToldCode;
 use messages::ToldReceipt;
 ghost use mathlib.Core.Path.{_≡_};
 ghost use Rattle.zvt.specs.List.{ListIn, fieldsBetween};
-ghost use Rattle.messages.specs.Values.{codeIn, amountIn, receiptIn};
+ghost use Rattle.zvt.specs.Numbers.{numberFound, Few};
+ghost use Rattle.messages.specs.Values.{valueIn, codeIn, amountIn, receiptIn};
 
 pub fn code_in(s: &[u8], from: usize, end: usize) -> ToldCode
     requires { ⌜ ListIn from end (now s) ⌝ }
@@ -22,17 +23,33 @@ pub fn code_in(s: &[u8], from: usize, end: usize) -> ToldCode
     }
 }
 
+// The number that a field's digits are, if the list has the field.
+pub enum NumberFound {
+    Missing,
+    Number(u64),
+}
+
+pub fn number_in(s: &[u8], from: usize, end: usize, id: u8) -> NumberFound
+    requires { ⌜ ListIn from end (now s) × Few id ⌝ }
+    ensures { λ r. ⌜ r ≡ numberFound (valueIn id (fieldsBetween from end (now (s .entry)))) ⌝ }
+{
+    match named(s, from, end, id) {
+        FieldAnswer::End => NumberFound::Missing,
+        FieldAnswer::Field(f) => {
+            let a = f.from;
+            let e = f.to;
+            NumberFound::Number(number(&s[a..e]))
+        }
+    }
+}
+
 pub fn amount_in(s: &[u8], from: usize, end: usize) -> ToldAmount
     requires { ⌜ ListIn from end (now s) ⌝ }
     ensures { λ r. ⌜ r ≡ amountIn (fieldsBetween from end (now (s .entry))) ⌝ }
 {
-    match named(s, from, end, 0x04) {
-        FieldAnswer::End => ToldAmount::Missing,
-        FieldAnswer::Field(f) => {
-            let a = f.from;
-            let e = f.to;
-            ToldAmount::Amount(number(&s[a..e]))
-        }
+    match number_in(s, from, end, 0x04) {
+        NumberFound::Missing => ToldAmount::Missing,
+        NumberFound::Number(n) => ToldAmount::Amount(n),
     }
 }
 
@@ -40,12 +57,11 @@ pub fn receipt_in(s: &[u8], from: usize, end: usize) -> ToldReceipt
     requires { ⌜ ListIn from end (now s) ⌝ }
     ensures { λ r. ⌜ r ≡ receiptIn (fieldsBetween from end (now (s .entry))) ⌝ }
 {
-    match named(s, from, end, 0x87) {
-        FieldAnswer::End => ToldReceipt::Missing,
-        FieldAnswer::Field(f) => {
-            let a = f.from;
-            let e = f.to;
-            ToldReceipt::Receipt(number(&s[a..e]) as u16)
+    match number_in(s, from, end, 0x87) {
+        NumberFound::Missing => ToldReceipt::Missing,
+        NumberFound::Number(n) => {
+            let short = n as u16;
+            ToldReceipt::Receipt(short)
         }
     }
 }

@@ -10,11 +10,10 @@ use crate::objects::head_of;
 use messages::Layout;
 ghost use mathlib.Core.Path.{_≡_};
 ghost use mathlib.Core.Bool.{true};
-ghost use mathlib.Core.List.{_++_};
 ghost use Prim.Native.Nat.{_+_, _<_, _≤_};
-ghost use lib.ListN.{length, take};
+ghost use lib.ListN.{length};
 ghost use Rattle.messages.specs.Reading.{part};
-ghost use Rattle.messages.specs.Writing.{lenBytes, sized};
+ghost use Rattle.messages.specs.Writing.{lenBytes};
 ghost use Rattle.messages.specs.Shortest.{formFor};
 ghost use Rattle.zvt.specs.Writing.{Put, headBytes, valueBytes, RunReads, shortRunOf, shortFieldOf, ListReads, shortListOf, BodyReads, shortBodyOf, headerBytes, bodyPart, headerLayout, shortMessageOf};
 

@@ -5,45 +5,34 @@ use borrow.Author.Needs.{needs}
 use Rattle.messages.specs.Grammar.{Bytes}
 use Rattle.zvt.specs.declared.FieldAnswer.the-variants.{Field as listed-field}
 use Rattle.zvt.specs.List.{namedListed, listedIn}
-use Rattle.zvt.proofs.BodyLaws.{bytes-known}
+use Rattle.zvt.proofs.Slices.{bytes-known}
 use Rattle.zvt.proofs.PlaceLaws.{StatusIn, status-at, status-nowhere}
 use Rattle.zvt.proofs.ValueLaws.{Here, is-here}
 use Rattle.zvt.proofs.NameLaws.{own-name, part-name, name-missing, name-empty, name-found, name-inside}
 use Rattle.zvt.proofs.card_name.Statement.{statement}
 use Rattle.zvt.proofs.card_name.Tie as tie
-use Rattle.zvt.proofs.card_name.Reads as reads
-use Rattle.zvt.proofs.card_name.Lts as lts
-use Rattle.zvt.proofs.list.named.Reads as named-reads
-use Rattle.zvt.proofs.list.status_place.Reads as status-place-reads
-use Rattle.zvt.proofs.name.name_size.Reads as name-size-reads
 
 -- the list of the status information, and field 8B in it
-abbrev Placed : Type 0
-Placed = lts.After-from (status-place-reads.Asked, status-place-reads.Learnt, named-reads.Asked, named-reads.Learnt, name-size-reads.Asked, name-size-reads.Learnt) reads.Pre reads.Post
-
-abbrev start : Placed → lts.After-shared-slice-known (status-place-reads.Asked, status-place-reads.Learnt, named-reads.Asked, named-reads.Learnt, name-size-reads.Asked, name-size-reads.Learnt) reads.Pre reads.Post
+abbrev start : tie.After-from → tie.After-shared-slice-known
 start c = c .before .before .before .before
 
-abbrev args : Placed → lts.Start (status-place-reads.Asked, status-place-reads.Learnt, named-reads.Asked, named-reads.Learnt, name-size-reads.Asked, name-size-reads.Learnt) reads.Pre reads.Post
+abbrev args : tie.After-from → tie.Start
 args c = start c .before
 
-bytes : (c : Placed) → Bytes (args c .args .s .now)
+bytes : (c : tie.After-from) → Bytes (args c .args .s .now)
 bytes c = bytes-known _ (start c .shared-slice-known .given)
 
-status : (c : Placed) → StatusIn (c .from .given .0 .0) (c .from .given .0 .1 .0) (args c .args .s .now)
+status : (c : tie.After-from) → StatusIn (c .from .given .0 .0) (c .from .given .0 .1 .0) (args c .args .s .now)
 status c = status-at _ _ _ (bytes c) (sym (c .before .before .status-place .ensures) ∙ c .from .given .1)
 
-abbrev Found : Type 0
-Found = lts.After-f (status-place-reads.Asked, status-place-reads.Learnt, named-reads.Asked, named-reads.Learnt, name-size-reads.Asked, name-size-reads.Learnt) reads.Pre reads.Post
-
-abbrev placed : Found → Placed
+abbrev placed : tie.After-f → tie.After-from
 placed c = c .before .before .before .before
 
-found : (c : Found)
+found : (c : tie.After-f)
     → let g = placed c .from .given .0 in namedListed 0x8B (listedIn (g .0) (g .1 .0) (args (placed c) .args .s .now)) ≡ listed-field (c .f .given .0 .0)
 found c = sym (c .before .before .named .ensures) ∙ c .f .given .1
 
-here : (c : Found) → let g = placed c .from .given .0 in Here 0x8B (g .0) (g .1 .0) (args (placed c) .args .s .now) (c .f .given .0 .0)
+here : (c : tie.After-f) → let g = placed c .from .given .0 in Here 0x8B (g .0) (g .1 .0) (args (placed c) .args .s .now) (c .f .given .0 .0)
 here c = let p = placed c in is-here 0x8B _ _ _ (bytes p) (status p .reads) _ (λ e. omega arith) (found c)
 
 status-place-requires : tie.Need-status-place-requires

@@ -3,23 +3,16 @@ use mathlib.Core.Path.{_≡_, sym, ap, _∙_}
 use borrow.Author.Needs.{needs}
 use Rattle.messages.specs.Message.{readOf}
 use Rattle.zvt.specs.List.{ListIn, listedIn, listedMessage, nthListed, fieldAnswer}
-use Rattle.zvt.proofs.BodyLaws.{bytes-known}
+use Rattle.zvt.proofs.Slices.{bytes-known}
 use Rattle.zvt.proofs.PlaceLaws.{list-at, list-nowhere}
 use Rattle.zvt.proofs.field_at.Statement.{statement}
 use Rattle.zvt.proofs.field_at.Tie as tie
-use Rattle.zvt.proofs.field_at.Reads as reads
-use Rattle.zvt.proofs.field_at.Lts as lts
-use Rattle.zvt.proofs.list.list_place.Reads as list-place-reads
-use Rattle.zvt.proofs.list.nth.Reads as nth-reads
 
 -- where the list lies
-abbrev Placed : Type 0
-Placed = lts.After-from (list-place-reads.Asked, list-place-reads.Learnt, nth-reads.Asked, nth-reads.Learnt) reads.Pre reads.Post
-
-abbrev start : Placed → lts.After-shared-slice-known (list-place-reads.Asked, list-place-reads.Learnt, nth-reads.Asked, nth-reads.Learnt) reads.Pre reads.Post
+abbrev start : tie.After-from → tie.After-shared-slice-known
 start c = c .before .before .before
 
-list : (c : Placed)
+list : (c : tie.After-from)
     → let s = start c .before .args .s .now in
     let g = c .from .given .0 in
     ListIn (g .0) (g .1 .0) s × (listedMessage (readOf s) ≡ listedIn (g .0) (g .1 .0) s)

@@ -3,7 +3,7 @@ use mathlib.Core.Path.{sym, ap, _∙_}
 use borrow.Author.Needs.{needs}
 use Rattle.zvt.specs.declared.ReadAnswer.the-variants.{Accepted}
 use Rattle.zvt.proofs.HeaderLaws.{whole-within}
-use Rattle.zvt.proofs.BodyLaws.{bytes-known}
+use Rattle.zvt.proofs.Slices.{bytes-known}
 use Rattle.zvt.proofs.MessageLaws.{read-no-header, read-no-body, read-accepted}
 use Rattle.zvt.proofs.read.Statement.{statement}
 use Rattle.zvt.proofs.read.Tie as tie

@@ -3,7 +3,7 @@ use mathlib.Core.Path.{sym, _∙_}
 use native.Mathlib.Omega.{arith}
 use borrow.Author.Needs.{needs}
 use Rattle.zvt.proofs.HeaderLaws.{first-within}
-use Rattle.zvt.proofs.BodyLaws.{bytes-known}
+use Rattle.zvt.proofs.Slices.{bytes-known}
 use Rattle.zvt.proofs.MessageLaws.{first-no-header, first-no-body, first-taken}
 use Rattle.zvt.proofs.read_first.Statement.{statement}
 use Rattle.zvt.proofs.read_first.Tie as tie

@@ -2,25 +2,16 @@
 use mathlib.Core.Path.{sym, ap, _∙_}
 use borrow.Author.Needs.{needs}
 use Rattle.messages.specs.Values.{codeIn, codeOf, amountIn, amountOf, receiptIn, receiptOf, valueIn, statusIn, statusOf}
-use Rattle.zvt.proofs.BodyLaws.{bytes-known}
+use Rattle.zvt.proofs.Slices.{bytes-known}
 use Rattle.zvt.proofs.PlaceLaws.{StatusIn, status-at, status-nowhere}
 use Rattle.zvt.proofs.read_status.Statement.{statement}
 use Rattle.zvt.proofs.read_status.Tie as tie
-use Rattle.zvt.proofs.read_status.Reads as reads
-use Rattle.zvt.proofs.read_status.Lts as lts
-use Rattle.zvt.proofs.list.status_place.Reads as status-place-reads
-use Rattle.zvt.proofs.values.amount_in.Reads as amount-in-reads
-use Rattle.zvt.proofs.values.code_in.Reads as code-in-reads
-use Rattle.zvt.proofs.values.receipt_in.Reads as receipt-in-reads
 
 -- where the list lies
-abbrev Placed : Type 0
-Placed = lts.After-from (status-place-reads.Asked, status-place-reads.Learnt, code-in-reads.Asked, code-in-reads.Learnt, amount-in-reads.Asked, amount-in-reads.Learnt, receipt-in-reads.Asked, receipt-in-reads.Learnt) reads.Pre reads.Post
-
-abbrev start : Placed → lts.After-shared-slice-known (status-place-reads.Asked, status-place-reads.Learnt, code-in-reads.Asked, code-in-reads.Learnt, amount-in-reads.Asked, amount-in-reads.Learnt, receipt-in-reads.Asked, receipt-in-reads.Learnt) reads.Pre reads.Post
+abbrev start : tie.After-from → tie.After-shared-slice-known
 start c = c .before .before .before
 
-status : (c : Placed) → let g = c .from .given .0 in StatusIn (g .0) (g .1 .0) (start c .before .args .s .now)
+status : (c : tie.After-from) → let g = c .from .given .0 in StatusIn (g .0) (g .1 .0) (start c .before .args .s .now)
 status c = status-at _ _ _ (bytes-known _ (start c .shared-slice-known .given)) (sym (c .before .before .status-place .ensures) ∙ c .from .given .1)
 
 status-place-requires : tie.Need-status-place-requires

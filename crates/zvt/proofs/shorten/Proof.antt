@@ -10,34 +10,16 @@ use Rattle.zvt.specs.declared.objects.Tally.{Tally}
 use Rattle.zvt.specs.declared.headers.HeaderRead.the-variants.{Header as header-read}
 use Rattle.zvt.specs.Header.{wholeAnswer}
 use Rattle.zvt.proofs.HeaderLaws.{whole-within}
-use Rattle.zvt.proofs.BodyLaws.{bytes-known}
+use Rattle.zvt.proofs.Slices.{bytes-known}
 use Rattle.zvt.proofs.ShortMessages.{no-header, no-body, Short, short-found, no-room, lent-out, message-room, written-out}
-use Rattle.zvt.proofs.body.body_in.Reads as body-in-reads
-use Rattle.zvt.proofs.headers.whole_header.Reads as whole-header-reads
-use Rattle.zvt.proofs.writing.message_size.Reads as message-size-reads
-use Rattle.zvt.proofs.writing.put_message.Reads as put-message-reads
 use Rattle.zvt.proofs.shorten.Statement.{statement}
 use Rattle.zvt.proofs.shorten.Tie as tie
-use Rattle.zvt.proofs.shorten.Reads as reads
-use Rattle.zvt.proofs.shorten.Lts as lts
-
-abbrev claims : lts.Claims
-claims = (
-  whole-header-reads.Asked,
-  whole-header-reads.Learnt,
-  body-in-reads.Asked,
-  body-in-reads.Learnt,
-  message-size-reads.Asked,
-  message-size-reads.Learnt,
-  put-message-reads.Asked,
-  put-message-reads.Learnt,
-)
 
 -- ---- there is a header
 abbrev Headed : Type 0
-Headed = lts.After-known-told2 claims reads.Pre reads.Post
+Headed = tie.After-known-told2
 
-abbrev begun : Headed → lts.Start claims reads.Pre reads.Post
+abbrev begun : Headed → tie.Start
 begun c = c .before .before .before .before .before .before
 
 abbrev bytes : Headed → List ℕ
@@ -51,7 +33,7 @@ headed c = sym (c .before .before .before .whole-header .ensures) ∙ c .before 
 
 -- ---- and a body
 abbrev Read : Type 0
-Read = lts.After-struct-known2 claims reads.Pre reads.Post
+Read = tie.After-struct-known2
 
 abbrev at-header : Read → Headed
 at-header c = c .before .before .before .before .before .before

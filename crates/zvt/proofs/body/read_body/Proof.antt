@@ -1,7 +1,8 @@
 -- `zvt::body::read_body` meets its contract. Assumes nothing.
 use mathlib.Core.Path.{sym, _∙_}
 use borrow.Author.Needs.{needs}
-use Rattle.zvt.proofs.BodyLaws.{bytes-known, plain-body, list-body, secured-body}
+use Rattle.zvt.proofs.Slices.{bytes-known}
+use Rattle.zvt.proofs.BodyLaws.{plain-body, list-body, secured-body}
 use Rattle.zvt.proofs.body.read_body.Statement.{statement}
 use Rattle.zvt.proofs.body.read_body.Tie as tie
 

@@ -3,7 +3,8 @@ use mathlib.Core.Path.{sym, _∙_}
 use native.Mathlib.Omega.{arith}
 use borrow.Author.Needs.{needs}
 use lib.Seq.{length-take-le}
-use Rattle.zvt.proofs.BodyLaws.{bytes-known, secured-cut, secured-undecimal, secured-stopped, secured-read}
+use Rattle.zvt.proofs.Slices.{bytes-known}
+use Rattle.zvt.proofs.BodyLaws.{secured-cut, secured-undecimal, secured-stopped, secured-read}
 use Rattle.zvt.proofs.body.read_secured.Statement.{statement}
 use Rattle.zvt.proofs.body.read_secured.Tie as tie
 

@@ -11,12 +11,12 @@ use denote.Enum.Declared.{tagOf}
 use Rattle.messages.specs.declared.Format.{Format}
 use Rattle.messages.specs.declared.Format.the-variants.{Unknown, Fixed, Digits, Container}
 use Rattle.messages.specs.Fields.{unknown}
-use Rattle.messages.specs.Grammar.{Bytes}
 use Rattle.messages.proofs.Format.{the-type}
 use Rattle.zvt.specs.declared.objects.Bounds.{Bounds}
 use Rattle.zvt.specs.declared.objects.BoundsRead.the-variants.{Bounds as bounds-read}
 use Rattle.zvt.specs.declared.objects.PartRead.the-variants.{Part}
 use Rattle.zvt.specs.Fields.{fieldBounds}
+use Rattle.zvt.proofs.Slices.{bytes-known}
 use Rattle.zvt.proofs.Tables.{allIn, at-key}
 use Rattle.zvt.proofs.FieldReads.{Answered, field-unknown, field-twice, field-no-bounds, field-value, field-plain}
 use Rattle.zvt.proofs.FieldReads.{field-no-inner, field-container}
@@ -55,11 +55,10 @@ is-container : (c : tie.After-known-told4)
     → (let a = begun (inside c .before) .args in
     Answered (a .twice) (a .n) (a .at) (a .s .now) (bounds (inside c .before))
     (c .before .r .given .0 .0 .objects) (c .before .r .given .0 .0 .spare))
-unfolding Bytes
 is-container c =
     let d = inside c .before in
     field-container _ _ _ _ (once d .if1 .left) _ (found d) (not-false _ (inside c .if2 .left))
-    (λ i. omega (arith, once d .before .before .before .before .shared-slice-known .given i)) _
+    (bytes-known _ (once d .before .before .before .before .shared-slice-known .given)) _
     (sym (c .before .before .before .read-run .ensures) ∙ c .before .r .given .1)
 
 shared-slice-read-format-of : tie.Need-shared-slice-read-format-of

@@ -6,8 +6,8 @@ use Prim.Native.Nat.{ℕ, _-_, _<_, _≤_}
 use native.Mathlib.Omega.{arith}
 use lib.ListN.{length, getD}
 use borrow.Author.Needs.{needs}
-use Rattle.messages.specs.Grammar.{Bytes}
 use Rattle.zvt.specs.Fields.{listAnswer}
+use Rattle.zvt.proofs.Slices.{bytes-known}
 use Rattle.zvt.proofs.ListLaws.{Marks, marks-none, marks-more, listFrom, GoesOn, list-begins, list-ends, list-stops, list-goes-on}
 use Rattle.zvt.proofs.fields.read_list.Statement.{statement}
 use Rattle.zvt.proofs.fields.read_list.Tie as tie
@@ -33,12 +33,11 @@ id-byte c = omega (arith, c .before .shared-slice-known2 .given (c .before .befo
 goes : (c : tie.After-known-told2 Inv-loop μ-loop)
     → (let d = c .before .before .before .before in let l = d .before .before .before .loop in
     GoesOn (begun d .args .at) (begun d .args .s .now) (l .inv .2) (l .objects) (l .i) (l .spare) (c .before .t .given .0 .0))
-unfolding Bytes
 goes c =
     let d = c .before .before .before .before in
     let l = d .before .before .before .loop in
     list-goes-on (begun d .args .at) (begun d .args .s .now) (l .inv .2) (l .objects) (l .i) (l .spare) _ (l .inv .3 .1 _ (id-byte d))
-    (d .before .before .loop-test .taken) (λ k. omega (arith, d .before .shared-slice-known2 .given k)) _
+    (d .before .before .loop-test .taken) (bytes-known _ (d .before .shared-slice-known2 .given)) _
     (sym (c .before .before .before .read-field .ensures) ∙ c .before .t .given .1)
 
 loop-holds : tie.Need-loop-holds Inv-loop μ-loop

@@ -7,23 +7,16 @@ use borrow.Author.Needs.{needs}
 use Rattle.messages.proofs.ObjectSteps.{part-length}
 use Rattle.zvt.specs.declared.FieldAnswer.the-variants.{Field}
 use Rattle.zvt.specs.List.{firstListed, listedIn}
-use Rattle.zvt.proofs.BodyLaws.{bytes-known}
+use Rattle.zvt.proofs.Slices.{bytes-known}
 use Rattle.zvt.proofs.ListedLaws.{part-first, list-empty, first-is, first-never}
 use Rattle.zvt.proofs.list.field_from.Statement.{statement}
 use Rattle.zvt.proofs.list.field_from.Tie as tie
-use Rattle.zvt.proofs.list.field_from.Reads as reads
-use Rattle.zvt.proofs.list.field_from.Lts as lts
-use Rattle.zvt.proofs.fields.field_bounds.Reads as field-bounds-reads
-use Rattle.zvt.proofs.format.format_of.Reads as format-of-reads
 
 -- the bounds that were found
-abbrev Found : Type 0
-Found = lts.After-b (format-of-reads.Asked, format-of-reads.Learnt, field-bounds-reads.Asked, field-bounds-reads.Learnt) reads.Pre reads.Post
-
-abbrev asked : Found → lts.After-field-bounds (format-of-reads.Asked, format-of-reads.Learnt, field-bounds-reads.Asked, field-bounds-reads.Learnt) reads.Pre reads.Post
+abbrev asked : tie.After-b → tie.After-field-bounds
 asked c = c .before .before
 
-found : (c : Found)
+found : (c : tie.After-b)
     → let a = asked c .before .before .before .before .before .before .args in
     let x = c .b .given .0 .0 in
     (x .from ≤ x .to) × (a .at + x .to ≤ a .end)

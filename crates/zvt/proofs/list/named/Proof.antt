@@ -5,13 +5,10 @@ use Prim.Native.Nat.{_-_}
 use native.Mathlib.Omega.{arith}
 use borrow.Author.Needs.{needs}
 use Rattle.zvt.specs.List.{ListIn, namedListed, listedIn}
-use Rattle.zvt.proofs.BodyLaws.{bytes-known}
+use Rattle.zvt.proofs.Slices.{bytes-known}
 use Rattle.zvt.proofs.ListedLaws.{Next, next-in, named-end, named-here, named-next}
 use Rattle.zvt.proofs.list.named.Statement.{statement}
 use Rattle.zvt.proofs.list.named.Tie as tie
-use Rattle.zvt.proofs.list.named.Reads as reads
-use Rattle.zvt.proofs.list.named.Lts as lts
-use Rattle.zvt.proofs.list.field_from.Reads as field-from-reads
 
 abbrev Inv-loop : tie.InvT-loop
 Inv-loop s from end id at₀ at = ListIn at end s × (namedListed id (listedIn at end s) ≡ namedListed id (listedIn from end s))
@@ -20,14 +17,11 @@ abbrev μ-loop : tie.MeasureT-loop
 μ-loop s from end id at₀ at = end - at
 
 -- where the field that was found, and the list behind it, lie
-abbrev Found : Type 0
-Found = lts.After-f (field-from-reads.Asked, field-from-reads.Learnt) reads.Pre reads.Post Inv-loop μ-loop
-
-abbrev asked : Found → lts.After-field-from (field-from-reads.Asked, field-from-reads.Learnt) reads.Pre reads.Post Inv-loop μ-loop
-asked c = c .before .before
-
-next : (c : Found) → let a = asked c .before .before .before .args in Next (asked c .before .loop .at) (a .end) (a .s .now) (c .f .given .0 .0)
-next c = next-in _ _ _ _ (bytes-known _ (asked c .before .before .shared-slice-known .given)) (asked c .before .loop .inv .0) (sym (asked c .field-from .ensures) ∙ c .f .given .1)
+next : (c : tie.After-f Inv-loop μ-loop)
+    → let l = c .before .before .before in let a = l .before .before .args in Next (l .loop .at) (a .end) (a .s .now) (c .f .given .0 .0)
+next c =
+    let l = c .before .before .before in
+    next-in _ _ _ _ (bytes-known _ (l .before .shared-slice-known .given)) (l .loop .inv .0) (sym (c .before .before .field-from .ensures) ∙ c .f .given .1)
 
 loop-holds : tie.Need-loop-holds Inv-loop μ-loop
 loop-holds c = (c .before .pre, refl)
@@ -50,19 +44,19 @@ enum-known-f c = search needs
 returns-2 : tie.Need-returns-2 Inv-loop μ-loop
 returns-2 c =
     let f = c .before .before .before in
-    let g = asked f .before in
+    let g = f .before .before .before in
     sym (named-here _ _ _ (c .if1 .taken)) ∙ ap (namedListed _) (sym (next f .2)) ∙ g .loop .inv .1
 
 loop-less : tie.Need-loop-less Inv-loop μ-loop
 loop-less c =
     let f = c .before .before .before in
-    let g = asked f .before in
+    let g = f .before .before .before in
     omega (arith, next f .0, next f .1 .order)
 
 loop-again : tie.Need-loop-again Inv-loop μ-loop
 loop-again c =
     let f = c .before .before .before in
-    let g = asked f .before in
+    let g = f .before .before .before in
     (next f .1, sym (named-next _ _ _ (c .if1 .left)) ∙ ap (namedListed _) (sym (next f .2)) ∙ g .loop .inv .1)
 
 pub named-spec : {M : Type 1} → statement M

@@ -13,6 +13,7 @@ use Rattle.zvt.specs.Objects.{headAnswer, oneAnswer}
 use Rattle.zvt.specs.declared.objects.Bounds.{Bounds}
 use Rattle.zvt.specs.declared.objects.BoundsRead.the-variants.{Bounds as bounds-read}
 use Rattle.zvt.specs.declared.objects.PartRead.the-variants.{Part}
+use Rattle.zvt.proofs.Slices.{bytes-known}
 use Rattle.zvt.proofs.RunLaws.{run-empty, run-no-first, run-no-rest, Goes, run-goes, first-in}
 use Rattle.zvt.proofs.RunLaws.{one-full, one-deep, value-in, Answered, one-no-head, one-leaf, one-no-inner, one-branch}
 use Rattle.zvt.proofs.objects.read_one.Reads as read-one
@@ -73,8 +74,7 @@ module _ (t : ℕ) where
   found c = sym (c .before .before .before .head-of .ensures) ∙ c .before .b .given .1
 
   one-bytes : (c : Room) → Bytes (begun c .args .s .now)
-  unfolding Bytes
-  one-bytes c i = omega (arith, c .before .before .shared-slice-known .given i)
+  one-bytes c = bytes-known _ (c .before .before .shared-slice-known .given)
 
   abbrev Is : One → Bounds → ℕ → ℕ → Type 0
   Is a = Answered (a .args .left) (a .args .n) (a .args .at) (a .args .s .now)
@@ -184,8 +184,7 @@ module _ (t : ℕ) where
   first c = sym (c .before .before .before .read-one .ensures) ∙ c .before .o .given .1
 
   run-bytes : (c : First) → Bytes (started c .args .s .now)
-  unfolding Bytes
-  run-bytes c i = omega (arith, c .before .before .before .before .before .shared-slice-known .given i)
+  run-bytes c = bytes-known _ (c .before .before .before .before .before .shared-slice-known .given)
 
   abbrev before-rest : read-run-lts.After-struct-known2 run-claims run-at read-run.Post → First
   before-rest c = c .before .before .before .before .before .before .before

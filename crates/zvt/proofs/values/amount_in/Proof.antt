@@ -1,77 +1,36 @@
 -- `zvt::values::amount_in` meets its contract: field 04 has six bytes. Assumes nothing.
-use mathlib.Core.Path.{sym, ap, _∙_}
+use mathlib.Core.Path.{refl, sym, ap, _∙_}
 use native.Mathlib.Omega.{arith}
 use borrow.Author.Needs.{needs}
 use Rattle.messages.specs.Reading.{among}
 use Rattle.messages.specs.Fields.{formatOf}
-use Rattle.messages.specs.Grammar.{SizeOk}
 use Rattle.messages.specs.declared.ToldAmount.the-variants.{Amount}
 use Rattle.messages.specs.Values.{amountOf, amountIn}
-use Rattle.zvt.proofs.BodyLaws.{bytes-known}
-use Rattle.zvt.proofs.ValueLaws.{Here, not-here, is-here}
+use Rattle.zvt.proofs.ValueLaws.{number-none, number-some}
 use Rattle.zvt.proofs.values.amount_in.Statement.{statement}
 use Rattle.zvt.proofs.values.amount_in.Tie as tie
-use Rattle.zvt.proofs.values.amount_in.Reads as reads
-use Rattle.zvt.proofs.values.amount_in.Lts as lts
-use Rattle.zvt.proofs.digits.number.Reads as number-reads
-use Rattle.zvt.proofs.list.named.Reads as named-reads
 
--- the field that was found
-abbrev Found-field : Type 0
-Found-field = lts.After-f (named-reads.Asked, named-reads.Learnt, number-reads.Asked, number-reads.Learnt) reads.Pre reads.Post
-
-abbrev start : Found-field → lts.After-shared-slice-known (named-reads.Asked, named-reads.Learnt, number-reads.Asked, number-reads.Learnt) reads.Pre reads.Post
-start c = c .before .before .before
-
-here : (c : Found-field) → let a = start c .before .args in Here 0x04 (a .from) (a .end) (a .s .now) (c .f .given .0 .0)
-here c =
-    is-here 0x04 _ _ _ (bytes-known _ (start c .shared-slice-known .given)) (start c .before .pre) _ (λ e. omega arith)
-    (sym (c .before .before .named .ensures) ∙ c .f .given .1)
-
-named-requires : tie.Need-named-requires
-named-requires c κs = search needs
+number-in-requires : tie.Need-number-in-requires
+unfolding formatOf among
+number-in-requires c κs = (c .before .pre, (6, refl, omega arith))
 
 enum-told : tie.Need-enum-told
 enum-told c = search needs
 
-enum-known-f : tie.Need-enum-known-f
-enum-known-f c = search needs
-
-sub-number : tie.Need-sub-number
-sub-number c = here (c .before) .order
-
-part-number-start : tie.Need-part-number-start
-part-number-start c = let h = here (c .before) in omega (arith, h .order, h .inside)
-
-part-number-end : tie.Need-part-number-end
-part-number-end c = let h = here (c .before) in omega (arith, h .order, h .inside)
-
-number-requires : tie.Need-number-requires
-unfolding SizeOk formatOf among
-number-requires c κs =
-    let h = here (c .before .before) in
-    omega (arith, h .long, h .size)
+enum-known-n : tie.Need-enum-known-n
+enum-known-n c = search needs
 
 returns : tie.Need-returns
 unfolding amountIn amountOf
-returns c =
-    let g = c .before .before .before in
-    sym (ap amountOf (not-here 0x04 _ _ _ (bytes-known _ (g .shared-slice-known .given)) (g .before .pre) (sym (c .before .before .named .ensures) ∙ c .enum-told .given .1)))
+returns c = sym (ap amountOf (number-none _ (sym (c .before .before .number-in .ensures) ∙ c .enum-told .given .1)))
 
 returns-2 : tie.Need-returns-2
 unfolding amountIn amountOf
-returns-2 c = sym (ap amountOf (here (c .before .before .before) .value) ∙ ap Amount (sym (c .number .ensures)))
+returns-2 c =
+    let d = c .before in
+    let v = number-some _ _ (sym (d .before .before .number-in .ensures) ∙ d .n .given .1) in
+    sym (ap amountOf (v .1) ∙ ap Amount (sym (v .2)))
 
 pub amount-in-spec : {M : Type 1} → statement M
 amount-in-spec =
-    tie.close
-    (tie.spec
-    named-requires
-    enum-told
-    enum-known-f
-    sub-number
-    part-number-start
-    part-number-end
-    number-requires
-    returns
-    returns-2)
+    tie.close (tie.spec number-in-requires enum-told enum-known-n returns returns-2)

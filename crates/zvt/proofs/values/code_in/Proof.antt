@@ -7,23 +7,17 @@ use Rattle.messages.specs.Fields.{formatOf}
 use Rattle.messages.specs.Grammar.{SizeOk}
 use Rattle.messages.specs.declared.ToldCode.the-variants.{Code}
 use Rattle.messages.specs.Values.{codeOf, codeIn}
-use Rattle.zvt.proofs.BodyLaws.{bytes-known}
+use Rattle.zvt.proofs.Slices.{bytes-known}
 use Rattle.zvt.proofs.ListedLaws.{part-first}
 use Rattle.zvt.proofs.ValueLaws.{Here, not-here, is-here}
 use Rattle.zvt.proofs.values.code_in.Statement.{statement}
 use Rattle.zvt.proofs.values.code_in.Tie as tie
-use Rattle.zvt.proofs.values.code_in.Reads as reads
-use Rattle.zvt.proofs.values.code_in.Lts as lts
-use Rattle.zvt.proofs.list.named.Reads as named-reads
 
 -- the field that was found
-abbrev Found-field : Type 0
-Found-field = lts.After-f (named-reads.Asked, named-reads.Learnt) reads.Pre reads.Post
-
-abbrev start : Found-field → lts.After-shared-slice-known (named-reads.Asked, named-reads.Learnt) reads.Pre reads.Post
+abbrev start : tie.After-f → tie.After-shared-slice-known
 start c = c .before .before .before
 
-here : (c : Found-field) → let a = start c .before .args in Here 0x27 (a .from) (a .end) (a .s .now) (c .f .given .0 .0)
+here : (c : tie.After-f) → let a = start c .before .args in Here 0x27 (a .from) (a .end) (a .s .now) (c .f .given .0 .0)
 here c =
     is-here 0x27 _ _ _ (bytes-known _ (start c .shared-slice-known .given)) (start c .before .pre) _ (λ e. omega arith)
     (sym (c .before .before .named .ensures) ∙ c .f .given .1)

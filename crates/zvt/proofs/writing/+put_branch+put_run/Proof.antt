@@ -12,7 +12,7 @@ use borrow.Fn.PlainCycle.{Measures, is, falls, and}
 use Rattle.messages.proofs.ObjectSteps.{tail, part-length}
 use Rattle.zvt.specs.declared.objects.Bounds.{Bounds}
 use Rattle.zvt.specs.Writing.{Put, headBytes, valueBytes, shortRunOf}
-use Rattle.zvt.proofs.BodyLaws.{bytes-known}
+use Rattle.zvt.proofs.Slices.{bytes-known}
 use Rattle.zvt.proofs.Back.{put-none, put-as, lend, lent-all, says, head-room, then-head}
 use Rattle.zvt.proofs.Back.{rest-fits, first-lend, first-lent, first-room, first-put}
 use Rattle.zvt.proofs.ShortRuns.{short-none, objectOf, FirstObject, object-in, object-never, object-run, object-plain, run-fits}

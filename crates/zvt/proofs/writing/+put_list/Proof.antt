@@ -11,7 +11,7 @@ use borrow.Fn.PlainCycle.{Measures, is, falls, and}
 use Rattle.messages.proofs.ObjectSteps.{tail}
 use Rattle.zvt.specs.declared.objects.Bounds.{Bounds}
 use Rattle.zvt.specs.Writing.{shortFieldOf, shortListOf}
-use Rattle.zvt.proofs.BodyLaws.{bytes-known}
+use Rattle.zvt.proofs.Slices.{bytes-known}
 use Rattle.zvt.proofs.Back.{put-none, put-as, rest-fits, first-lend, first-lent, first-room, first-put}
 use Rattle.zvt.proofs.ShortLists.{list-short-none, FieldToPut, field-is, field-never}
 use Rattle.zvt.proofs.writing.put_list.Reads as put-list

@@ -8,15 +8,11 @@ use lib.Seq.{length-take-le}
 use borrow.Author.Needs.{needs}
 use Rattle.messages.proofs.ObjectSteps.{tail}
 use Rattle.zvt.specs.Writing.{ListReads, shortListOf, shortBodyOf}
-use Rattle.zvt.proofs.BodyLaws.{bytes-known}
+use Rattle.zvt.proofs.Slices.{bytes-known}
 use Rattle.zvt.proofs.Back.{fits-as, put-as, rest-fits, first-lent, first-room, first-put}
-use Rattle.zvt.proofs.ShortBodies.{plain-body, list-body, secured-body}
-use Rattle.zvt.proofs.writing.put.Reads as put-reads
-use Rattle.zvt.proofs.writing.put_list.Reads as put-list-reads
+use Rattle.zvt.proofs.ShortBodies.{plain-short, list-short, secured-short}
 use Rattle.zvt.proofs.writing.put_body.Statement.{statement}
 use Rattle.zvt.proofs.writing.put_body.Tie as tie
-use Rattle.zvt.proofs.writing.put_body.Reads as reads
-use Rattle.zvt.proofs.writing.put_body.Lts as lts
 
 -- ---- plain bytes
 enum-told : tie.Need-enum-told
@@ -25,7 +21,7 @@ enum-told c = search needs
 put-requires : tie.Need-put-requires
 put-requires c κs =
     let a = c .before .before .before .before .before in
-    fits-as (plain-body (a .args .layout) (a .args .s .now) (c .before .enum-told .given .1)) (a .pre .2)
+    fits-as (plain-short (a .args .layout) (a .args .s .now) (c .before .enum-told .given .1)) (a .pre .2)
 
 same-length : tie.Need-same-length
 same-length c = search needs
@@ -34,7 +30,7 @@ returns : tie.Need-returns
 returns c =
     let t = c .before .before .before .before in
     let a = t .before .before .before .before in
-    put-as (plain-body (a .args .layout) (a .args .s .now) (t .enum-told .given .1)) (c .before .before .put .ensures)
+    put-as (plain-short (a .args .layout) (a .args .s .now) (t .enum-told .given .1)) (c .before .before .put .ensures)
 
 -- ---- a list
 enum-told-2 : tie.Need-enum-told-2
@@ -43,7 +39,7 @@ enum-told-2 c = search needs
 put-list-requires : tie.Need-put-list-requires
 put-list-requires c κs =
     let a = c .before .before .before .before .before in
-    let f = list-body (a .args .layout) (a .args .s .now) (c .before .enum-told2 .given .1) (a .pre .1) in
+    let f = list-short (a .args .layout) (a .args .s .now) (c .before .enum-told2 .given .1) (a .pre .1) in
     (a .pre .0, f .0, fits-as (sym (f .1)) (a .pre .2))
 
 same-length-2 : tie.Need-same-length-2
@@ -53,24 +49,21 @@ returns-2 : tie.Need-returns-2
 returns-2 c =
     let t = c .before .before .before .before in
     let a = t .before .before .before .before in
-    put-as (sym (list-body (a .args .layout) (a .args .s .now) (t .enum-told2 .given .1) (a .pre .1) .1)) (c .before .before .put-list .ensures)
+    put-as (sym (list-short (a .args .layout) (a .args .s .now) (t .enum-told2 .given .1) (a .pre .1) .1)) (c .before .before .put-list .ensures)
 
 -- ---- a password, and a list behind it
-abbrev Secured : Type 0
-Secured = lts.After-enum-told3 (put-reads.Asked, put-reads.Learnt, put-list-reads.Asked, put-list-reads.Learnt) reads.Pre reads.Post
-
-abbrev start : Secured → lts.Start (put-reads.Asked, put-reads.Learnt, put-list-reads.Asked, put-list-reads.Learnt) reads.Pre reads.Post
+abbrev start : tie.After-enum-told3 → tie.Start
 start c = c .before .before .before .before
 
-abbrev bytes : Secured → List ℕ
+abbrev bytes : tie.After-enum-told3 → List ℕ
 bytes c = start c .args .s .now
 
-abbrev out : Secured → List ℕ
+abbrev out : tie.After-enum-told3 → List ℕ
 out c = start c .args .out .now
 
-secured : (c : Secured) → (3 ≤ length (bytes c)) × ListReads (drop 3 (bytes c))
+secured : (c : tie.After-enum-told3) → (3 ≤ length (bytes c)) × ListReads (drop 3 (bytes c))
     × (shortBodyOf (start c .args .layout) (bytes c) ≡ take 3 (bytes c) ++ shortListOf (drop 3 (bytes c)))
-secured c = secured-body _ _ (bytes-known _ (c .before .before .before .shared-slice-known .given)) (c .enum-told3 .given .1) (start c .pre .1)
+secured c = secured-short _ _ (bytes-known _ (c .before .before .before .shared-slice-known .given)) (c .enum-told3 .given .1) (start c .pre .1)
 
 enum-told-3 : tie.Need-enum-told-3
 enum-told-3 c = search needs

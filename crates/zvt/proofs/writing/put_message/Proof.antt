@@ -9,32 +9,17 @@ use Rattle.messages.specs.declared.Layout.{Layout}
 use Rattle.messages.proofs.ObjectSteps.{part-length}
 use Rattle.messages.proofs.ObjectBytes.{bytes-part}
 use Rattle.zvt.specs.Writing.{Put, shortBodyOf, headerBytes, headerLayout, bodyPart, shortMessageOf}
-use Rattle.zvt.proofs.BodyLaws.{bytes-known}
+use Rattle.zvt.proofs.Slices.{bytes-known}
 use Rattle.zvt.proofs.Back.{put-as, lent-all, says, head-room, then-head}
 use Rattle.zvt.proofs.ShortBodies.{body-fits}
-use Rattle.zvt.proofs.format.layout_of.Reads as layout-of-reads
-use Rattle.zvt.proofs.writing.put_body.Reads as put-body-reads
-use Rattle.zvt.proofs.writing.put_header.Reads as put-header-reads
 use Rattle.zvt.proofs.writing.put_message.Statement.{statement}
 use Rattle.zvt.proofs.writing.put_message.Tie as tie
-use Rattle.zvt.proofs.writing.put_message.Reads as reads
-use Rattle.zvt.proofs.writing.put_message.Lts as lts
 
 -- ---- the body is there
-abbrev claims : lts.Claims
-claims = (
-  layout-of-reads.Asked,
-  layout-of-reads.Learnt,
-  put-body-reads.Asked,
-  put-body-reads.Learnt,
-  put-header-reads.Asked,
-  put-header-reads.Learnt,
-)
-
 abbrev Inner : Type 0
-Inner = lts.After-slice-known2 claims reads.Pre reads.Post
+Inner = tie.After-slice-known2
 
-abbrev begun : Inner → lts.Start claims reads.Pre reads.Post
+abbrev begun : Inner → tie.Start
 begun c = c .before .before .before .before .before .before .before .before .before
 
 abbrev body : Inner → List ℕ
