@@ -14,7 +14,7 @@ use Rattle.messages.specs.Message.{Message, firstOf}
 use Rattle.messages.specs.Writing.{messageBytes}
 use Rattle.messages.specs.Grammar.{Bytes}
 use Rattle.messages.proofs.MessageBytes.{first-sound}
-use Rattle.zvt.proofs.BodyLaws.{bytes-known}
+use Rattle.zvt.proofs.Slices.{bytes-known}
 use Rattle.listing.specs.declared.Line.{Line}
 use Rattle.listing.specs.declared.Line.the-variants.{Message as message-line, Last}
 use Rattle.listing.specs.Text.{text, write}

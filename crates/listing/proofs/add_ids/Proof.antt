@@ -6,7 +6,7 @@ use native.Mathlib.Omega.{arith}
 use borrow.Author.Needs.{needs}
 use Rattle.messages.specs.Message.{readOf}
 use Rattle.zvt.specs.List.{listedMessage, fieldAnswer}
-use Rattle.zvt.proofs.BodyLaws.{bytes-known}
+use Rattle.zvt.proofs.Slices.{bytes-known}
 use Rattle.listing.specs.Text.{Text, text, write}
 use Rattle.listing.specs.Lines.{listedText}
 use Rattle.listing.proofs.TextLaws.{write-room}

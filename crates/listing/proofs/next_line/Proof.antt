@@ -2,7 +2,7 @@
 use mathlib.Core.Path.{sym, _∙_}
 use native.Mathlib.Omega.{arith}
 use lib.Seq.{length-take-le}
-use Rattle.zvt.proofs.BodyLaws.{bytes-known}
+use Rattle.zvt.proofs.Slices.{bytes-known}
 use Rattle.listing.proofs.ShownLaws.{shown-so}
 use Rattle.listing.proofs.NextLaws.{shown-last, shown-message, next-over, next-none, next-refused, next-within, next-message}
 use borrow.Author.Needs.{needs}

@@ -1,7 +1,7 @@
 -- `desk::hear::aborted` meets its contract. Assumes nothing.
 use native.Mathlib.Omega.{arith}
 use borrow.Author.Tests.{ne-eqb}
-use Rattle.zvt.proofs.BodyLaws.{bytes-known}
+use Rattle.zvt.proofs.Slices.{bytes-known}
 use Rattle.desk.specs.Hear.{abortedIn}
 use Rattle.desk.proofs.HearLaws.{extent}
 use Rattle.desk.proofs.hear.aborted.Statement.{statement}

@@ -2,7 +2,7 @@
 use mathlib.Core.Path.{_≡_, sym, _∙_}
 use mathlib.Core.Bool.{true}
 use borrow.Author.Tests.{not-true, not-false}
-use Rattle.zvt.proofs.BodyLaws.{bytes-known}
+use Rattle.zvt.proofs.Slices.{bytes-known}
 use Rattle.desk.specs.Hear.{ReadIn, inCourse}
 use Rattle.desk.proofs.HearLaws.{running-refused, running-unread, running-moved}
 use borrow.Author.Needs.{needs}
