@@ -1,6 +1,6 @@
 -- What a lane does at a message, case by case. Assumes nothing.
 use mathlib.Core.Path.{_≡_, refl, sym, ap, _∙_}
-use mathlib.Core.Bool.{Bool, true, false, not, and-false, false≢true}
+use mathlib.Core.Bool.{Bool, true, false, not, _&&_, and-false, false≢true}
 use mathlib.Core.List.{List, [], _∷_}
 use Prim.Native.Nat.{ℕ, _+_, _*_, _<_}
 use native.Mathlib.Omega.{arith}
@@ -29,28 +29,34 @@ use Rattle.zvt.specs.Answers.{refusalOf, asHeaderAnswer, headerAnswer, messageA
 use Rattle.zvt.proofs.Tables.{allIn, allFrom, anyOf, NoneOf, at-key, Table, keyed, ranged}
 use Rattle.course.specs.declared.Kind.{Kind}
 use Rattle.course.specs.declared.Kind.the-variants.{Sale, Refund, Reversal}
+use Rattle.course.specs.declared.Outcome.{Outcome}
+use Rattle.course.specs.declared.Outcome.the-variants.{Unclear, Declined, Approved}
 use Rattle.course.specs.declared.Phase.{Phase}
 use Rattle.course.specs.declared.Phase.the-variants.{Idle, Waiting, Running}
 use Rattle.course.specs.declared.Lane.{Lane}
 use Rattle.course.specs.declared.Moved.the-variants.{Refused, Stays, Becomes}
 use Rattle.course.specs.Lanes.{reportedLane, toldReceipt, receiptBy}
-use Rattle.course.specs.Course.{isReversal, abortedBy, reportedBy, movedBy, afterBody, heardWaiting, heardRunning, heardBy, afterHeader, isIdle, heard}
-use Rattle.course.proofs.Kind as kind
+use Rattle.course.specs.Course.{isApproved, isSale, isReversal, abortedBy, reportedBy, movedBy, afterBody, heardWaiting, heardRunning, heardBy, afterHeader, isIdle, heard}
+use Rattle.course.specs.Turnover.{gain, loss}
 use Rattle.course.proofs.Phase as phase
 use Rattle.desk.specs.Hear.{ReadIn, headerBy, inCourse, waitingMoved, runningMoved, abortedIn, reportedAs, movedAs}
 
--- ---- kinds
-pub not-reversal : (k : Kind) → OneOf (0 ∷ 1 ∷ []) (tagOf kind.the-type k) → isReversal k ≡ false
-unfolding isReversal allIn
-not-reversal Sale h = refl
-not-reversal Refund h = refl
-not-reversal Reversal h = absurd (false≢true (at-key (λ t. not (eqb t 2)) (0 ∷ 1 ∷ []) refl _ h))
-
-pub receipt-told : (k : Kind) (named : ℕ) (told : ToldReceipt) → isReversal k ≡ false → receiptBy k named told ≡ toldReceipt told
+-- ---- kinds and outcomes
+pub receipt-kind : (k : Kind) (named : ℕ) (told : ToldReceipt) → receiptBy k named told ≡ pick (isReversal k) named (toldReceipt told)
 unfolding isReversal receiptBy
-receipt-told Sale named told h = refl
-receipt-told Refund named told h = refl
-receipt-told Reversal named told h = absurd (false≢true (sym h))
+receipt-kind Sale named told = refl
+receipt-kind Refund named told = refl
+receipt-kind Reversal named told = refl
+
+-- an approved sale adds, any other approved line takes away
+pub turnover-by : (o : Outcome) (k : Kind) (n : ℕ) → let sale = isApproved o && isSale k in
+    (gain o k n ≡ pick sale n 0) × (loss o k n ≡ pick sale 0 (pick (isApproved o) n 0))
+unfolding isApproved isSale gain loss
+turnover-by Unclear k n = (refl, refl)
+turnover-by Declined k n = (refl, refl)
+turnover-by Approved Sale n = (refl, refl)
+turnover-by Approved Refund n = (refl, refl)
+turnover-by Approved Reversal n = (refl, refl)
 
 -- ---- the pairs of the course
 byClass : ℕ → Table Bool
