@@ -1,6 +1,6 @@
 -- What a lane does at a message, case by case. Assumes nothing.
 use mathlib.Core.Path.{_≡_, refl, sym, ap, _∙_}
-use mathlib.Core.Bool.{Bool, true, false, not, _&&_, and-false, false≢true}
+use mathlib.Core.Bool.{Bool, true, false, not, _&&_, _||_, and-true, and-false, or-true, or-false, false≢true}
 use mathlib.Core.List.{List, [], _∷_}
 use Prim.Native.Nat.{ℕ, _+_, _*_, _<_}
 use native.Mathlib.Omega.{arith}
@@ -8,7 +8,7 @@ use lib.ListN.{length}
 use lib.Dec.{eqb}
 use types.Run.{OneOf}
 use denote.Enum.Declared.{tagOf}
-use borrow.Author.Tests.{eqb-true, ne-eqb}
+use borrow.Author.Tests.{eq-eqb, eqb-true, ne-eqb}
 use Rattle.messages.specs.declared.ToldReceipt.{ToldReceipt}
 use Rattle.messages.specs.declared.Refusal.{Refusal}
 use Rattle.messages.specs.declared.Status.{Status}
@@ -34,9 +34,10 @@ use Rattle.course.specs.declared.Outcome.the-variants.{Unclear, Declined, Appro
 use Rattle.course.specs.declared.Phase.{Phase}
 use Rattle.course.specs.declared.Phase.the-variants.{Idle, Waiting, Running}
 use Rattle.course.specs.declared.Lane.{Lane}
+use Rattle.course.specs.declared.Line.{Line}
 use Rattle.course.specs.declared.Moved.the-variants.{Refused, Stays, Becomes}
 use Rattle.course.specs.Lanes.{reportedLane, toldReceipt, receiptBy}
-use Rattle.course.specs.Course.{isApproved, isSale, isReversal, abortedBy, reportedBy, movedBy, afterBody, heardWaiting, heardRunning, heardBy, afterHeader, isIdle, heard}
+use Rattle.course.specs.Course.{isApproved, isSale, isReversal, concerns, abortedBy, reportedBy, movedBy, afterBody, heardWaiting, heardRunning, heardBy, afterHeader, isIdle, heard}
 use Rattle.course.specs.Turnover.{gain, loss}
 use Rattle.course.proofs.Phase as phase
 use Rattle.desk.specs.Hear.{ReadIn, headerBy, inCourse, waitingMoved, runningMoved, abortedIn, reportedAs, movedAs}
@@ -57,6 +58,16 @@ turnover-by Declined k n = (refl, refl)
 turnover-by Approved Sale n = (refl, refl)
 turnover-by Approved Refund n = (refl, refl)
 turnover-by Approved Reversal n = (refl, refl)
+
+-- a line of that lane with that receipt
+pub concerns-same : (i receipt : ℕ) (l : Line) → l .lane ≡ i → l .receipt ≡ receipt
+    → let o = isApproved (l .outcome) in concerns i receipt l ≡ pick (isReversal (l .kind)) o (o && isSale (l .kind))
+unfolding concerns
+concerns-same i receipt l e f = rw (eq-eqb _ _ e, eq-eqb _ _ f) (go (isApproved (l .outcome)) (isSale (l .kind)) (isReversal (l .kind)))
+  where
+    go : (o s r : Bool) → (o && ((s || r) && true)) ≡ pick r o (o && s)
+    go o s true = rw (or-true, and-true)
+    go o s false = rw (or-false, and-true)
 
 -- ---- the pairs of the course
 byClass : ℕ → Table Bool

@@ -1,8 +1,10 @@
 -- `desk::hear::concerns` meets its contract. Assumes nothing.
-use mathlib.Core.Path.{sym, _∙_}
-use mathlib.Core.Bool.{and-true, and-false, or-true, or-false}
-use borrow.Author.Tests.{eq-eqb, ne-eqb}
-use Rattle.course.specs.Course.{concerns}
+use mathlib.Core.Path.{_≡_}
+use mathlib.Core.Bool.{_&&_, and-false}
+use borrow.Author.Tests.{ne-eqb}
+use Rattle.messages.specs.Reading.{pick}
+use Rattle.course.specs.Course.{isApproved, isSale, concerns}
+use Rattle.desk.proofs.HearLaws.{concerns-same}
 use borrow.Author.Needs.{needs}
 use Rattle.desk.proofs.hear.concerns.Statement.{statement}
 use Rattle.desk.proofs.hear.concerns.Tie as tie
@@ -15,31 +17,17 @@ returns-2 : tie.Need-returns-2
 unfolding concerns
 returns-2 c = rw (ne-eqb _ _ (c .if2 .taken), and-false, and-false, and-false)
 
+-- past both tests
+same : (c : tie.After-is-reversal) → let a = c .before .before .before .before .before .args in
+    let o = isApproved (a .l .outcome) in
+    concerns (a .lane) (a .receipt) (a .l) ≡ pick (c .is-reversal .result) o (o && isSale (a .l .kind))
+same c = rw (c .is-reversal .ensures) (concerns-same _ _ _ (c .before .before .before .if1 .left) (c .before .if2 .left))
+
 returns-3 : tie.Need-returns-3
-unfolding concerns
-returns-3 c =
-    let k = c .before .before in
-    rw (
-      c .approved .ensures,
-      eq-eqb _ _ (k .before .before .before .if1 .left),
-      eq-eqb _ _ (k .before .if2 .left),
-      sym (k .is-reversal .ensures) ∙ c .before .if3 .taken,
-      or-true,
-      and-true,
-    )
+returns-3 c = rw (c .approved .ensures, same (c .before .before), c .before .if3 .taken)
 
 returns-4 : tie.Need-returns-4
-unfolding concerns
-returns-4 c =
-    let k = c .before .before in
-    rw (
-      c .approved-sale .ensures,
-      eq-eqb _ _ (k .before .before .before .if1 .left),
-      eq-eqb _ _ (k .before .if2 .left),
-      sym (k .is-reversal .ensures) ∙ c .before .if3 .left,
-      or-false,
-      and-true,
-    )
+returns-4 c = rw (c .approved-sale .ensures, same (c .before .before), c .before .if3 .left)
 
 pub concerns-spec : {M : Type 1} → statement M
 concerns-spec =
