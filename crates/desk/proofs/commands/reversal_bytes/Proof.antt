@@ -12,4 +12,5 @@ returns c = rw (c .before .password-bytes .ensures, c .receipt-bytes .ensures, r
 pub reversal-bytes-spec : {M : Type 1} → statement M
 reversal-bytes-spec =
     tie.close
-    (tie.spec (λ c κs. search needs) (λ c κs. search needs) (λ c. search needs) (λ c. search needs) (λ c. search needs) (λ c. search needs) (λ c. search needs) returns)
+    (tie.spec (λ c κs. search needs) (λ c κs. search needs) (λ c. search needs) (λ c. search needs) (λ c. search needs)
+    (λ c. search needs) (λ c. search needs) returns)

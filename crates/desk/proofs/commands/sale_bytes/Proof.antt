@@ -12,4 +12,5 @@ returns c = rw (c .amount-bytes .ensures, sale-bytes)
 pub sale-bytes-spec : {M : Type 1} → statement M
 sale-bytes-spec =
     tie.close
-    (tie.spec (λ c κs. search needs) (λ c. search needs) (λ c. search needs) (λ c. search needs) (λ c. search needs) (λ c. search needs) (λ c. search needs) returns)
+    (tie.spec (λ c κs. search needs) (λ c. search needs) (λ c. search needs) (λ c. search needs) (λ c. search needs) (λ c. search needs)
+    (λ c. search needs) returns)
