@@ -1,6 +1,6 @@
 -- What a lane does at a message, case by case. Assumes nothing.
 use mathlib.Core.Path.{_≡_, refl, sym, ap, _∙_}
-use mathlib.Core.Bool.{Bool, true, false, not, and-false, false≢true}
+use mathlib.Core.Bool.{Bool, true, false, not, _&&_, _||_, and-true, and-false, or-true, or-false, false≢true}
 use mathlib.Core.List.{List, [], _∷_}
 use Prim.Native.Nat.{ℕ, _+_, _*_, _<_}
 use native.Mathlib.Omega.{arith}
@@ -8,7 +8,7 @@ use lib.ListN.{length}
 use lib.Dec.{eqb}
 use types.Run.{OneOf}
 use denote.Enum.Declared.{tagOf}
-use borrow.Author.Tests.{eqb-true, ne-eqb}
+use borrow.Author.Tests.{eq-eqb, eqb-true, ne-eqb}
 use Rattle.messages.specs.declared.ToldReceipt.{ToldReceipt}
 use Rattle.messages.specs.declared.Refusal.{Refusal}
 use Rattle.messages.specs.declared.Status.{Status}
@@ -29,28 +29,45 @@ use Rattle.zvt.specs.Answers.{refusalOf, asHeaderAnswer, headerAnswer, messageA
 use Rattle.zvt.proofs.Tables.{allIn, allFrom, anyOf, NoneOf, at-key, Table, keyed, ranged}
 use Rattle.course.specs.declared.Kind.{Kind}
 use Rattle.course.specs.declared.Kind.the-variants.{Sale, Refund, Reversal}
+use Rattle.course.specs.declared.Outcome.{Outcome}
+use Rattle.course.specs.declared.Outcome.the-variants.{Unclear, Declined, Approved}
 use Rattle.course.specs.declared.Phase.{Phase}
 use Rattle.course.specs.declared.Phase.the-variants.{Idle, Waiting, Running}
 use Rattle.course.specs.declared.Lane.{Lane}
+use Rattle.course.specs.declared.Line.{Line}
 use Rattle.course.specs.declared.Moved.the-variants.{Refused, Stays, Becomes}
 use Rattle.course.specs.Lanes.{reportedLane, toldReceipt, receiptBy}
-use Rattle.course.specs.Course.{isReversal, abortedBy, reportedBy, movedBy, afterBody, heardWaiting, heardRunning, heardBy, afterHeader, isIdle, heard}
-use Rattle.course.proofs.Kind as kind
+use Rattle.course.specs.Course.{isApproved, isSale, isReversal, concerns, abortedBy, reportedBy, movedBy, afterBody, heardWaiting, heardRunning, heardBy, afterHeader, isIdle, heard}
+use Rattle.course.specs.Turnover.{gain, loss}
 use Rattle.course.proofs.Phase as phase
 use Rattle.desk.specs.Hear.{ReadIn, headerBy, inCourse, waitingMoved, runningMoved, abortedIn, reportedAs, movedAs}
 
--- ---- kinds
-pub not-reversal : (k : Kind) → OneOf (0 ∷ 1 ∷ []) (tagOf kind.the-type k) → isReversal k ≡ false
-unfolding isReversal allIn
-not-reversal Sale h = refl
-not-reversal Refund h = refl
-not-reversal Reversal h = absurd (false≢true (at-key (λ t. not (eqb t 2)) (0 ∷ 1 ∷ []) refl _ h))
-
-pub receipt-told : (k : Kind) (named : ℕ) (told : ToldReceipt) → isReversal k ≡ false → receiptBy k named told ≡ toldReceipt told
+-- ---- kinds and outcomes
+pub receipt-kind : (k : Kind) (named : ℕ) (told : ToldReceipt) → receiptBy k named told ≡ pick (isReversal k) named (toldReceipt told)
 unfolding isReversal receiptBy
-receipt-told Sale named told h = refl
-receipt-told Refund named told h = refl
-receipt-told Reversal named told h = absurd (false≢true (sym h))
+receipt-kind Sale named told = refl
+receipt-kind Refund named told = refl
+receipt-kind Reversal named told = refl
+
+-- an approved sale adds, any other approved line takes away
+pub turnover-by : (o : Outcome) (k : Kind) (n : ℕ) → let sale = isApproved o && isSale k in
+    (gain o k n ≡ pick sale n 0) × (loss o k n ≡ pick sale 0 (pick (isApproved o) n 0))
+unfolding isApproved isSale gain loss
+turnover-by Unclear k n = (refl, refl)
+turnover-by Declined k n = (refl, refl)
+turnover-by Approved Sale n = (refl, refl)
+turnover-by Approved Refund n = (refl, refl)
+turnover-by Approved Reversal n = (refl, refl)
+
+-- a line of that lane with that receipt
+pub concerns-same : (i receipt : ℕ) (l : Line) → l .lane ≡ i → l .receipt ≡ receipt
+    → let o = isApproved (l .outcome) in concerns i receipt l ≡ pick (isReversal (l .kind)) o (o && isSale (l .kind))
+unfolding concerns
+concerns-same i receipt l e f = rw (eq-eqb _ _ e, eq-eqb _ _ f) (go (isApproved (l .outcome)) (isSale (l .kind)) (isReversal (l .kind)))
+  where
+    go : (o s r : Bool) → (o && ((s || r) && true)) ≡ pick r o (o && s)
+    go o s true = rw (or-true, and-true)
+    go o s false = rw (or-false, and-true)
 
 -- ---- the pairs of the course
 byClass : ℕ → Table Bool

@@ -19,7 +19,7 @@ ghost use mathlib.Core.Bool.{_&&_};
 ghost use Prim.Native.Nat.{_≤_};
 ghost use lib.ListN.{length};
 ghost use Rattle.course.specs.Lanes.{receiptBy, lineAt};
-ghost use Rattle.course.specs.Course.{isApproved, isSale, concerns, completedBy, settledAs, amountBy, answered, heard};
+ghost use Rattle.course.specs.Course.{isApproved, isSale, isReversal, concerns, completedBy, settledAs, amountBy, answered, heard};
 ghost use Rattle.course.specs.Desk.{place};
 ghost use Rattle.course.specs.Turnover.{gain, loss};
 ghost use Rattle.desk.specs.Hear.{inCourse, waitingMoved, runningMoved, abortedIn, reportedAs, movedAs, ReadIn, replied};
@@ -42,21 +42,43 @@ pub fn place(l: Lane) -> usize
     }
 }
 
+pub fn is_sale(k: Kind) -> bool
+    ensures { λ r. ⌜ r ≡ isSale k ⌝ }
+{
+    match k {
+        Kind::Sale => true,
+        Kind::Refund => false,
+        Kind::Reversal => false,
+    }
+}
+
+pub fn is_reversal(k: Kind) -> bool
+    ensures { λ r. ⌜ r ≡ isReversal k ⌝ }
+{
+    match k {
+        Kind::Sale => false,
+        Kind::Refund => false,
+        Kind::Reversal => true,
+    }
+}
+
+pub fn approved(l: Line) -> bool
+    ensures { λ r. ⌜ r ≡ isApproved (l .outcome) ⌝ }
+{
+    let o = l.outcome;
+    match o {
+        Outcome::Unclear => false,
+        Outcome::Declined => false,
+        Outcome::Approved => true,
+    }
+}
+
 // An approved sale.
 pub fn approved_sale(l: Line) -> bool
     ensures { λ r. ⌜ r ≡ (isApproved (l .outcome) && isSale (l .kind)) ⌝ }
 {
-    let o = l.outcome;
     let k = l.kind;
-    match o {
-        Outcome::Unclear => false,
-        Outcome::Declined => false,
-        Outcome::Approved => match k {
-            Kind::Sale => true,
-            Kind::Refund => false,
-            Kind::Reversal => false,
-        },
-    }
+    both(approved(l), is_sale(k))
 }
 
 // An approved sale or reversal of that lane with that receipt.
@@ -69,56 +91,34 @@ pub fn concerns(l: Line, lane: u8, receipt: u16) -> bool
     if l.receipt != receipt {
         return false;
     }
-    let o = l.outcome;
     let k = l.kind;
-    match o {
-        Outcome::Unclear => false,
-        Outcome::Declined => false,
-        Outcome::Approved => match k {
-            Kind::Sale => true,
-            Kind::Refund => false,
-            Kind::Reversal => true,
-        },
+    if is_reversal(k) {
+        return approved(l);
     }
+    approved_sale(l)
 }
 
 pub fn gain(l: Line) -> u64
     ensures { λ r. ⌜ r ≡ gain (l .outcome) (l .kind) (l .settled) ⌝ }
 {
-    let o = l.outcome;
-    let k = l.kind;
-    match o {
-        Outcome::Unclear => 0,
-        Outcome::Declined => 0,
-        Outcome::Approved => match k {
-            Kind::Sale => l.settled,
-            Kind::Refund => 0,
-            Kind::Reversal => 0,
-        },
-    }
+    if approved_sale(l) { l.settled } else { 0 }
 }
 
+// An approved line that is no sale takes away.
 pub fn loss(l: Line) -> u64
     ensures { λ r. ⌜ r ≡ loss (l .outcome) (l .kind) (l .settled) ⌝ }
 {
-    let o = l.outcome;
-    let k = l.kind;
-    match o {
-        Outcome::Unclear => 0,
-        Outcome::Declined => 0,
-        Outcome::Approved => match k {
-            Kind::Sale => 0,
-            Kind::Refund => l.settled,
-            Kind::Reversal => l.settled,
-        },
+    if approved_sale(l) {
+        return 0;
     }
+    if approved(l) { l.settled } else { 0 }
 }
 
 // The receipt named for a reversal, else the one told, else 0.
 pub fn receipt_by(kind: Kind, named: u16, told: ToldReceipt) -> u16
     ensures { λ r. ⌜ r ≡ receiptBy kind named told ⌝ }
 {
-    if let Kind::Reversal = kind {
+    if is_reversal(kind) {
         return named;
     }
     match told {
@@ -160,7 +160,7 @@ pub fn amount_by(told: ToldAmount, asked: u64) -> u64
 pub fn settled_as(kind: Kind, asked: u64, amount: u64) -> Moved
     ensures { λ r. ⌜ r ≡ settledAs kind asked amount ⌝ }
 {
-    if let Kind::Reversal = kind {
+    if is_reversal(kind) {
         if amount != asked {
             return Moved::Ends(Outcome::Unclear, 0, 0);
         }

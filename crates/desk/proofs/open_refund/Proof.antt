@@ -8,30 +8,6 @@ use borrow.Author.Needs.{needs}
 use Rattle.desk.proofs.open_refund.Statement.{statement}
 use Rattle.desk.proofs.open_refund.Tie as tie
 
-password-ok-requires : tie.Need-password-ok-requires
-password-ok-requires c κs = search needs
-
-amount-ok-requires : tie.Need-amount-ok-requires
-amount-ok-requires c κs = search needs
-
-both-requires : tie.Need-both-requires
-both-requires c κs = search needs
-
-refund-bytes-requires : tie.Need-refund-bytes-requires
-refund-bytes-requires c κs = search needs
-
-waiting-requires : tie.Need-waiting-requires
-waiting-requires c κs = search needs
-
-slice-aggregate-open : tie.Need-slice-aggregate-open
-slice-aggregate-open c = search needs
-
-open-requires : tie.Need-open-requires
-open-requires c κs = search needs
-
-same-length : tie.Need-same-length
-same-length c = search needs
-
 returns : tie.Need-returns
 returns c =
     let o = c .before .before in
@@ -50,13 +26,5 @@ returns c =
 pub open-refund-spec : {M : Type 1} → statement M
 open-refund-spec =
     tie.close
-    (tie.spec
-    password-ok-requires
-    amount-ok-requires
-    both-requires
-    refund-bytes-requires
-    waiting-requires
-    slice-aggregate-open
-    open-requires
-    same-length
-    returns)
+    (tie.spec (λ c κs. search needs) (λ c κs. search needs) (λ c κs. search needs) (λ c κs. search needs) (λ c κs. search needs)
+    (λ c. search needs) (λ c κs. search needs) (λ c. search needs) returns)

@@ -8,36 +8,6 @@ use borrow.Author.Needs.{needs}
 use Rattle.desk.proofs.open_reversal.Statement.{statement}
 use Rattle.desk.proofs.open_reversal.Tie as tie
 
-password-ok-requires : tie.Need-password-ok-requires
-password-ok-requires c κs = search needs
-
-receipt-ok-requires : tie.Need-receipt-ok-requires
-receipt-ok-requires c κs = search needs
-
-both-requires : tie.Need-both-requires
-both-requires c κs = search needs
-
-last-line-requires : tie.Need-last-line-requires
-last-line-requires c κs = search needs
-
-reversal-bytes-requires : tie.Need-reversal-bytes-requires
-reversal-bytes-requires c κs = search needs
-
-waiting-requires : tie.Need-waiting-requires
-waiting-requires c κs = search needs
-
-approved-sale-requires : tie.Need-approved-sale-requires
-approved-sale-requires c κs = search needs
-
-slice-aggregate-open : tie.Need-slice-aggregate-open
-slice-aggregate-open c = search needs
-
-open-requires : tie.Need-open-requires
-open-requires c κs = search needs
-
-same-length : tie.Need-same-length
-same-length c = search needs
-
 returns : tie.Need-returns
 returns c =
     let o = c .before .before in
@@ -58,15 +28,5 @@ returns c =
 pub open-reversal-spec : {M : Type 1} → statement M
 open-reversal-spec =
     tie.close
-    (tie.spec
-    password-ok-requires
-    receipt-ok-requires
-    both-requires
-    last-line-requires
-    reversal-bytes-requires
-    waiting-requires
-    approved-sale-requires
-    slice-aggregate-open
-    open-requires
-    same-length
-    returns)
+    (tie.spec (λ c κs. search needs) (λ c κs. search needs) (λ c κs. search needs) (λ c κs. search needs) (λ c κs. search needs)
+    (λ c κs. search needs) (λ c κs. search needs) (λ c. search needs) (λ c κs. search needs) (λ c. search needs) returns)

@@ -1,63 +1,16 @@
 -- `desk::commands::refund_bytes` meets its contract. Assumes nothing.
-use Rattle.messages.specs.Reading.{among}
-use Rattle.messages.specs.Fields.{formatOf}
-use Rattle.messages.specs.Writing.{fieldBytes, lengthIn, listBytes, bodyBytes, lengthBytes, messageBytes}
 use Rattle.messages.specs.Digits.{digitBytesOf}
-use Rattle.course.specs.Commands.{refundCommand, refundBytes}
+use Rattle.course.proofs.Commands.{refund-bytes}
 use borrow.Author.Needs.{needs}
 use Rattle.desk.proofs.commands.refund_bytes.Statement.{statement}
 use Rattle.desk.proofs.commands.refund_bytes.Tie as tie
 
-password-bytes-requires : tie.Need-password-bytes-requires
-password-bytes-requires c κs = search needs
-
-amount-bytes-requires : tie.Need-amount-bytes-requires
-amount-bytes-requires c κs = search needs
-
-array-read-t9 : tie.Need-array-read-t9
-array-read-t9 c = search needs
-
-array-read-t12 : tie.Need-array-read-t12
-array-read-t12 c = search needs
-
-array-read-t15 : tie.Need-array-read-t15
-array-read-t15 c = search needs
-
-array-read-t18 : tie.Need-array-read-t18
-array-read-t18 c = search needs
-
-array-read-t21 : tie.Need-array-read-t21
-array-read-t21 c = search needs
-
-array-read-t24 : tie.Need-array-read-t24
-array-read-t24 c = search needs
-
-array-read-t27 : tie.Need-array-read-t27
-array-read-t27 c = search needs
-
-array-read-t30 : tie.Need-array-read-t30
-array-read-t30 c = search needs
-
-array-read-t33 : tie.Need-array-read-t33
-array-read-t33 c = search needs
-
 returns : tie.Need-returns
-unfolding refundBytes refundCommand messageBytes bodyBytes listBytes fieldBytes lengthIn formatOf among lengthBytes digitBytesOf
-returns c = rw (c .before .password-bytes .ensures, c .amount-bytes .ensures)
+unfolding digitBytesOf
+returns c = rw (c .before .password-bytes .ensures, c .amount-bytes .ensures, refund-bytes)
 
 pub refund-bytes-spec : {M : Type 1} → statement M
 refund-bytes-spec =
     tie.close
-    (tie.spec
-    password-bytes-requires
-    amount-bytes-requires
-    array-read-t9
-    array-read-t12
-    array-read-t15
-    array-read-t18
-    array-read-t21
-    array-read-t24
-    array-read-t27
-    array-read-t30
-    array-read-t33
-    returns)
+    (tie.spec (λ c κs. search needs) (λ c κs. search needs) (λ c. search needs) (λ c. search needs) (λ c. search needs)
+    (λ c. search needs) (λ c. search needs) (λ c. search needs) (λ c. search needs) (λ c. search needs) (λ c. search needs) returns)

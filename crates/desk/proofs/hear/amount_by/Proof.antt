@@ -4,19 +4,6 @@ use borrow.Author.Needs.{needs}
 use Rattle.desk.proofs.hear.amount_by.Statement.{statement}
 use Rattle.desk.proofs.hear.amount_by.Tie as tie
 
-enum-told : tie.Need-enum-told
-enum-told c = search needs
-
-enum-known-told : tie.Need-enum-known-told
-enum-known-told c = search needs
-
-returns : tie.Need-returns
-unfolding amountBy
-returns c = search needs
-
-returns-2 : tie.Need-returns-2
-unfolding amountBy
-returns-2 c = search needs
-
 pub amount-by-spec : {M : Type 1} → statement M
-amount-by-spec = tie.close (tie.spec enum-told enum-known-told returns returns-2)
+unfolding amountBy
+amount-by-spec = tie.close (tie.spec (λ c. search needs) (λ c. search needs) (λ c. search needs) (λ c. search needs))

@@ -1,59 +1,12 @@
 -- `desk::hear::approved_sale` meets its contract. Assumes nothing.
-use Rattle.course.specs.Course.{isApproved, isSale}
 use borrow.Author.Needs.{needs}
 use Rattle.desk.proofs.hear.approved_sale.Statement.{statement}
 use Rattle.desk.proofs.hear.approved_sale.Tie as tie
 
-enum-told : tie.Need-enum-told
-enum-told c = search needs
-
-enum-told-2 : tie.Need-enum-told-2
-enum-told-2 c = search needs
-
-enum-told-3 : tie.Need-enum-told-3
-enum-told-3 c = search needs
-
-enum-told-4 : tie.Need-enum-told-4
-enum-told-4 c = search needs
-
-enum-told-5 : tie.Need-enum-told-5
-enum-told-5 c = search needs
-
-enum-told-6 : tie.Need-enum-told-6
-enum-told-6 c = search needs
-
 returns : tie.Need-returns
-unfolding isApproved isSale
-returns c = search needs
-
-returns-2 : tie.Need-returns-2
-unfolding isApproved isSale
-returns-2 c = search needs
-
-returns-3 : tie.Need-returns-3
-unfolding isApproved isSale
-returns-3 c = search needs
-
-returns-4 : tie.Need-returns-4
-unfolding isApproved isSale
-returns-4 c = search needs
-
-returns-5 : tie.Need-returns-5
-unfolding isApproved isSale
-returns-5 c = search needs
+returns c = rw (c .both .ensures, c .before .before .approved .ensures, c .before .is-sale .ensures)
 
 pub approved-sale-spec : {M : Type 1} → statement M
 approved-sale-spec =
     tie.close
-    (tie.spec
-    enum-told
-    enum-told-2
-    enum-told-3
-    enum-told-4
-    enum-told-5
-    enum-told-6
-    returns
-    returns-2
-    returns-3
-    returns-4
-    returns-5)
+    (tie.spec (λ c κs. search needs) (λ c κs. search needs) (λ c κs. search needs) returns)

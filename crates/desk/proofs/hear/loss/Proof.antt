@@ -1,59 +1,24 @@
 -- `desk::hear::loss` meets its contract. Assumes nothing.
-use Rattle.course.specs.Turnover.{loss}
+use mathlib.Core.Path.{sym, _∙_}
+use Rattle.desk.proofs.HearLaws.{turnover-by}
 use borrow.Author.Needs.{needs}
 use Rattle.desk.proofs.hear.loss.Statement.{statement}
 use Rattle.desk.proofs.hear.loss.Tie as tie
 
-enum-told : tie.Need-enum-told
-enum-told c = search needs
-
-enum-told-2 : tie.Need-enum-told-2
-enum-told-2 c = search needs
-
-enum-told-3 : tie.Need-enum-told-3
-enum-told-3 c = search needs
-
-enum-told-4 : tie.Need-enum-told-4
-enum-told-4 c = search needs
-
-enum-told-5 : tie.Need-enum-told-5
-enum-told-5 c = search needs
-
-enum-told-6 : tie.Need-enum-told-6
-enum-told-6 c = search needs
-
 returns : tie.Need-returns
-unfolding loss
-returns c = search needs
+returns c = rw (turnover-by _ _ _ .1, sym (c .before .approved-sale .ensures) ∙ c .if1 .taken)
 
 returns-2 : tie.Need-returns-2
-unfolding loss
-returns-2 c = search needs
+returns-2 c =
+    let a = c .before in
+    rw (turnover-by _ _ _ .1, sym (a .before .before .approved-sale .ensures) ∙ a .before .if1 .left, sym (a .approved .ensures) ∙ c .if2 .taken)
 
 returns-3 : tie.Need-returns-3
-unfolding loss
-returns-3 c = search needs
-
-returns-4 : tie.Need-returns-4
-unfolding loss
-returns-4 c = search needs
-
-returns-5 : tie.Need-returns-5
-unfolding loss
-returns-5 c = search needs
+returns-3 c =
+    let a = c .before in
+    rw (turnover-by _ _ _ .1, sym (a .before .before .approved-sale .ensures) ∙ a .before .if1 .left, sym (a .approved .ensures) ∙ c .if2 .left)
 
 pub loss-spec : {M : Type 1} → statement M
 loss-spec =
     tie.close
-    (tie.spec
-    enum-told
-    enum-told-2
-    enum-told-3
-    enum-told-4
-    enum-told-5
-    enum-told-6
-    returns
-    returns-2
-    returns-3
-    returns-4
-    returns-5)
+    (tie.spec (λ c κs. search needs) returns (λ c κs. search needs) returns-2 returns-3)
