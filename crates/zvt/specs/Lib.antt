@@ -1,5 +1,5 @@
--- What each function of the reader answers. Answers, Writing, List and Name speak of the public functions, the last part of each
--- file first; the others of the steps behind them. Values and digits stand in crate messages.
+-- What each function of the reader answers. Answers, List, Name and the end of Writing speak of the public functions; the rest of
+-- the steps behind them. Values and digits stand in crate messages.
 pub mod Objects
 pub mod Fields
 pub mod Header
