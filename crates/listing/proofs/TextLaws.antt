@@ -7,12 +7,12 @@ use native.Mathlib.Nat.{mod-eq-of-lt, div-lt-iff-lt-mul, le-div-iff-mul-le, pow-
 use native.Mathlib.Numerals.{add-one}
 use native.Mathlib.Omega.{arith}
 use borrow.Author.Tests.{lt-ltb, le-ltb, ltb-true}
-use lib.ListN.{length, drop, set, getD, length-set, drop-of-length-le}
-use lib.Seq.{drop-cons}
+use lib.ListN.{length, take, drop, set, getD, replicate, length-set, drop-of-length-le, replicate-append-replicate}
+use lib.Seq.{drop-cons, take-all, take-suc-set}
 use lib.Dec.{ltb}
 use Rattle.messages.specs.Reading.{pick}
 use Rattle.io.specs.Digits.{digits, glyph, Fewest}
-use Rattle.listing.specs.Text.{Text, text, one, write, decimalBy, decimalText}
+use Rattle.listing.specs.Text.{Text, text, one, write, hexText, hexes, bytesText, decimalBy, decimalText}
 
 pub add-full : (b at : ℕ) (out : List ℕ) → length out ≤ at → text at out ≡ write (b ∷ []) (text at out)
 unfolding write one
@@ -74,6 +74,32 @@ written-in w at entry r exit e h =
 pub write-none : (v : List ℕ) (i : ℕ) (t : Text) → length v ≤ i → write (drop i v) t ≡ t
 unfolding write
 write-none v i t h = rw (drop-of-length-le v h)
+
+-- bytes as hex, one after the other
+pub hex-step : (v : List ℕ) (i : ℕ) (t : Text) → i < length v → write (hexes (drop i v)) t ≡ write (hexes (drop (i + 1) v)) (write (hexText (getD v i 0)) t)
+unfolding hexes
+hex-step v i t h = rw (add-one, drop-cons v i 0) (write-append (hexText (getD v i 0)) (hexes (drop (suc i) v)) t)
+
+pub hex-none : (v : List ℕ) (i : ℕ) (t : Text) → length v ≤ i → write (hexes (drop i v)) t ≡ t
+unfolding hexes write
+hex-none v i t h = rw (drop-of-length-le v h)
+
+pub bytes-none : (v : List ℕ) → length v ≡ 0 → bytesText v ≡ 45 ∷ []
+unfolding bytesText
+bytes-none [] h = refl
+bytes-none (b ∷ v) h = absurd (omega arith)
+
+pub bytes-some : (v : List ℕ) → (length v ≡ 0 → ⊥) → bytesText v ≡ hexes v
+unfolding bytesText
+bytes-some [] h = absurd (h refl)
+bytes-some (b ∷ v) h = refl
+
+-- ---- a buffer that is filled byte by byte
+pub filled-more : (b i : ℕ) (out : List ℕ) → i < length out → take i out ≡ replicate i b → take (i + 1) (set out i b) ≡ replicate (i + 1) b
+filled-more b i out h e = rw (add-one, take-suc-set out i b h, e) (replicate-append-replicate i 1 b ∙ rw add-one)
+
+pub filled-all : (b i : ℕ) (out : List ℕ) → length out ≡ i → take i out ≡ replicate i b → out ≡ replicate (length out) b
+filled-all b i out h e = rw h (sym (take-all i out (omega arith)) ∙ e)
 
 -- ---- decimal numbers: the fewest digits that hold n
 glyph-digit : (d : ℕ) → d < 10 → glyph d ≡ 48 + d

@@ -1,8 +1,8 @@
 -- Text in a lent buffer, and numbers as text. Definitions only.
-use Prim.Native.Nat.{ℕ, zero, suc, _+_, _/_, _%_}
+use Prim.Native.Nat.{ℕ, zero, suc, _+_, _-_, _/_, _%_}
 use mathlib.Core.List.{List, [], _∷_, _++_}
 use lib.ListN.{length, set}
-use lib.Dec.{ltb}
+use lib.Dec.{ltb, leb}
 use Rattle.messages.specs.Reading.{pick}
 
 -- a buffer whose first at bytes are taken
@@ -27,6 +27,22 @@ hexDigit d = pick (ltb d 10) (48 + d) (55 + d)
 
 unfoldable pub hexText : ℕ → List ℕ
 hexText b = hexDigit (b / 16) ∷ (hexDigit (b % 16) ∷ [])
+
+unfoldable pub hexes : List ℕ → List ℕ
+hexes [] = []
+hexes (b ∷ s) = hexText b ++ hexes s
+
+-- bytes as hex, `-` for none
+unfoldable pub bytesText : List ℕ → List ℕ
+bytesText [] = 45 ∷ []
+bytesText (b ∷ s) = hexes (b ∷ s)
+
+-- the value of a hex digit of either case, and 16 for any other byte
+abbrev pub hexValue : ℕ → ℕ
+hexValue b =
+    pick (ltb b 48) 16
+    (pick (leb b 57) (b - 48)
+    (pick (ltb b 65) 16 (pick (leb b 70) (b - 55) (pick (ltb b 97) 16 (pick (leb b 102) (b - 87) 16)))))
 
 -- "decimal": the digits of n, which has at most f + 1
 unfoldable pub decimalBy : ℕ → ℕ → List ℕ

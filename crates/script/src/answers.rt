@@ -7,8 +7,10 @@ use course::Phase;
 use listing::add_ids;
 use listing::text::add;
 use listing::text::add_all;
+use listing::text::add_bytes;
 use listing::text::add_decimal;
 use listing::text::add_hex;
+use listing::text::fill;
 use messages::Status;
 use messages::ToldAmount;
 use messages::ToldCode;
@@ -16,20 +18,6 @@ use messages::ToldReceipt;
 use zvt::Message;
 ghost use mathlib.Core.Path.{_≡_};
 ghost use lib.IntN.{natAbs};
-
-// Bytes as hex, `-` for none.
-pub(crate) fn add_bytes(v: &[u8], at: usize, out: &mut [u8]) -> usize {
-    if v.len() == 0 {
-        return add(b'-', at, out);
-    }
-    let mut to = at;
-    let mut i: usize = 0;
-    while i < v.len() {
-        to = add_hex(v[i], to, out);
-        i += 1;
-    }
-    to
-}
 
 // A number with a blank before it.
 fn add_number(n: u64, at: usize, out: &mut [u8]) -> usize {
@@ -218,11 +206,7 @@ fn add_form(shortest: bool, at: usize, out: &mut [u8]) -> usize {
 const BLANK: u8 = 0xC3;
 
 pub(crate) fn blank(lent: &mut [u8]) {
-    let mut i: usize = 0;
-    while i < lent.len() {
-        lent[i] = BLANK;
-        i += 1;
-    }
+    fill(BLANK, lent);
 }
 
 // Whether a call changed a byte behind the first n.

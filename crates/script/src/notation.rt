@@ -1,5 +1,6 @@
 // Numbers and bytes as a script writes them.
 use check::same;
+use listing::text::hex_value;
 ghost use Prim.Native.Nat.{_*_, _≤_};
 ghost use lib.ListN.{length};
 ghost use Rattle.script.specs.Script.{sizeOf};
@@ -61,18 +62,6 @@ pub(crate) fn number_of(w: &[u8]) -> Number {
         i += 1;
     }
     Number::Value(n)
-}
-
-// The value of a hexadecimal digit, and 16 for any other byte.
-fn hex_value(b: u8) -> u8
-    ensures { λ r. ⌜ r ≤ 16 ⌝ }
-{
-    match b {
-        b'0'..=b'9' => b - b'0',
-        b'A'..=b'F' => b - b'A' + 10,
-        b'a'..=b'f' => b - b'a' + 10,
-        _ => 16,
-    }
 }
 
 // The bytes of so many pairs of hexadecimal digits go to the start of out; false where one is none.

@@ -11,6 +11,7 @@ use course::Lane;
 use course::LaneAnswer;
 use course::LineAnswer;
 use course::Reply;
+use listing::text::add_bytes;
 use zvt::ReadAnswer;
 use zvt::ShortenAnswer;
 ghost use Prim.Native.Nat.{_≤_};
@@ -106,7 +107,7 @@ fn shorten(s: &[u8], lent: &mut [u8], out: &mut [u8]) -> usize {
 }
 
 fn name<'a>(s: &'a [u8], own: &'a [u8], out: &mut [u8]) -> usize {
-    let to = answers::add_bytes(zvt::card_name(s, own), 0, out);
+    let to = add_bytes(zvt::card_name(s, own), 0, out);
     answers::add_end(to, out)
 }
 

@@ -3,8 +3,10 @@ use crate::words::upto;
 use listing::Line;
 use listing::text::add;
 use listing::text::add_all;
+use listing::text::add_bytes;
 use listing::text::add_decimal;
 use listing::text::add_hex;
+use listing::text::fill;
 use messages::ToldAmount;
 use messages::ToldCode;
 use messages::ToldReceipt;
@@ -21,24 +23,7 @@ ghost use lib.ListN.{length};
 const BLANK: u8 = 0xC3;
 
 pub fn blank(room: &mut [u8]) {
-    let mut i: usize = 0;
-    while i < room.len() {
-        room[i] = BLANK;
-        i += 1;
-    }
-}
-
-pub fn add_bytes(v: &[u8], at: usize, out: &mut [u8]) -> usize {
-    if v.len() == 0 {
-        return add(b'-', at, out);
-    }
-    let mut to = at;
-    let mut i: usize = 0;
-    while i < v.len() {
-        to = add_hex(v[i], to, out);
-        i += 1;
-    }
-    to
+    fill(BLANK, room);
 }
 
 fn add_refused(number: u8, at: usize, out: &mut [u8]) -> usize {

@@ -4,9 +4,10 @@ use crate::notation::Number;
 use crate::notation::bytes_of;
 use crate::notation::number_of;
 use crate::words::head;
-use crate::words::same;
 use crate::words::tail;
 use crate::words::upto;
+use check::same;
+use listing::text::add_bytes;
 
 pub enum Kind {
     Header,
@@ -193,7 +194,7 @@ fn agrees(answer: &[u8], text: &[u8], b: &mut [u8], want: &mut [u8]) -> bool {
         return false;
     }
     let n = v.size;
-    let to = answers::add_bytes(&b[..n], 0, want);
+    let to = add_bytes(&b[..n], 0, want);
     let end = upto(to, want);
     same(&want[..end], text)
 }

@@ -1,6 +1,7 @@
 // The notation of the data file. Bytes are groups of hexadecimal pairs with a dot between two groups; `*N` behind a group stands
 // for N times that group; `-` is no bytes.
-use crate::words::same;
+use check::same;
+use listing::text::hex_value;
 ghost use mathlib.Core.Path.{_≡_};
 ghost use Prim.Native.Nat.{_*_, _≤_};
 ghost use lib.ListN.{length};
@@ -56,25 +57,6 @@ pub fn number_of(s: &[u8]) -> Number
     Number { value: v, size: i }
 }
 
-// The value of a hexadecimal digit, and 16 for any other byte.
-fn hex_digit(b: u8) -> u8
-    ensures { λ r. ⌜ r ≤ 16 ⌝ }
-{
-    if b < b'0' {
-        return 16;
-    }
-    if b <= b'9' {
-        return b - b'0';
-    }
-    if b < b'A' {
-        return 16;
-    }
-    if b <= b'F' {
-        return b - b'A' + 10;
-    }
-    16
-}
-
 // The bytes of the pairs that s begins with, as far as out holds them; how many there are.
 fn pairs(s: &[u8], out: &mut [u8]) -> usize
     ensures used { λ r. ⌜ r * 2 ≤ length (now (s .entry)) ⌝ }
@@ -86,8 +68,8 @@ fn pairs(s: &[u8], out: &mut [u8]) -> usize
         if s.len() - i < 2 {
             return n;
         }
-        let high = hex_digit(s[i]);
-        let low = hex_digit(s[i + 1]);
+        let high = hex_value(s[i]);
+        let low = hex_value(s[i + 1]);
         if 15 < high {
             return n;
         }

@@ -37,17 +37,3 @@ pub fn tail<'a>(s: &'a [u8]) -> &'a [u8] {
     let next = end + 1;
     &s[next..]
 }
-
-pub fn same(a: &[u8], b: &[u8]) -> bool {
-    if a.len() != b.len() {
-        return false;
-    }
-    let mut i: usize = 0;
-    while i < a.len() && i < b.len() {
-        if a[i] != b[i] {
-            return false;
-        }
-        i += 1;
-    }
-    true
-}

@@ -24,20 +24,20 @@ same-length c = search needs
 returns : tie.Need-returns Inv-loop μ-loop
 returns c = search needs
 
-shared-slice-read-hex-digit : tie.Need-shared-slice-read-hex-digit Inv-loop μ-loop
-shared-slice-read-hex-digit c = search needs
+shared-slice-read-hex-value : tie.Need-shared-slice-read-hex-value Inv-loop μ-loop
+shared-slice-read-hex-value c = search needs
 
-hex-digit-requires : tie.Need-hex-digit-requires Inv-loop μ-loop
-hex-digit-requires c κs = search needs
+hex-value-requires : tie.Need-hex-value-requires Inv-loop μ-loop
+hex-value-requires c κs = search needs
 
-add-hex-digit : tie.Need-add-hex-digit Inv-loop μ-loop
-add-hex-digit c = search needs
+add-hex-value : tie.Need-add-hex-value Inv-loop μ-loop
+add-hex-value c = search needs
 
-shared-slice-read-hex-digit-2 : tie.Need-shared-slice-read-hex-digit-2 Inv-loop μ-loop
-shared-slice-read-hex-digit-2 c = search needs
+shared-slice-read-hex-value-2 : tie.Need-shared-slice-read-hex-value-2 Inv-loop μ-loop
+shared-slice-read-hex-value-2 c = search needs
 
-hex-digit-requires-2 : tie.Need-hex-digit-requires-2 Inv-loop μ-loop
-hex-digit-requires-2 c κs = search needs
+hex-value-requires-2 : tie.Need-hex-value-requires-2 Inv-loop μ-loop
+hex-value-requires-2 c κs = search needs
 
 same-length-2 : tie.Need-same-length-2 Inv-loop μ-loop
 same-length-2 c = search needs
@@ -88,11 +88,11 @@ pairs-spec =
     sub-if1
     same-length
     returns
-    shared-slice-read-hex-digit
-    hex-digit-requires
-    add-hex-digit
-    shared-slice-read-hex-digit-2
-    hex-digit-requires-2
+    shared-slice-read-hex-value
+    hex-value-requires
+    add-hex-value
+    shared-slice-read-hex-value-2
+    hex-value-requires-2
     same-length-2
     returns-2
     same-length-3

@@ -1,0 +1,61 @@
+-- `listing::text::add_hexes`: what is left to write comes to the same at every turn. Assumes nothing.
+use Prim.Native.Nat.{_-_, _<_}
+use mathlib.Core.Path.{_≡_, refl, sym, ap, _∙_}
+use lib.ListN.{length, drop}
+use borrow.Author.Needs.{needs}
+use native.Mathlib.Omega.{arith}
+use Rattle.listing.specs.Text.{Text, text, write, hexes}
+use Rattle.listing.proofs.TextLaws.{hex-step, hex-none, write-room}
+use Rattle.listing.proofs.text.add_hexes.Statement.{statement}
+use Rattle.listing.proofs.text.add_hexes.Tie as tie
+
+abbrev Inv-loop : tie.InvT-loop
+Inv-loop v at out₀ to₀ i₀ out to i = (length out ≡ length out₀) × (write (hexes (drop i v)) (text to out) ≡ write (hexes v) (text at out₀))
+
+abbrev μ-loop : tie.MeasureT-loop
+μ-loop v at out₀ to₀ i₀ out to i = length v - i
+
+loop-holds : tie.Need-loop-holds Inv-loop μ-loop
+loop-holds c = (refl, refl)
+
+shared-slice-read-add-hex : tie.Need-shared-slice-read-add-hex Inv-loop μ-loop
+shared-slice-read-add-hex c = search needs
+
+add-hex-requires : tie.Need-add-hex-requires Inv-loop μ-loop
+add-hex-requires c κs = search needs
+
+add-i : tie.Need-add-i Inv-loop μ-loop
+add-i c = search needs
+
+loop-less : tie.Need-loop-less Inv-loop μ-loop
+loop-less c = search needs
+
+loop-again : tie.Need-loop-again Inv-loop μ-loop
+loop-again c =
+    let at = c .before .before .before .before .before .before in
+    let v = at .before .before .before .args .v .now in
+    let t = text (at .loop .to) (at .loop .out) in
+    let h : at .loop .i < length v = omega arith in
+    let k = c .before .before .add-hex .ensures in
+    (ap (λ (x : Text). length (x .bytes)) k ∙ write-room _ t ∙ at .loop .inv .0, cc (k, hex-step v (at .loop .i) t h))
+
+same-length : tie.Need-same-length Inv-loop μ-loop
+same-length c = c .before .loop .inv .0
+
+returns : tie.Need-returns Inv-loop μ-loop
+returns c = let at = c .before in sym (hex-none (at .before .before .before .args .v .now) (at .loop .i) _ (omega arith)) ∙ at .loop .inv .1
+
+pub add-hexes-spec : {M : Type 1} → statement M
+add-hexes-spec =
+    tie.close
+    (tie.spec
+    Inv-loop
+    μ-loop
+    loop-holds
+    shared-slice-read-add-hex
+    add-hex-requires
+    add-i
+    loop-less
+    loop-again
+    same-length
+    returns)
