@@ -15,5 +15,4 @@ pub mod Order
 pub mod Net
 pub mod Amounts
 pub mod Memory
-pub mod Opening
 pub mod Sums

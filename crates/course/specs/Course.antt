@@ -3,11 +3,10 @@
 use Prim.Native.Nat.{ℕ, _+_, _*_}
 use mathlib.Core.Bool.{Bool, true, false, not, _&&_, _||_}
 use mathlib.Core.List.{List, [], _∷_}
-use lib.Dec.{ltb, leb, eqb}
+use lib.Dec.{eqb}
 use Rattle.messages.specs.Reading.{Reading, got, refused, pick, among}
 use Rattle.messages.specs.Message.{Header, wholeHeader, Body, bytes, listed, Message, readOf}
 use Rattle.messages.specs.Values.{statusIn, bodyFields}
-use Rattle.messages.specs.declared.Refusal.{Refusal}
 use Rattle.messages.specs.declared.Status.{Status}
 use Rattle.messages.specs.declared.ToldCode.{ToldCode}
 use Rattle.messages.specs.declared.ToldCode.the-variants.{Missing as no-code, Code}
@@ -24,7 +23,7 @@ use Rattle.course.specs.declared.Line.{Line}
 use Rattle.course.specs.declared.Moved.{Moved}
 use Rattle.course.specs.declared.Moved.the-variants.{Refused, Stays, Becomes, Ends}
 use Rattle.course.specs.Numbers.{amountOk, receiptOk, passwordOk}
-use Rattle.course.specs.Lanes.{noStatus, blankLine, waitingLane, runningLane, reportedLane}
+use Rattle.course.specs.Lanes.{blankLine, waitingLane, runningLane, reportedLane}
 use Rattle.course.specs.Commands.{saleBytes, refundBytes, reversalBytes, replyBytes}
 
 abbrev pub no : ℕ → Moved

@@ -1,14 +1,11 @@
 -- The lanes and the book together: when a call is accepted, and what it leaves. Definitions only.
 use mathlib.Core.Path.{_≡_}
-use Prim.Native.Nat.{ℕ, _+_, _≤_}
-use mathlib.Core.Bool.{Bool, true, false, not, _&&_}
+use Prim.Native.Nat.{ℕ, _+_}
+use mathlib.Core.Bool.{_&&_}
 use mathlib.Core.List.{List, [], _∷_, _++_}
 use lib.ListN.{length, getD, set, replicate}
-use lib.Dec.{ltb, leb, eqb}
+use lib.Dec.{ltb, leb}
 use Rattle.messages.specs.Reading.{pick}
-use Rattle.messages.specs.declared.Refusal.{Refusal}
-use Rattle.course.specs.declared.Phase.{Phase}
-use Rattle.course.specs.declared.Outcome.{Outcome}
 use Rattle.course.specs.declared.Lane.{Lane}
 use Rattle.course.specs.declared.Line.{Line}
 use Rattle.course.specs.declared.Moved.{Moved}

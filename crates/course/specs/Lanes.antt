@@ -1,6 +1,5 @@
 -- The states of a lane, and the line at a payment's end. Definitions only.
 use Prim.Native.Nat.{ℕ}
-use mathlib.Core.List.{List, [], _∷_}
 use Rattle.messages.specs.declared.Status.{Status}
 use Rattle.messages.specs.declared.ToldCode.the-variants.{Missing as no-code}
 use Rattle.messages.specs.declared.ToldAmount.the-variants.{Missing as no-amount}
@@ -9,7 +8,7 @@ use Rattle.messages.specs.declared.ToldReceipt.the-variants.{Missing as no-rece
 use Rattle.course.specs.declared.Kind.{Kind}
 use Rattle.course.specs.declared.Kind.the-variants.{Sale, Refund, Reversal}
 use Rattle.course.specs.declared.Outcome.{Outcome}
-use Rattle.course.specs.declared.Outcome.the-variants.{Unclear, Declined, Approved}
+use Rattle.course.specs.declared.Outcome.the-variants.{Unclear}
 use Rattle.course.specs.declared.Phase.the-variants.{Idle, Waiting, Running}
 use Rattle.course.specs.declared.Lane.{Lane}
 use Rattle.course.specs.declared.Line.{Line}

@@ -1,10 +1,9 @@
 -- The desk's memory, and what each function answers and leaves, by the course. Definitions only.
 use mathlib.Core.Path.{_≡_}
-use Prim.Native.Nat.{ℕ, _+_, _≤_, _<_}
-use mathlib.Core.Bool.{Bool, true, false}
-use mathlib.Core.List.{List, [], _∷_, _++_}
+use Prim.Native.Nat.{ℕ, _+_, _≤_}
+use mathlib.Core.List.{List, _++_}
 use lib.ListN.{length, getD, set, take, drop, replicate}
-use lib.Dec.{ltb, leb, eqb}
+use lib.Dec.{ltb, eqb}
 use Rattle.messages.specs.Reading.{pick}
 use Rattle.messages.specs.declared.ToldAmount.{ToldAmount}
 use Rattle.messages.specs.declared.ToldAmount.the-variants.{Missing as no-amount, Amount}
@@ -13,11 +12,10 @@ use Rattle.course.specs.declared.Line.{Line}
 use Rattle.course.specs.declared.Moved.{Moved}
 use Rattle.course.specs.declared.Moved.the-variants.{Refused as move-refused, Stays, Becomes, Ends}
 use Rattle.course.specs.Lanes.{blankLine, idleLane, lineAt}
-use Rattle.course.specs.Course.{isIdle, Call, laneOf, moves, writes}
-use Rattle.course.specs.Desk.{State, laneAt, places, load, Decision, refuse, accept, decide}
+use Rattle.course.specs.Course.{Call, laneOf, moves, writes}
+use Rattle.course.specs.Desk.{State, laneAt, places, Decision, refuse, accept, decide}
 use Rattle.course.specs.declared.Book.{Book}
 use Rattle.course.specs.declared.Desk.{Desk}
-use Rattle.course.specs.declared.Reply.{Reply}
 use Rattle.course.specs.declared.Reply.the-variants.{Written, Refused}
 use Rattle.course.specs.declared.Answer.{Answer}
 use Rattle.course.specs.declared.LineAnswer.{LineAnswer}
@@ -86,23 +84,6 @@ leavesBy accept d c out = let w = writes (laneAt (d .lanes) (laneOf c)) c in w +
 
 unfoldable pub leavesOf : Desk → Call → List ℕ → List ℕ
 leavesOf d c out = leavesBy (decide (view d) c (length out)) d c out
-
--- an opening, by its tests: "12, 13, 16, 17, 18, 11", 0 for none
-unfoldable pub openingNumber : Desk → ℕ → Bool → Bool → ℕ → ℕ → ℕ
-openingNumber d i within sale need room =
-    pick (leb 8 i) 12
-    (pick (isIdle (laneAt (d .lanes) i .phase))
-    (pick within (pick sale (pick (leb 64 (load (view d))) 18 (pick (ltb room need) 11 0)) 17) 16)
-    13)
-
-unfoldable pub openAnswer : Desk → ℕ → Bool → Bool → Lane → List ℕ → ℕ → Answer
-openAnswer d i within sale l command room =
-    let number = openingNumber d i within sale (length command) room in
-    pick (eqb number 0) (record { reply = Written (length command); desk = movedDesk d i (Becomes l) }) (refusedAnswer d number)
-
-unfoldable pub openLeaves : Desk → ℕ → Bool → Bool → List ℕ → List ℕ → List ℕ
-openLeaves d i within sale command out =
-    pick (eqb (openingNumber d i within sale (length command) (length out)) 0) (command ++ drop (length command) out) out
 
 -- "19 a payment is open at closing"; "Closing the day empties the book." No payment is open, so nothing is remembered: what is
 -- left is a fresh desk

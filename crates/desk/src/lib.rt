@@ -21,8 +21,9 @@ use messages::Refusal;
 ghost use mathlib.Core.Path.{_≡_};
 ghost use lib.ListN.{length};
 ghost use Rattle.course.specs.Course.{sale, refund, reversal, message, lost};
-ghost use Rattle.course.specs.Memory.{Valid, linesOfDesk, refusedAnswer, openAnswer, openLeaves, answerOf, leavesOf, closeAnswer, lineAnswer, laneAnswer};
+ghost use Rattle.course.specs.Memory.{Valid, linesOfDesk, refusedAnswer, answerOf, leavesOf, closeAnswer, lineAnswer, laneAnswer};
 ghost use Rattle.course.specs.Turnover.{netOf};
+ghost use Rattle.desk.specs.Opening.{openAnswer, openLeaves};
 
 fn refused(desk: Desk, number: u8) -> Answer
     ensures { λ r. ⌜ r ≡ refusedAnswer desk number ⌝ }

@@ -10,7 +10,8 @@ ghost use Prim.Native.Nat.{_<_, _≤_};
 ghost use lib.ListN.{length, take};
 ghost use Rattle.course.specs.Course.{lastLine};
 ghost use Rattle.course.specs.Desk.{places};
-ghost use Rattle.course.specs.Memory.{Valid, withLine, openingNumber, endedDesk, movedDesk};
+ghost use Rattle.course.specs.Memory.{Valid, withLine, endedDesk, movedDesk};
+ghost use Rattle.desk.specs.Opening.{openingNumber};
 
 pub fn with_line(b: Book, l: Line) -> Book
     requires { ⌜ b .count < 64 ⌝ }

@@ -12,7 +12,6 @@ use Rattle.messages.specs.Grammar.{Bytes}
 use Rattle.messages.proofs.MessageBytes.{first-sound, read-complete}
 use Rattle.messages.specs.declared.Refusal.{Refusal}
 use Rattle.zvt.specs.declared.Message.{Message as ReadMessage}
-use Rattle.zvt.specs.declared.FirstAnswer.{FirstAnswer}
 use Rattle.zvt.specs.declared.FirstAnswer.the-variants.{Accepted as first-accepted, Refused as first-refused}
 use Rattle.zvt.specs.Answers.{refusalOf, messageAnswer, asFirstAnswer, firstAnswer}
 use Rattle.zvt.specs.List.{listedMessage}

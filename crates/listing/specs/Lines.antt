@@ -12,7 +12,7 @@ use Rattle.messages.specs.Writing.{bodyBytes, messageBytes}
 use Rattle.messages.specs.Shortest.{isShort}
 use Rattle.zvt.specs.declared.Listed.{Listed}
 use Rattle.zvt.specs.declared.Message.{Message as ReadMessage}
-use Rattle.listing.specs.Text.{Text, text, write, hexText, decimalText}
+use Rattle.listing.specs.Text.{text, write, hexText, decimalText}
 use Rattle.listing.specs.declared.Line.{Line}
 use Rattle.listing.specs.declared.Line.the-variants.{Message as message-line, Last}
 

@@ -6,8 +6,8 @@ use native.Mathlib.Omega.{arith}
 use lib.ListN.{length, drop}
 use lib.Seq.{take-length}
 use borrow.Author.Tests.{ne-eqb}
-use Rattle.course.specs.Memory.{openingNumber, openAnswer, openLeaves}
-use Rattle.course.proofs.Opening.{Opens, opens-tells}
+use Rattle.desk.specs.Opening.{openingNumber, openAnswer, openLeaves}
+use Rattle.desk.proofs.Opening.{Opens, opens-tells}
 use borrow.Author.Needs.{needs}
 use Rattle.desk.proofs.open.Statement.{statement}
 use Rattle.desk.proofs.open.Tie as tie

@@ -1,7 +1,7 @@
 -- `desk::open_sale` meets its contract. Assumes nothing.
 use mathlib.Core.Path.{_∙_}
 use lib.ListN.{length}
-use Rattle.course.proofs.Opening.{sale-open, sale-leaves}
+use Rattle.desk.proofs.Opening.{sale-open, sale-leaves}
 use borrow.Author.Needs.{needs}
 use Rattle.desk.proofs.open_sale.Statement.{statement}
 use Rattle.desk.proofs.open_sale.Tie as tie

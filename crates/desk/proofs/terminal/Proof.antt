@@ -4,7 +4,7 @@ use Prim.Native.Nat.{_<_}
 use Rattle.course.specs.Course.{heard}
 use Rattle.course.specs.Desk.{laneAt}
 use Rattle.course.proofs.Calls.{Passes}
-use Rattle.course.proofs.Opening.{passes-tag, message-12, message-refused, message-11, message-taken, room-left, heard-open}
+use Rattle.desk.proofs.Opening.{passes-tag, message-12, message-refused, message-11, message-taken, room-left, heard-open}
 use Rattle.desk.proofs.DeskLaws.{replied-is}
 use borrow.Author.Needs.{needs}
 use Rattle.desk.proofs.terminal.Statement.{statement}

@@ -4,7 +4,7 @@ use Prim.Native.Nat.{_<_}
 use native.Mathlib.Omega.{arith}
 use borrow.Author.Tests.{not-true, not-false}
 use Rattle.course.specs.Desk.{laneAt, place}
-use Rattle.course.proofs.Opening.{on-12, on-13, on-16, on-17, on-18, on-11, on-0}
+use Rattle.desk.proofs.Opening.{on-12, on-13, on-16, on-17, on-18, on-11, on-0}
 use borrow.Author.Needs.{needs}
 use Rattle.desk.proofs.memory.opening.Statement.{statement}
 use Rattle.desk.proofs.memory.opening.Tie as tie

@@ -1,0 +1,32 @@
+-- What the steps of an opening answer. Definitions only.
+use Prim.Native.Nat.{ℕ}
+use mathlib.Core.Bool.{Bool}
+use mathlib.Core.List.{List, _++_}
+use lib.ListN.{length, drop}
+use lib.Dec.{ltb, leb, eqb}
+use Rattle.messages.specs.Reading.{pick}
+use Rattle.course.specs.declared.Lane.{Lane}
+use Rattle.course.specs.declared.Moved.the-variants.{Becomes}
+use Rattle.course.specs.declared.Desk.{Desk}
+use Rattle.course.specs.declared.Reply.the-variants.{Written}
+use Rattle.course.specs.declared.Answer.{Answer}
+use Rattle.course.specs.Course.{isIdle}
+use Rattle.course.specs.Desk.{laneAt, load}
+use Rattle.course.specs.Memory.{view, movedDesk, refusedAnswer}
+
+-- an opening, by its tests: "12, 13, 16, 17, 18, 11", 0 for none
+unfoldable pub openingNumber : Desk → ℕ → Bool → Bool → ℕ → ℕ → ℕ
+openingNumber d i within sale need room =
+    pick (leb 8 i) 12
+    (pick (isIdle (laneAt (d .lanes) i .phase))
+    (pick within (pick sale (pick (leb 64 (load (view d))) 18 (pick (ltb room need) 11 0)) 17) 16)
+    13)
+
+unfoldable pub openAnswer : Desk → ℕ → Bool → Bool → Lane → List ℕ → ℕ → Answer
+openAnswer d i within sale l command room =
+    let number = openingNumber d i within sale (length command) room in
+    pick (eqb number 0) (record { reply = Written (length command); desk = movedDesk d i (Becomes l) }) (refusedAnswer d number)
+
+unfoldable pub openLeaves : Desk → ℕ → Bool → Bool → List ℕ → List ℕ → List ℕ
+openLeaves d i within sale command out =
+    pick (eqb (openingNumber d i within sale (length command) (length out)) 0) (command ++ drop (length command) out) out
