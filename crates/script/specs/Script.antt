@@ -18,5 +18,5 @@ pub record Within (a : Asked) (m n : ℕ) : Type 0 where
 
 -- a state between two lines
 pub record Ready (s : State) : Type 0 where
-  pub valid : Valid (s .desk)
+  pub valid : Valid (s .taped .desk)
   pub room : s .room ≤ 4101

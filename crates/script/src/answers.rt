@@ -1,4 +1,5 @@
 // The text of answers, each line with its end. Text goes behind the first at bytes of out; each function answers where it then ends.
+use blocks::Block;
 use course::Kind;
 use course::Lane;
 use course::Line;
@@ -113,6 +114,26 @@ pub(crate) fn add_count(count: u64, at: usize, out: &mut [u8]) -> usize {
     let mut to = add_all(b"end", at, out);
     to = add_number(count, to, out);
     add_end(to, out)
+}
+
+// The blocks of a tape that lie in the first n bytes, a line of hex for each, and their count.
+pub(crate) fn tape(n: usize, blocks: &[u8], out: &mut [u8]) -> usize {
+    if blocks.len() < n {
+        return 0;
+    }
+    let mut to: usize = 0;
+    let mut at: usize = 0;
+    while Block::SIZE <= n - at {
+        let end = at + Block::SIZE;
+        to = add_bytes(&blocks[at..end], to, out);
+        to = add_end(to, out);
+        at = end;
+    }
+    add_count((at / Block::SIZE) as u64, to, out)
+}
+
+pub(crate) fn tape_full(out: &mut [u8]) -> usize {
+    add_all(b"tape full\n", 0, out)
 }
 
 fn add_code(c: ToldCode, at: usize, out: &mut [u8]) -> usize {

@@ -18,8 +18,8 @@ pub const LIMIT: usize = 65536;
 // No line stands for more bytes.
 const BYTES: usize = 32768;
 
-// No answer is longer: the longest is a till's own name, given back.
-const TEXT: usize = 65536;
+// No answer is longer: the longest is a tape of 261 blocks, each 1,024 digits and a line feed, and its last line.
+const TEXT: usize = 267533;
 
 // Every answer fits the buffer, so nothing is left unprinted.
 fn print(size: usize, text: &[u8]) {
@@ -37,6 +37,7 @@ fn line(
     message: &mut [u8],
     own: &mut [u8],
     lent: &mut [u8],
+    payload: &mut [u8],
     text: &mut [u8],
 ) -> Turn
     requires { ⌜ Ready state × (4101 ≤ length (now lent)) ⌝ }
@@ -55,6 +56,7 @@ fn line(
         &own[..named],
         asked.room,
         &mut lent[..room],
+        payload,
         text,
     );
     print(t.size, text);
@@ -70,6 +72,7 @@ pub fn play(script: &[u8]) {
     let mut message = [0u8; BYTES];
     let mut own = [0u8; BYTES];
     let mut lent = [0u8; State::ROOM];
+    let mut payload = [0u8; State::PAYLOAD];
     let mut text = [0u8; TEXT];
     let mut state = State::start();
     let mut number: u64 = 0;
@@ -84,6 +87,7 @@ pub fn play(script: &[u8]) {
             &mut message,
             &mut own,
             &mut lent,
+            &mut payload,
             &mut text,
         );
         if !t.more {

@@ -22,11 +22,12 @@ pub(crate) enum Call {
     Close,
 }
 
-// A question to the desk.
+// A question to the desk and its tape.
 pub(crate) enum Question {
     Book,
     Lanes,
     Net,
+    Tape,
 }
 
 // A question to the reader.
@@ -194,6 +195,9 @@ fn alone(name: &[u8]) -> Order {
     }
     if same(name, b"net") {
         return Order::Question(Question::Net);
+    }
+    if same(name, b"tape") {
+        return Order::Question(Question::Tape);
     }
     Order::Bad
 }

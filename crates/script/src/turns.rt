@@ -4,7 +4,8 @@ use crate::orders::Call;
 use crate::orders::Order;
 use crate::orders::Question;
 use crate::orders::Reading;
-use course::Answer;
+use blocks::Taped;
+use blocks::TapedAnswer;
 use course::Book;
 use course::Desk;
 use course::Lane;
@@ -18,9 +19,9 @@ ghost use Prim.Native.Nat.{_≤_};
 ghost use Rattle.course.specs.Memory.{Valid};
 ghost use Rattle.script.specs.Script.{Ready};
 
-// The desk, and how many bytes are lent to a call that writes.
+// The desk with its tape, and how many bytes are lent to a call that writes.
 pub(crate) struct State {
-    pub(crate) desk: Desk,
+    pub(crate) taped: Taped,
     pub(crate) room: usize,
 }
 
@@ -28,11 +29,20 @@ impl State {
     // The most bytes that can be lent: a message with a body of 4,096 bytes.
     pub(crate) const ROOM: usize = 4101;
 
+    // The day's payload, more than a script can fill.
+    pub(crate) const PAYLOAD: usize = 131072;
+
+    // The blocks of a full payload: 261.
+    const TAPE: usize = 133632;
+
+    // The records of one call take no more: a longest message, its reply, and their heads.
+    const RECORDS: usize = 4112;
+
     pub(crate) fn start() -> Self
         ensures { λ r. ⌜ Ready r ⌝ }
     {
         State {
-            desk: Desk::fresh(),
+            taped: Taped::fresh(),
             room: State::ROOM,
         }
     }
@@ -81,13 +91,27 @@ fn lanes(desk: Desk, out: &mut [u8]) -> usize
     to
 }
 
-fn question(desk: Desk, q: Question, out: &mut [u8]) -> usize
-    requires { ⌜ Valid desk ⌝ }
+// The tape so far: the blocks of what is used of the payload.
+fn tape_of(used: usize, payload: &[u8], out: &mut [u8]) -> usize {
+    let mut blocks = [0u8; State::TAPE];
+    if payload.len() < used {
+        return answers::tape_full(out);
+    }
+    match tape::write_tape(&payload[..used], &mut blocks) {
+        Reply::Refused(r) => answers::refused(r.number, out),
+        Reply::Written(n) => answers::tape(n, &blocks, out),
+    }
+}
+
+fn question(taped: Taped, q: Question, payload: &[u8], out: &mut [u8]) -> usize
+    requires { ⌜ Valid (taped .desk) ⌝ }
 {
+    let desk = taped.desk;
     match q {
         Question::Book => book(desk, out),
         Question::Lanes => lanes(desk, out),
         Question::Net => answers::signed(desk::net(desk), out),
+        Question::Tape => tape_of(taped.used, payload, out),
     }
 }
 
@@ -119,30 +143,32 @@ fn reading<'a>(r: Reading, s: &'a [u8], own: &'a [u8], lent: &mut [u8], out: &mu
     }
 }
 
-// The call itself.
-fn called(desk: Desk, c: Call, s: &[u8], lent: &mut [u8]) -> Answer
-    requires { ⌜ Valid desk ⌝ }
-    ensures { λ r. ⌜ Valid (r .desk) ⌝ }
+// The call itself, and its records.
+fn called(taped: Taped, c: Call, s: &[u8], lent: &mut [u8], payload: &mut [u8]) -> TapedAnswer
+    requires { ⌜ Valid (taped .desk) ⌝ }
+    ensures { λ r. ⌜ Valid (r .taped .desk) ⌝ }
 {
     match c {
-        Call::Sale(lane, amount) => desk::open_sale(desk, lane, amount, lent),
-        Call::Refund(lane, password, amount) => desk::open_refund(
-            desk,
+        Call::Sale(lane, amount) => tape::open_sale(taped, lane, amount, lent, payload),
+        Call::Refund(lane, password, amount) => tape::open_refund(
+            taped,
             lane,
             password,
             amount,
             lent,
+            payload,
         ),
-        Call::Reversal(lane, password, receipt) => desk::open_reversal(
-            desk,
+        Call::Reversal(lane, password, receipt) => tape::open_reversal(
+            taped,
             lane,
             password,
             receipt,
             lent,
+            payload,
         ),
-        Call::Terminal(lane) => desk::terminal(desk, lane, s, lent),
-        Call::Lost(lane) => desk::link_lost(desk, lane),
-        Call::Close => desk::close(desk),
+        Call::Terminal(lane) => tape::terminal(taped, lane, s, lent, payload),
+        Call::Lost(lane) => tape::link_lost(taped, lane, payload),
+        Call::Close => tape::close(taped),
     }
 }
 
@@ -153,19 +179,30 @@ fn reply(r: Reply, lent: &[u8], out: &mut [u8]) -> usize {
     }
 }
 
-// The call and its answer.
-fn call(state: State, c: Call, s: &[u8], lent: &mut [u8], out: &mut [u8]) -> Turn
+// Whether the payload has room for the records of any call.
+fn roomy(used: usize, size: usize) -> bool {
+    if size < State::RECORDS {
+        return false;
+    }
+    used <= size - State::RECORDS
+}
+
+// The call and its answer. A script cannot fill the payload; were it full, no call would be made.
+fn call(state: State, c: Call, s: &[u8], lent: &mut [u8], payload: &mut [u8], out: &mut [u8]) -> Turn
     requires { ⌜ Ready state ⌝ }
     ensures { λ r. ⌜ Ready (r .state) ⌝ }
 {
+    let before = state.taped;
+    if !roomy(before.used, payload.len()) {
+        return last(state, answers::tape_full(out));
+    }
     answers::blank(lent);
-    let before = state.desk;
-    let a = called(before, c, s, lent);
+    let a = called(before, c, s, lent, payload);
     let r = a.reply;
-    let desk = a.desk;
+    let taped = a.taped;
     next(
         State {
-            desk,
+            taped,
             room: state.room,
         },
         reply(r, lent, out),
@@ -204,18 +241,19 @@ pub(crate) fn act<'a>(
     own: &'a [u8],
     room: usize,
     lent: &mut [u8],
+    payload: &mut [u8],
     out: &mut [u8],
 ) -> Turn
     requires { ⌜ Ready state × (room ≤ 4101) ⌝ }
     ensures { λ r. ⌜ Ready (r .state) ⌝ }
 {
-    let desk = state.desk;
+    let taped = state.taped;
     match o {
         Order::Bad => last(state, answers::not_understood(line, out)),
         Order::Pass => next(state, 0),
-        Order::Room => next(State { desk, room }, answers::ok(out)),
-        Order::Question(q) => next(state, question(desk, q, out)),
+        Order::Room => next(State { taped, room }, answers::ok(out)),
+        Order::Question(q) => next(state, question(taped, q, payload, out)),
         Order::Reading(r) => next(state, reading(r, s, own, lent, out)),
-        Order::Call(c) => call(state, c, s, lent, out),
+        Order::Call(c) => call(state, c, s, lent, payload, out),
     }
 }
