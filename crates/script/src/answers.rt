@@ -136,6 +136,26 @@ pub(crate) fn tape_full(out: &mut [u8]) -> usize {
     add_all(b"tape full\n", 0, out)
 }
 
+// A block of a printed tape that is refused.
+pub(crate) fn refused_block(block: u64, number: u8, out: &mut [u8]) -> usize {
+    let mut to = add_decimal(block, 0, out);
+    to = add_all(b" refused", to, out);
+    to = add_number(number as u64, to, out);
+    add_end(to, out)
+}
+
+// A block of a printed tape: its payload, how many changes were made to it, and how many were refused.
+pub(crate) fn damaged(block: u64, payload: u64, changes: u64, seen: u64, out: &mut [u8]) -> usize {
+    let mut to = add_decimal(block, 0, out);
+    to = add_all(b" payload", to, out);
+    to = add_number(payload, to, out);
+    to = add_all(b" changed", to, out);
+    to = add_number(changes, to, out);
+    to = add_all(b" refused", to, out);
+    to = add_number(seen, to, out);
+    add_end(to, out)
+}
+
 fn add_code(c: ToldCode, at: usize, out: &mut [u8]) -> usize {
     match c {
         ToldCode::Missing => add_all(b" -", at, out),

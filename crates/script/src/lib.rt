@@ -1,10 +1,12 @@
-// A script of calls that drives a desk: one answer for each line.
+// A script of calls that drives a desk with its tape, one answer for each line; and damage to the tape that it prints.
 mod answers;
+mod damage;
 mod notation;
 mod orders;
 mod turns;
 mod words;
 
+use blocks::Block;
 use libc::STDOUT_FILENO;
 use turns::State;
 use turns::Turn;
@@ -20,6 +22,12 @@ const BYTES: usize = 32768;
 
 // No answer is longer: the longest is a tape of 261 blocks, each 1,024 digits and a line feed, and its last line.
 const TEXT: usize = 267533;
+
+// No line about a block is longer.
+const LINE: usize = 256;
+
+// The largest number of a block.
+const MOST: u32 = 4294967295;
 
 // Every answer fits the buffer, so nothing is left unprinted.
 fn print(size: usize, text: &[u8]) {
@@ -98,5 +106,37 @@ pub fn play(script: &[u8]) {
             return;
         }
         from = to + 1;
+    }
+}
+
+// Block number k of a printed tape, the last where the line behind it does not begin another.
+fn due(k: u32, rest: &[u8]) -> Block {
+    if rest.len() == 0 {
+        return Block::at_end(k);
+    }
+    if rest[0] == b'e' {
+        return Block::at_end(k);
+    }
+    Block::before_last(k)
+}
+
+// For each block of a printed tape, one line: what reading it comes to, and how many changes of one digit are refused with 20.
+pub fn damage(printed: &[u8]) {
+    let mut text = [0u8; LINE];
+    let mut number: u32 = 0;
+    let mut from: usize = 0;
+    while from < printed.len() {
+        let to = bytes::scan::find(printed, from, printed.len(), b'\n');
+        if to == printed.len() {
+            return;
+        }
+        let next = to + 1;
+        if number == MOST {
+            return;
+        }
+        number += 1;
+        let size = damage::line(due(number, &printed[next..]), &printed[from..to], &mut text);
+        print(size, &text);
+        from = next;
     }
 }
