@@ -1,6 +1,6 @@
 // A script of calls that drives a desk with its tape, one answer for each line; and damage to the tape that it prints.
 mod answers;
-mod damage;
+mod changes;
 mod notation;
 mod orders;
 mod turns;
@@ -135,7 +135,7 @@ pub fn damage(printed: &[u8]) {
             return;
         }
         number += 1;
-        let size = damage::line(due(number, &printed[next..]), &printed[from..to], &mut text);
+        let size = changes::line(due(number, &printed[next..]), &printed[from..to], &mut text);
         print(size, &text);
         from = next;
     }

@@ -47,7 +47,7 @@ fn digit(due: Block, block: &mut [u8], at: usize, first: bool) -> u64
 }
 
 // How many changes of a block's digits are refused with 20.
-fn changes(due: Block, block: &mut [u8]) -> u64 {
+fn all_changes(due: Block, block: &mut [u8]) -> u64 {
     let mut seen: u64 = 0;
     let mut at: usize = 0;
     while at < block.len() {
@@ -63,7 +63,7 @@ fn told(due: Block, block: &mut [u8], out: &mut [u8]) -> usize {
     match tape::read_block(due, block) {
         BlockAnswer::Refused(r) => answers::refused_block(due.number as u64, r.number, out),
         BlockAnswer::Payload(n) => {
-            let seen = changes(due, block);
+            let seen = all_changes(due, block);
             answers::damaged(due.number as u64, n as u64, CHANGES, seen, out)
         }
     }
