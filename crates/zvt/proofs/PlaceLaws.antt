@@ -24,8 +24,8 @@ use Rattle.messages.specs.declared.Refusal.{Refusal}
 use Rattle.zvt.specs.declared.Message.{Message}
 use Rattle.zvt.specs.declared.ReadAnswer.the-variants.{Accepted, Refused}
 use Rattle.zvt.specs.declared.Listed.{Listed}
-use Rattle.zvt.specs.declared.list.ListPlace.{ListPlace}
-use Rattle.zvt.specs.declared.list.ListPlace.the-variants.{Nowhere, Between}
+use Rattle.zvt.specs.declared.ListPlace.{ListPlace}
+use Rattle.zvt.specs.declared.ListPlace.the-variants.{Nowhere, Between}
 use Rattle.zvt.specs.Answers.{messageAnswer, asReadAnswer, readAnswer}
 use Rattle.zvt.specs.List.{listedFrom, listedBody, listedMessage, listFields, fieldsBetween, listedIn, ListIn, bodyPlace, messagePlace, listPlace, placeOfStatus, statusPlace, namedListed}
 use Rattle.messages.specs.Values.{isStatus, bodyFields, statusFields}
