@@ -24,8 +24,8 @@ use Rattle.messages.specs.declared.Refusal.{Refusal}
 use Rattle.zvt.specs.declared.Message.{Message}
 use Rattle.zvt.specs.declared.ReadAnswer.the-variants.{Accepted, Refused}
 use Rattle.zvt.specs.declared.Listed.{Listed}
-use Rattle.zvt.specs.declared.list.ListPlace.{ListPlace}
-use Rattle.zvt.specs.declared.list.ListPlace.the-variants.{Nowhere, Between}
+use Rattle.zvt.specs.declared.ListPlace.{ListPlace}
+use Rattle.zvt.specs.declared.ListPlace.the-variants.{Nowhere, Between}
 use Rattle.zvt.specs.Answers.{messageAnswer, asReadAnswer, readAnswer}
 use Rattle.zvt.specs.List.{listedFrom, listedBody, listedMessage, listFields, fieldsBetween, listedIn, ListIn, bodyPlace, messagePlace, listPlace, placeOfStatus, statusPlace, namedListed}
 use Rattle.messages.specs.Values.{isStatus, bodyFields, statusFields}
@@ -33,7 +33,7 @@ use Rattle.zvt.specs.Name.{NameAt, own, nameIn, nameOf, nameAt}
 use Rattle.zvt.specs.Writing.{ListReads}
 
 -- ---- the list of a message that is read
-fields-ok : (l : Layout) (password : List ℕ) (fs : List Field) → LayoutOk l (listed password fs) → FieldsOk fs
+pub fields-ok : (l : Layout) (password : List ℕ) (fs : List Field) → LayoutOk l (listed password fs) → FieldsOk fs
 unfolding LayoutOk
 fields-ok Plain password fs ok = absurd ok
 fields-ok FieldList password fs ok = ok .1
@@ -116,7 +116,7 @@ layout-place s m b e =
     rw (← (k .0)) (body-place (headerSize (m .long)) (length (messageBytes m)) (layoutOf (m .class) (m .instruction)) (m .body) (k .1 .0))
 
 -- ---- the message behind the reader's answer
-accepted : (s : List ℕ) (x : Message) → readAnswer s ≡ Accepted x → (m : MessageTree) × (readOf s ≡ got m) × (messageAnswer m ≡ x)
+pub accepted : (s : List ℕ) (x : Message) → readAnswer s ≡ Accepted x → (m : MessageTree) × (readOf s ≡ got m) × (messageAnswer m ≡ x)
 unfolding readAnswer asReadAnswer
 accepted s x h = go (readOf s) refl h
   where
@@ -124,7 +124,7 @@ accepted s x h = go (readOf s) refl h
     go (got m) q g = (m, q, cc)
     go (refused f) q g = absurd (let z : _≡_ {A = ℕ} 0 1 = cc in omega arith)
 
-not-accepted : (s : List ℕ) (r : Refusal) → readAnswer s ≡ Refused r → (f : Fault) × (readOf s ≡ refused f)
+pub not-accepted : (s : List ℕ) (r : Refusal) → readAnswer s ≡ Refused r → (f : Fault) × (readOf s ≡ refused f)
 unfolding readAnswer asReadAnswer
 not-accepted s r h = go (readOf s) refl h
   where

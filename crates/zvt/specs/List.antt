@@ -11,8 +11,8 @@ use Rattle.messages.specs.Values.{fieldValue, isStatus}
 use Rattle.zvt.specs.declared.Listed.{Listed}
 use Rattle.zvt.specs.declared.FieldAnswer.{FieldAnswer}
 use Rattle.zvt.specs.declared.FieldAnswer.the-variants.{Field as listed-field, End}
-use Rattle.zvt.specs.declared.list.ListPlace.{ListPlace}
-use Rattle.zvt.specs.declared.list.ListPlace.the-variants.{Nowhere, Between}
+use Rattle.zvt.specs.declared.ListPlace.{ListPlace}
+use Rattle.zvt.specs.declared.ListPlace.the-variants.{Nowhere, Between}
 use Rattle.zvt.specs.Writing.{ListReads}
 
 -- a field that begins at place at: a value ends where its field ends
@@ -51,6 +51,9 @@ namedListed id (l ∷ ls) = pick (eqb (l .id) id) (listed-field l) (namedListed 
 -- the fields of the message that s is; none where it is refused or its body is plain
 unfoldable pub fieldAnswer : ℕ → List ℕ → FieldAnswer
 fieldAnswer k s = nthListed k (listedMessage (readOf s))
+
+unfoldable pub namedAnswer : ℕ → List ℕ → FieldAnswer
+namedAnswer id s = namedListed id (listedMessage (readOf s))
 
 -- the list between two places of s
 unfoldable pub listFields : Reading ListRead → List Field

@@ -12,7 +12,7 @@ mod values;
 mod writing;
 
 use headers::HeaderRead;
-use list::ListPlace;
+use messages::Layout;
 use messages::Refusal;
 use messages::Status;
 use messages::ToldAmount;
@@ -23,7 +23,7 @@ ghost use mathlib.Core.Path.{_≡_};
 ghost use lib.ListN.{length};
 ghost use Rattle.zvt.specs.Answers.{headerAnswer, readAnswer, firstAnswer};
 ghost use Rattle.messages.specs.Digits.{digitBytesOf};
-ghost use Rattle.zvt.specs.List.{fieldAnswer};
+ghost use Rattle.zvt.specs.List.{fieldAnswer, listPlace, namedAnswer};
 ghost use Rattle.zvt.specs.Name.{nameAt, cardName, namePlace};
 ghost use Rattle.messages.specs.Values.{statusOf};
 ghost use Rattle.zvt.specs.Writing.{shortenAnswer, shortenLeaves};
@@ -78,6 +78,12 @@ pub struct Listed {
 pub enum FieldAnswer {
     End,
     Field(Listed),
+}
+
+// Where a message's list lies, from and to, if it has one.
+pub enum ListPlace {
+    Nowhere,
+    Between(usize, usize),
 }
 
 // The header of the message that s is.
@@ -140,13 +146,41 @@ pub fn shorten(s: &[u8], out: &mut [u8]) -> ShortenAnswer
     }
 }
 
+// Where the list of the message that s is lies: a password stands before it, behind the header.
+pub fn list_place(s: &[u8]) -> ListPlace
+    ensures { λ r. ⌜ r ≡ listPlace (now (s .entry)) ⌝ }
+{
+    match read(s) {
+        ReadAnswer::Refused(_) => ListPlace::Nowhere,
+        ReadAnswer::Accepted(m) => {
+            let start = m.start;
+            let end = s.len();
+            match format::layout_of(m.class, m.instruction) {
+                Layout::Plain => ListPlace::Nowhere,
+                Layout::List => ListPlace::Between(start, end),
+                Layout::Secured => ListPlace::Between(start + 3, end),
+            }
+        }
+    }
+}
+
 // Field number k, from 0, of the list of the message that s is.
 pub fn field_at(s: &[u8], k: usize) -> FieldAnswer
     ensures { λ r. ⌜ r ≡ fieldAnswer k (now (s .entry)) ⌝ }
 {
-    match list::list_place(s) {
+    match list_place(s) {
         ListPlace::Nowhere => FieldAnswer::End,
         ListPlace::Between(from, end) => list::nth(s, from, end, k),
+    }
+}
+
+// The field with that id of the list of the message that s is.
+pub fn field_named(s: &[u8], id: u8) -> FieldAnswer
+    ensures { λ r. ⌜ r ≡ namedAnswer id (now (s .entry)) ⌝ }
+{
+    match list_place(s) {
+        ListPlace::Nowhere => FieldAnswer::End,
+        ListPlace::Between(from, end) => list::named(s, from, end, id),
     }
 }
 

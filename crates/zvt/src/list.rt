@@ -1,39 +1,15 @@
 // The fields of an accepted message's list, one at a time and by their id.
 use crate::FieldAnswer;
+use crate::ListPlace;
 use crate::Listed;
 use crate::ReadAnswer;
 use crate::fields::field_bounds;
 use crate::format::format_of;
-use crate::format::layout_of;
 use crate::objects::BoundsRead;
-use messages::Layout;
 ghost use mathlib.Core.Path.{_≡_};
-ghost use Rattle.zvt.specs.List.{ListIn, listPlace, statusPlace, firstListed, nthListed, namedListed, listedIn};
+ghost use Rattle.zvt.specs.List.{ListIn, statusPlace, firstListed, nthListed, namedListed, listedIn};
 
-// Where a message's list lies, from and to, if it has one.
-pub enum ListPlace {
-    Nowhere,
-    Between(usize, usize),
-}
-
-pub fn list_place(s: &[u8]) -> ListPlace
-    ensures { λ r. ⌜ r ≡ listPlace (now (s .entry)) ⌝ }
-{
-    match crate::read(s) {
-        ReadAnswer::Refused(_) => ListPlace::Nowhere,
-        ReadAnswer::Accepted(m) => {
-            let start = m.start;
-            let end = s.len();
-            match layout_of(m.class, m.instruction) {
-                Layout::Plain => ListPlace::Nowhere,
-                Layout::List => ListPlace::Between(start, end),
-                Layout::Secured => ListPlace::Between(start + 3, end),
-            }
-        }
-    }
-}
-
-// The same, of a status information only.
+// Where the list of a status information lies.
 pub fn status_place(s: &[u8]) -> ListPlace
     ensures { λ r. ⌜ r ≡ statusPlace (now (s .entry)) ⌝ }
 {

@@ -1,11 +1,11 @@
--- `zvt::list::list_place` meets its contract: the layout of an accepted message says where its list starts. Assumes nothing.
+-- `zvt::list_place` meets its contract: the layout of an accepted message says where its list starts. Assumes nothing.
 use mathlib.Core.Path.{sym, _∙_}
 use native.Mathlib.Omega.{arith}
 use borrow.Author.Needs.{needs}
 use Rattle.zvt.proofs.Slices.{bytes-known}
 use Rattle.zvt.proofs.PlaceLaws.{Was, placeBy, no-place, start-small, place-is}
-use Rattle.zvt.proofs.list.list_place.Statement.{statement}
-use Rattle.zvt.proofs.list.list_place.Tie as tie
+use Rattle.zvt.proofs.list_place.Statement.{statement}
+use Rattle.zvt.proofs.list_place.Tie as tie
 
 got : (c : tie.After-m) → Was (c .before .before .before .before .args .s .now) (c .m .given .0 .0)
 got c = (bytes-known _ (c .before .before .before .shared-slice-known .given), sym (c .before .before .read .ensures) ∙ c .m .given .1)
