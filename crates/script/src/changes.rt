@@ -4,7 +4,8 @@ use crate::notation::Bytes;
 use crate::notation::bytes_of;
 use blocks::Block;
 use blocks::BlockAnswer;
-ghost use Prim.Native.Nat.{_<_};
+ghost use mathlib.Core.Path.{_≡_};
+ghost use Prim.Native.Nat.{_<_, _≤_};
 ghost use lib.ListN.{length};
 
 // The digits of a block, and the other values of each.
@@ -20,26 +21,32 @@ fn changed(b: u8, first: bool, k: u8) -> u8 {
     high * 16 + (low + k % 16) % 16
 }
 
-// What reading the block comes to: a number of refusal, or 0.
-fn refusal(due: Block, block: &[u8]) -> u8 {
+// 1 where reading the block is refused with 20, else 0.
+fn seen_in(due: Block, block: &[u8]) -> u64
+    ensures { λ r. ⌜ r ≤ 1 ⌝ }
+{
     match tape::read_block(due, block) {
-        BlockAnswer::Refused(r) => r.number,
         BlockAnswer::Payload(_) => 0,
+        BlockAnswer::Refused(r) => {
+            if r.number == 20 {
+                return 1;
+            }
+            0
+        }
     }
 }
 
 // How many of a digit's 15 other values are refused with 20. The digit is then what it was.
 fn digit(due: Block, block: &mut [u8], at: usize, first: bool) -> u64
     requires { ⌜ at < length (now block) ⌝ }
+    ensures { λ r. ⌜ r ≤ 15 ⌝ }
 {
     let was = block[at];
     let mut seen: u64 = 0;
     let mut k: u8 = 1;
     while k < 16 {
         block[at] = changed(was, first, k);
-        if refusal(due, block) == 20 {
-            seen += 1;
-        }
+        seen += seen_in(due, block);
         k += 1;
     }
     block[at] = was;
@@ -47,7 +54,9 @@ fn digit(due: Block, block: &mut [u8], at: usize, first: bool) -> u64
 }
 
 // How many changes of a block's digits are refused with 20.
-fn all_changes(due: Block, block: &mut [u8]) -> u64 {
+fn all_changes(due: Block, block: &mut [u8]) -> u64
+    requires { ⌜ length (now block) ≡ 512 ⌝ }
+{
     let mut seen: u64 = 0;
     let mut at: usize = 0;
     while at < block.len() {
@@ -59,7 +68,9 @@ fn all_changes(due: Block, block: &mut [u8]) -> u64 {
 }
 
 // What is told of a block: how much payload it holds and how many changes are refused with 20, or why it is refused itself.
-fn told(due: Block, block: &mut [u8], out: &mut [u8]) -> usize {
+fn told(due: Block, block: &mut [u8], out: &mut [u8]) -> usize
+    requires { ⌜ length (now block) ≡ 512 ⌝ }
+{
     match tape::read_block(due, block) {
         BlockAnswer::Refused(r) => answers::refused_block(due.number as u64, r.number, out),
         BlockAnswer::Payload(n) => {

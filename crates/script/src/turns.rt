@@ -188,7 +188,14 @@ fn roomy(used: usize, size: usize) -> bool {
 }
 
 // The call and its answer. A script cannot fill the payload; were it full, no call would be made.
-fn call(state: State, c: Call, s: &[u8], lent: &mut [u8], payload: &mut [u8], out: &mut [u8]) -> Turn
+fn call(
+    state: State,
+    c: Call,
+    s: &[u8],
+    lent: &mut [u8],
+    payload: &mut [u8],
+    out: &mut [u8],
+) -> Turn
     requires { ⌜ Ready state ⌝ }
     ensures { λ r. ⌜ Ready (r .state) ⌝ }
 {

@@ -2,17 +2,18 @@
 use Prim.Native.Nat.{_≤_, _-_}
 use Rattle.script.specs.Script.{Ready}
 use borrow.Author.Needs.{needs}
+use native.Mathlib.Omega.{arith}
 use lib.ListN.{length}
 use mathlib.Core.Path.{_≡_}
 use Rattle.script.proofs.play.Statement.{statement}
 use Rattle.script.proofs.play.Tie as tie
 
 abbrev Inv-loop : tie.InvT-loop
-Inv-loop script message₀ own₀ lent₀ text₀ state₀ number₀ from₀ message own lent text state number from =
-    Ready state × ((from ≤ length script) × ((number ≤ from) × ((length message ≡ 32768) × ((length own ≡ 32768) × ((length lent ≡ 4101) × (length text ≡ 65536))))))
+Inv-loop script message₀ own₀ lent₀ payload₀ text₀ state₀ number₀ from₀ message own lent payload text state number from =
+    Ready state × ((from ≤ length script) × ((number ≤ from) × ((length message ≡ 32768) × ((length own ≡ 32768) × ((length lent ≡ 4101) × ((length payload ≡ 131072) × (length text ≡ 267533)))))))
 
 abbrev μ-loop : tie.MeasureT-loop
-μ-loop script message₀ own₀ lent₀ text₀ state₀ number₀ from₀ message own lent text state number from = length script - from
+μ-loop script message₀ own₀ lent₀ payload₀ text₀ state₀ number₀ from₀ message own lent payload text state number from = length script - from
 
 slice-aggregate-write-all : tie.Need-slice-aggregate-write-all Inv-loop μ-loop
 slice-aggregate-write-all c = search needs
@@ -27,7 +28,7 @@ start-requires : tie.Need-start-requires Inv-loop μ-loop
 start-requires c κs = search needs
 
 loop-holds : tie.Need-loop-holds Inv-loop μ-loop
-loop-holds c = (c .start .ensures, search needs)
+loop-holds c = (c .start .ensures, (search needs, (search needs, (search needs, (search needs, (search needs, (search needs, search needs)))))))
 
 find-requires : tie.Need-find-requires Inv-loop μ-loop
 find-requires c κs = search needs
@@ -56,6 +57,9 @@ slice-aggregate-line-3 c = search needs
 slice-aggregate-line-4 : tie.Need-slice-aggregate-line-4 Inv-loop μ-loop
 slice-aggregate-line-4 c = search needs
 
+slice-aggregate-line-5 : tie.Need-slice-aggregate-line-5 Inv-loop μ-loop
+slice-aggregate-line-5 c = search needs
+
 line-requires : tie.Need-line-requires Inv-loop μ-loop
 line-requires c κs = search needs
 
@@ -72,7 +76,10 @@ loop-less : tie.Need-loop-less Inv-loop μ-loop
 loop-less c = search needs
 
 loop-again : tie.Need-loop-again Inv-loop μ-loop
-loop-again c = (c .before .before .before .before .before .before .before .before .line .ensures, search needs)
+loop-again c =
+    let line = c .before .before .before .before .before .before .before .before .before in
+    let found = line .before .before .before .before .before .before .before in
+    (line .line .ensures, (search needs, (omega (arith, found .find .ensures, found .before .before .loop .inv .1 .1 .0), search needs)))
 
 returns-4 : tie.Need-returns-4 Inv-loop μ-loop
 returns-4 c = search needs
@@ -97,6 +104,7 @@ play-spec =
     slice-aggregate-line-2
     slice-aggregate-line-3
     slice-aggregate-line-4
+    slice-aggregate-line-5
     line-requires
     returns-2
     returns-3

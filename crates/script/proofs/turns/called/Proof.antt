@@ -1,8 +1,8 @@
 -- Every call leaves a valid desk. Assumes nothing.
-use Rattle.course.proofs.Amounts.{NumbersFit}
-use Rattle.course.proofs.Memory.{answer-valid, close-valid}
-use Rattle.messages.specs.Grammar.{Bytes}
 use native.Mathlib.Omega.{arith}
+use Rattle.messages.specs.Grammar.{Bytes}
+use Rattle.course.proofs.Amounts.{NumbersFit}
+use Rattle.blocks.proofs.Taping.{taped-valid, close-taped-valid}
 use borrow.Author.Needs.{needs}
 use Rattle.script.proofs.turns.called.Statement.{statement}
 use Rattle.script.proofs.turns.called.Tie as tie
@@ -46,37 +46,52 @@ close-requires c κs = search needs
 same-length : tie.Need-same-length
 same-length c = search needs
 
-returns : tie.Need-returns
-unfolding NumbersFit
-returns c = rw (c .before .before .open-sale .ensures .0) (answer-valid _ _ _ (search needs) tt)
-
 same-length-2 : tie.Need-same-length-2
 same-length-2 c = search needs
 
-returns-2 : tie.Need-returns-2
+returns : tie.Need-returns
 unfolding NumbersFit
-returns-2 c = rw (c .before .before .open-refund .ensures .0) (answer-valid _ _ _ (search needs) tt)
+returns c = rw (c .before .before .before .before .open-sale .ensures .0) (taped-valid _ _ _ _ (search needs) tt)
 
 same-length-3 : tie.Need-same-length-3
 same-length-3 c = search needs
 
-returns-3 : tie.Need-returns-3
-unfolding NumbersFit
-returns-3 c = rw (c .before .before .open-reversal .ensures .0) (answer-valid _ _ _ (search needs) tt)
-
 same-length-4 : tie.Need-same-length-4
 same-length-4 c = search needs
 
+returns-2 : tie.Need-returns-2
+unfolding NumbersFit
+returns-2 c = rw (c .before .before .before .before .open-refund .ensures .0) (taped-valid _ _ _ _ (search needs) tt)
+
+same-length-5 : tie.Need-same-length-5
+same-length-5 c = search needs
+
+same-length-6 : tie.Need-same-length-6
+same-length-6 c = search needs
+
+returns-3 : tie.Need-returns-3
+unfolding NumbersFit
+returns-3 c = rw (c .before .before .before .before .open-reversal .ensures .0) (taped-valid _ _ _ _ (search needs) tt)
+
+same-length-7 : tie.Need-same-length-7
+same-length-7 c = search needs
+
+same-length-8 : tie.Need-same-length-8
+same-length-8 c = search needs
+
 returns-4 : tie.Need-returns-4
 unfolding NumbersFit Bytes
-returns-4 c = rw (c .before .before .terminal .ensures .0) (answer-valid _ _ _ (search needs) (λ i. omega (arith, c .before .before .before .before .before .before .before .before .shared-slice-known .given i)))
+returns-4 c = rw (c .before .before .before .before .terminal .ensures .0) (taped-valid _ _ _ _ (search needs) (λ i. omega (arith, c .before .before .before .before .before .before .before .before .before .before .before .before .shared-slice-known .given i)))
+
+same-length-9 : tie.Need-same-length-9
+same-length-9 c = search needs
 
 returns-5 : tie.Need-returns-5
 unfolding NumbersFit
-returns-5 c = rw (c .link-lost .ensures) (answer-valid _ _ _ (search needs) tt)
+returns-5 c = rw (c .before .before .link-lost .ensures .0) (taped-valid _ _ _ _ (search needs) tt)
 
 returns-6 : tie.Need-returns-6
-returns-6 c = rw (c .close .ensures) (close-valid _ (search needs))
+returns-6 c = rw (c .close .ensures) (close-taped-valid _ (search needs))
 
 pub called-spec : {M : Type 1} → statement M
 called-spec =
@@ -95,12 +110,17 @@ called-spec =
     enum-told
     close-requires
     same-length
-    returns
     same-length-2
-    returns-2
+    returns
     same-length-3
-    returns-3
     same-length-4
+    returns-2
+    same-length-5
+    same-length-6
+    returns-3
+    same-length-7
+    same-length-8
     returns-4
+    same-length-9
     returns-5
     returns-6)
