@@ -7,8 +7,8 @@ use native.Mathlib.Nat.{mod-eq-of-lt, div-lt-iff-lt-mul, le-div-iff-mul-le, pow-
 use native.Mathlib.Numerals.{add-one}
 use native.Mathlib.Omega.{arith}
 use borrow.Author.Tests.{lt-ltb, le-ltb, ltb-true}
-use lib.ListN.{length, take, drop, set, getD, replicate, length-set, drop-of-length-le, replicate-append-replicate}
-use lib.Seq.{drop-cons, take-all, take-suc-set}
+use lib.ListN.{length, drop, set, getD, length-set, drop-of-length-le}
+use lib.Seq.{drop-cons}
 use lib.Dec.{ltb}
 use Rattle.messages.specs.Reading.{pick}
 use Rattle.io.specs.Digits.{digits, glyph, Fewest}
@@ -93,13 +93,6 @@ pub bytes-some : (v : List ℕ) → (length v ≡ 0 → ⊥) → bytesText v ≡
 unfolding bytesText
 bytes-some [] h = absurd (h refl)
 bytes-some (b ∷ v) h = refl
-
--- ---- a buffer that is filled byte by byte
-pub filled-more : (b i : ℕ) (out : List ℕ) → i < length out → take i out ≡ replicate i b → take (i + 1) (set out i b) ≡ replicate (i + 1) b
-filled-more b i out h e = rw (add-one, take-suc-set out i b h, e) (replicate-append-replicate i 1 b ∙ rw add-one)
-
-pub filled-all : (b i : ℕ) (out : List ℕ) → length out ≡ i → take i out ≡ replicate i b → out ≡ replicate (length out) b
-filled-all b i out h e = rw h (sym (take-all i out (omega arith)) ∙ e)
 
 -- ---- decimal numbers: the fewest digits that hold n
 glyph-digit : (d : ℕ) → d < 10 → glyph d ≡ 48 + d
