@@ -1,0 +1,3 @@
+-- test
+pub mod CaseLaws
+pub mod OneAnswer
