@@ -1,3 +1,6 @@
 -- test
 pub mod CaseLaws
 pub mod OneAnswer
+pub mod ReadTable
+pub mod Answers
+pub mod DemandOne
