@@ -4,3 +4,4 @@ pub mod OneAnswer
 pub mod ReadTable
 pub mod Answers
 pub mod DemandOne
+pub mod Ends
