@@ -5,8 +5,8 @@ use mathlib.Core.Logic.{_↔_, _⊎_, inl, inr, ⊎-elim}
 use mathlib.Core.List.{List, [], _∷_, _++_}
 use Prim.Native.Nat.{ℕ, zero, suc, _+_, _<_, _≤_}
 use native.Mathlib.Omega.{arith}
-use lib.ListN.{length, getD, drop}
-use lib.Seq.{drop-at}
+use lib.ListN.{length, take, drop}
+use lib.Seq.{take-at, drop-at}
 use lib.Dec.{ltb, leb, eqb}
 use borrow.Author.Tests.{eq-eqb, ne-eqb}
 use Rattle.messages.specs.declared.Fault.{Fault}
@@ -120,13 +120,22 @@ module _ (d : Desk) (c : Call) (out : List ℕ) where
       let e = decided-no d c (length out) n .0 h in
       (ap (λ (a : Answer). a .desk) (refused-same d c (length out) n e), refused-leaves d c out n e)
 
-  pub call-beyond : (k : ℕ) → answerOf d c (length out) .reply ≡ Written k → drop k (leavesOf d c out) ≡ drop k out
-  call-beyond k h =
-      let e = decided-yes d c (length out) .0 (k, h) in
-      let w = writes (laneFor d c) c in
-      let q : Written (length w) ≡ Written k = rw (accepted-answer d c (length out) e) at h in
-      let r : length w ≡ k = cc in
-      ap (drop k) (accepted-leaves d c out e) ∙ drop-at w (drop (length w) out) k r ∙ ap (λ (n : ℕ). drop n out) r
+  module _ (k : ℕ) (h : answerOf d c (length out) .reply ≡ Written k) where
+    taken : decide (view d) c (length out) ≡ accept
+    taken = decided-yes d c (length out) .0 (k, h)
+
+    size : length (writes (laneFor d c) c) ≡ k
+    size =
+        let q : Written (length (writes (laneFor d c) c)) ≡ Written k = rw (accepted-answer d c (length out) taken) at h in
+        cc
+
+    pub call-wrote : take k (leavesOf d c out) ≡ writes (laneFor d c) c
+    call-wrote = let w = writes (laneFor d c) c in ap (take k) (accepted-leaves d c out taken) ∙ take-at w (drop (length w) out) k size
+
+    pub call-beyond : drop k (leavesOf d c out) ≡ drop k out
+    call-beyond =
+        let w = writes (laneFor d c) c in
+        ap (drop k) (accepted-leaves d c out taken) ∙ drop-at w (drop (length w) out) k size ∙ ap (λ (n : ℕ). drop n out) size
 
 -- ---- closing
 unfoldable pub Open : Desk → Type 0
@@ -139,10 +148,10 @@ idle-same Waiting e = absurd (false≢true e)
 idle-same Running e = absurd (false≢true e)
 
 -- no place is taken, or some lane is not idle
-taken : (ls : List Lane) → (places ls ≡ 0) ⊎ ((i : ℕ) × (i < length ls) × (laneAt ls i .phase ≡ Idle → ⊥))
+place-or-none : (ls : List Lane) → (places ls ≡ 0) ⊎ ((i : ℕ) × (i < length ls) × (laneAt ls i .phase ≡ Idle → ⊥))
 unfolding places place isIdle
-taken [] = inl refl
-taken (l ∷ ls) = go (isIdle (l .phase)) refl (taken ls)
+place-or-none [] = inl refl
+place-or-none (l ∷ ls) = go (isIdle (l .phase)) refl (place-or-none ls)
   where
     go : (t : Bool) → isIdle (l .phase) ≡ t → (places ls ≡ 0) ⊎ ((i : ℕ) × (i < length ls) × (laneAt ls i .phase ≡ Idle → ⊥))
         → (places (l ∷ ls) ≡ 0) ⊎ ((i : ℕ) × (i < length (l ∷ ls)) × (laneAt (l ∷ ls) i .phase ≡ Idle → ⊥))
@@ -156,7 +165,7 @@ none-taken ls i e = idle-same _ (place-idle (laneAt ls i) .0 (omega (arith, plac
 module _ (d : Desk) (v : Valid d) where
   pub open-or-not : (places (d .lanes) ≡ 0) ⊎ Open d
   unfolding Open view
-  open-or-not = ⊎-elim inl (λ k. inr (k .0, omega (arith, k .1, v .lanes), k .2)) (taken (d .lanes))
+  open-or-not = ⊎-elim inl (λ k. inr (k .0, omega (arith, k .1, v .lanes), k .2)) (place-or-none (d .lanes))
 
   pub all-idle : places (d .lanes) ≡ 0 → Open d → ⊥
   unfolding Open view

@@ -1,7 +1,8 @@
 -- test
 pub mod CaseLaws
-pub mod OneAnswer
 pub mod ReadTable
 pub mod Answers
 pub mod DemandOne
-pub mod Ends
+pub mod NameTable
+pub mod DemandTwo
+pub mod OneAnswer
