@@ -2,3 +2,4 @@
 pub mod Cases
 pub mod ReadRows
 pub mod Names
+pub mod Days
