@@ -42,7 +42,8 @@ pub record Maps {A X : Type 0} (say : Reading A → X) (refuser : Refusal → X)
   pub apart : (a : A) (r : Refusal) → say (got a) ≡ refuser r → ⊥
   pub one : (r r′ : Refusal) → refuser r ≡ refuser r′ → r ≡ r′
 
-pub reading-no : {A X : Type 0} (say : Reading A → X) (refuser : Refusal → X) → Maps say refuser → (x : Reading A) (n : ℕ) → (say x ≡ refuser (number n)) ↔ No x n
+pub reading-no : {A X : Type 0} (say : Reading A → X) (refuser : Refusal → X) → Maps say refuser → (x : Reading A) (n : ℕ)
+    → (say x ≡ refuser (number n)) ↔ No x n
 reading-no {A} say refuser m x n = (to x refl, λ h. ap say (h .1) ∙ m .kept (h .0) ∙ ap (λ (k : ℕ). refuser (number k)) (h .2))
   where
     to : (y : Reading A) → x ≡ y → say x ≡ refuser (number n) → No x n
@@ -93,24 +94,28 @@ Refuses a n = a .reply ≡ Refused (number n)
 abbrev pub Takes : Answer → Type 0
 Takes a = (k : ℕ) × (a .reply ≡ Written k)
 
+-- a reply is one of the two, with one number
+apart : {k : ℕ} {r : Refusal} → Written k ≡ Refused r → ⊥
+apart e = let z : _≡_ {A = ℕ} 0 1 = cc in omega arith
+
+same-number : {m n : ℕ} → Refused (number m) ≡ Refused (number n) → m ≡ n
+same-number {m} {n} e = let q : number m ≡ number n = cc in ap (λ (r : Refusal). r .number) q
+
 module _ (d : Desk) (c : Call) (room : ℕ) where
   pub decided-no : (n : ℕ) → Refuses (answerOf d c room) n ↔ (decide (view d) c room ≡ refuse n)
   unfolding refusedAnswer
   decided-no n = (to (decide (view d) c room) refl, λ e. rw (refused-same d c room n e))
     where
       to : (x : Decision) → decide (view d) c room ≡ x → Refuses (answerOf d c room) n → decide (view d) c room ≡ refuse n
-      to (refuse k) e h =
-          let q : Refused (number k) ≡ Refused (number n) = rw (refused-same d c room k e) at h in
-          let r : number k ≡ number n = cc in
-          e ∙ ap (λ (r : Refusal). refuse (r .number)) r
-      to accept e h = let q : Written _ ≡ Refused (number n) = rw (accepted-answer d c room e) at h in absurd (let z : _≡_ {A = ℕ} 0 1 = cc in omega arith)
+      to (refuse k) e h = e ∙ ap refuse (same-number (rw (refused-same d c room k e) at h))
+      to accept e h = absurd (apart (rw (accepted-answer d c room e) at h))
 
   pub decided-yes : Takes (answerOf d c room) ↔ (decide (view d) c room ≡ accept)
   unfolding refusedAnswer
   decided-yes = (to (decide (view d) c room) refl, λ e. (length (writes (laneFor d c) c), rw (accepted-answer d c room e)))
     where
       to : (x : Decision) → decide (view d) c room ≡ x → Takes (answerOf d c room) → decide (view d) c room ≡ accept
-      to (refuse k) e h = let q : Refused (number k) ≡ Written (h .0) = rw (refused-same d c room k e) at (h .1) in absurd (let z : _≡_ {A = ℕ} 0 1 = cc in omega arith)
+      to (refuse k) e h = absurd (apart (sym (rw (refused-same d c room k e) at (h .1))))
       to accept e h = e
 
 module _ (d : Desk) (c : Call) (out : List ℕ) where
@@ -181,23 +186,15 @@ module _ (d : Desk) (v : Valid d) where
 
   pub closing-no : (n : ℕ) → Refuses (closeAnswer d) n ↔ (Open d × (19 ≡ n))
   unfolding refusedAnswer
-  closing-no n = (λ h. ⊎-elim (λ e. absurd (closes e h)) (λ o. (o, numbered o h)) open-or-not, λ k. ap (λ (a : Answer). a .reply) (held (k .0)) ∙ ap (λ (m : ℕ). Refused (number m)) (k .1))
-    where
-      closes : places (d .lanes) ≡ 0 → Refuses (closeAnswer d) n → ⊥
-      closes e h = let q : Written 0 ≡ Refused (number n) = rw (closed e) at h in let z : _≡_ {A = ℕ} 0 1 = cc in omega arith
-
-      numbered : Open d → Refuses (closeAnswer d) n → 19 ≡ n
-      numbered o h =
-          let q : Refused (number 19) ≡ Refused (number n) = rw (held o) at h in
-          let r : number 19 ≡ number n = cc in
-          ap (λ (x : Refusal). x .number) r
+  closing-no n = (
+    λ h. ⊎-elim (λ e. absurd (apart (rw (closed e) at h))) (λ o. (o, same-number (rw (held o) at h))) open-or-not,
+    λ k. rw (held (k .0)) (ap (λ (m : ℕ). Refused (number m)) (k .1)),
+  )
 
   pub closing-yes : (closeAnswer d ≡ record { reply = Written 0; desk = freshDesk }) ↔ (Open d → ⊥)
   unfolding refusedAnswer
   closing-yes = (
-    λ e o. let q : refusedAnswer d 19 ≡ record { reply = Written 0; desk = freshDesk } = sym (held o) ∙ e in
-        let r : Refused (number 19) ≡ Written 0 = ap (λ (a : Answer). a .reply) q in
-        let z : _≡_ {A = ℕ} 0 1 = cc in omega arith,
+    λ e o. apart (ap (λ (a : Answer). a .reply) (sym e ∙ held o)),
     λ n. ⊎-elim closed (λ o. absurd (n o)) open-or-not,
   )
 

@@ -116,12 +116,15 @@ last-report (c ∷ cs) st = ⊎-elim quiet later (last-report cs (remembered st 
     later : ((r : Reported cs) × (recalled (remembered st c) cs ≡ statusOf (r .report))) → Answer
     later k =
         let r = k .0 in
-        inr (record { before = c ∷ r .before; lane = r .lane; report = r .report; after = r .after; calls = ap (λ (ds : List Call). c ∷ ds) (r .calls); silent = r .silent }, k .1)
+        let calls = ap (λ (ds : List Call). c ∷ ds) (r .calls) in
+        inr (record { before = c ∷ r .before; lane = r .lane; report = r .report; after = r .after; calls = calls; silent = r .silent }, k .1)
 
     quiet : AllSilent cs × (recalled (remembered st c) cs ≡ remembered st c) → Answer
     quiet k =
         ⊎-elim (λ n. inl ((n, k .0), k .1 ∙ n st))
-        (λ n. inr (record { before = []; lane = n .0; report = n .1; after = cs; calls = ap (λ (d : Call). d ∷ cs) (n .2); silent = k .0 }, k .1 ∙ n .3))
+        (λ n.
+        let calls = ap (λ (d : Call). d ∷ cs) (n .2) in
+        inr (record { before = []; lane = n .0; report = n .1; after = cs; calls = calls; silent = k .0 }, k .1 ∙ n .3))
         (reports st c)
 
 -- ---- both together

@@ -9,13 +9,14 @@ use lib.ListN.{length, getD}
 use lib.Dec.{ltb, eqb}
 use borrow.Author.Tests.{lt-ltb, le-ltb, ltb-true, ltb-false, eqb-true, eqb-false, ne-eqb}
 use Rattle.messages.specs.declared.Fault.{Fault}
-use Rattle.messages.specs.Reading.{Reading, got, refused, noHeader, unless, andThen, part}
-use Rattle.messages.specs.Message.{longLength, lengthOf, Header, headerSize, start, end, headerWith, headerOf, layoutOf, bodyOf, messageOf, wholeHeader, firstOf, readOf}
+use Rattle.messages.specs.Reading.{Reading, got, refused, noHeader, unless, andThen}
+use Rattle.messages.specs.Message.{longLength, lengthOf, Header, headerSize, end, headerWith, headerOf, messageOf, wholeHeader, firstOf, readOf}
 use Rattle.messages.specs.Shortest.{write, shorten}
 use Rattle.zvt.specs.Writing.{shortened}
 use Rattle.messages.proofs.Readings.{got-same, got-not-refused, unless-got, unless-on, then-got, then-on, then-stop}
 use Rattle.messages.proofs.FieldSteps.{header-in}
-use Rattle.promises.specs.ReadRows.{Says, HeaderRow, missing, long-missing, over-4096, cut-short, there, HeaderNo, Whole, WholeNo, BodyNo, FirstNo, ReadNo, ShortNo}
+use Rattle.promises.specs.ReadRows.{Says, HeaderRow, missing, long-missing, over-4096, cut-short, there}
+use Rattle.promises.specs.ReadRows.{HeaderNo, Whole, WholeNo, BodyNo, FirstNo, ReadNo, ShortNo}
 
 -- ---- what the length bytes say is what is read
 length-read : (c i : ℕ) (t : List ℕ) (long : Bool) (v : ℕ) → Says (c ∷ (i ∷ t)) long v → lengthOf t ≡ got (record { long = long; value = v })

@@ -88,7 +88,12 @@ unfolding decide buffer
 roomy-taken s c h =
     let t = told s c h in
     let l = laneAt (s .lanes) (laneOf c) in
-    rw (lt-leb 8 (laneOf c) (t .lane), passing (moves l (s .lines) c) _ (t .moved), few-tell (opens c) (load s) (t .room), le-ltb 16 (length (writes l c)) (writes-size l c))
+    rw (
+      lt-leb 8 (laneOf c) (t .lane),
+      passing (moves l (s .lines) c) _ (t .moved),
+      few-tell (opens c) (load s) (t .room),
+      le-ltb 16 (length (writes l c)) (writes-size l c),
+    )
 
 pub calls-roomy : (cs : List Call) → callsIn (roomy cs) ≡ cs
 unfolding callsIn roomy
@@ -101,7 +106,8 @@ can [] d v b h = tt
 can (c ∷ cs) d v b h =
     let e = roomy-taken (view d) c (h .0) in
     let room = length buffer in
-    (decided-yes d c room .1 e, can cs (answerOf d c room .desk) (answer-valid d c room v (b .0)) (b .1) (subst (λ (s : State). Accepted s cs) (sym (follows d c room v e)) (h .1)))
+    let rest = subst (λ (s : State). Accepted s cs) (sym (follows d c room v e)) (h .1) in
+    (decided-yes d c room .1 e, can cs (answerOf d c room .desk) (answer-valid d c room v (b .0)) (b .1) rest)
 
 -- ---- the calls of a payment are calls of the day
 all-append : (xs ys : List Call) → OfBytes xs → OfBytes ys → OfBytes (xs ++ ys)

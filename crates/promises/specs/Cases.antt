@@ -1,116 +1,16 @@
--- Document 01, 'Both sides of each edge': the cases marked P, as one table. Every answer is computed by the definitions that the
--- functions' contracts cite. Definitions only.
-use Prim.Native.Nat.{ℕ, zero, suc, _*_, _+_, _/_, _%_}
-use mathlib.Core.Bool.{Bool, true, false}
+-- Document 01, 'Both sides of each edge': the cases marked P, as one table. Definitions only.
+use Prim.Native.Nat.{ℕ, zero, suc, _/_, _%_}
+use mathlib.Core.Bool.{true, false}
 use mathlib.Core.List.{List, [], _∷_, _++_}
-use lib.IntN.{ℤ, pos}
-use lib.ListN.{length, take, replicate}
-use Rattle.messages.specs.Reading.{Reading, got, refused}
+use lib.IntN.{pos}
+use lib.ListN.{replicate}
 use Rattle.messages.specs.Objects.{bare, leaf, none, more}
-use Rattle.messages.specs.Fields.{Field, plain, container}
-use Rattle.messages.specs.Message.{Message, readOf}
-use Rattle.messages.specs.Values.{bodyFields}
-use Rattle.zvt.specs.declared.ReadAnswer.{ReadAnswer}
-use Rattle.zvt.specs.declared.ReadAnswer.the-variants.{Accepted, Refused as read-refused}
-use Rattle.zvt.specs.declared.ShortenAnswer.{ShortenAnswer}
-use Rattle.zvt.specs.declared.ShortenAnswer.the-variants.{Written as short-written, Refused as short-refused}
-use Rattle.zvt.specs.Answers.{readAnswer}
-use Rattle.zvt.specs.Writing.{shortenAnswer, shortenLeaves}
-use Rattle.zvt.specs.Name.{cardName}
+use Rattle.messages.specs.Fields.{plain, container}
 use Rattle.course.specs.declared.Kind.the-variants.{Sale}
 use Rattle.course.specs.declared.Outcome.the-variants.{Declined, Approved}
 use Rattle.course.specs.declared.Line.{Line}
-use Rattle.course.specs.declared.Desk.{Desk}
-use Rattle.course.specs.declared.Reply.{Reply}
-use Rattle.course.specs.declared.Reply.the-variants.{Written, Refused}
 use Rattle.course.specs.Course.{Call, sale, reversal, message}
-use Rattle.course.specs.Memory.{freshDesk, linesOfDesk, answerOf, leavesOf}
-use Rattle.course.specs.Turnover.{netOf}
-
-infix 70 _⟶_
-
--- ---- a row: what is asked, and what the page answers
-
-pub data Question : Type 0 where
-  -- the message that bytes are; a list of fields, and its card name; the bytes with every length shortest
-  read list name short : List ℕ → Question
-  -- a call after a day of calls; the day itself
-  call : List Call → Call → Question
-  day : List Call → Question
-
-pub data Answer : Type 0 where
-  -- pair, length of the body, whether every length was shortest, number of objects
-  accepted : ℕ → ℕ → Bool → ℕ → Answer
-  fields : List Field → Answer
-  bytes : List ℕ → Answer
-  -- the lines, and net turnover
-  book : List Line → ℤ → Answer
-  -- the number of refusal
-  no : ℕ → Answer
-
-pub data Row : Type 0 where
-  _⟶_ : Question → Answer → Row
-
--- ---- what the definitions answer
-
-unfoldable pub readSays : ReadAnswer → Answer
-readSays (Accepted m) = accepted (m .class * 256 + m .instruction) (m .length) (m .shortest) (m .objects)
-readSays (read-refused r) = no (r .number)
-
-unfoldable pub listSays : Reading Message → Answer
-listSays (got m) = fields (bodyFields (m .body))
-listSays (refused f) = no (f .number)
-
--- so many bytes were written into the output, which is left so
-unfoldable pub shortSays : ShortenAnswer → List ℕ → Answer
-shortSays (short-written n) out = bytes (take n out)
-shortSays (short-refused r) out = no (r .number)
-
-unfoldable pub callSays : Reply → List ℕ → Answer
-callSays (Written n) out = bytes (take n out)
-callSays (Refused r) out = no (r .number)
-
--- a list as the body of a status information
-unfoldable pub status : List ℕ → List ℕ
-status s = 0x04 ∷ 0x0F ∷ length s ∷ s
-
--- room for every command and reply
-unfoldable pub buffer : List ℕ
-buffer = replicate 16 0
-
--- the desk behind a day of calls; the day ends early where a call is refused
-unfoldable pub deskAfter : Desk → List Call → Desk
-deskAfter d [] = d
-deskAfter d (c ∷ cs) = deskAfter (answerOf d c (length buffer) .desk) cs
-
-unfoldable pub unlessNo : Reply → Answer → Answer
-unlessNo (Written n) a = a
-unlessNo (Refused r) a = no (r .number)
-
-unfoldable pub daySays : Desk → List Call → Answer
-daySays d [] = book (linesOfDesk d) (netOf (linesOfDesk d))
-daySays d (c ∷ cs) = unlessNo (answerOf d c (length buffer) .reply) (daySays (answerOf d c (length buffer) .desk) cs)
-
-unfoldable pub answerTo : Question → Answer
-answerTo (read s) = readSays (readAnswer s)
-answerTo (list s) = listSays (readOf (status s))
-answerTo (name s) = bytes (cardName (status s) [])
-answerTo (short s) = shortSays (shortenAnswer (length s) s) (shortenLeaves s s)
-answerTo (call cs c) =
-    let d = deskAfter freshDesk cs in
-    callSays (answerOf d c (length buffer) .reply) (leavesOf d c buffer)
-answerTo (day cs) = daySays freshDesk cs
-
--- the answers that the definitions give, and those that the page gives
-unfoldable pub computed : List Row → List Answer
-computed [] = []
-computed (q ⟶ a ∷ rs) = answerTo q ∷ computed rs
-
-unfoldable pub stated : List Row → List Answer
-stated [] = []
-stated (q ⟶ a ∷ rs) = a ∷ stated rs
-
--- ---- the table
+use Rattle.promises.specs.Asking.{Row, _⟶_, read, list, name, short, call, day, accepted, fields, bytes, book, no, status}
 
 -- so many bytes, written as one number
 unfoldable pub hex : ℕ → ℕ → List ℕ
