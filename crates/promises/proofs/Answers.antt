@@ -2,12 +2,11 @@
 use mathlib.Core.Path.{_≡_, refl, sym, ap, _∙_}
 use mathlib.Core.Bool.{Bool, true, false, false≢true}
 use mathlib.Core.Logic.{_↔_, _⊎_, inl, inr, ⊎-elim}
-use mathlib.Core.List.{List, [], _∷_, _++_}
-use Prim.Native.Nat.{ℕ, zero, suc, _+_, _<_, _≤_}
+use mathlib.Core.List.{List, [], _∷_}
+use Prim.Native.Nat.{ℕ, suc, _<_}
 use native.Mathlib.Omega.{arith}
 use lib.ListN.{length, take, drop}
 use lib.Seq.{take-at, drop-at}
-use lib.Dec.{ltb, leb, eqb}
 use borrow.Author.Tests.{eq-eqb, ne-eqb}
 use Rattle.messages.specs.declared.Fault.{Fault}
 use Rattle.messages.specs.declared.Refusal.{Refusal}
@@ -25,7 +24,7 @@ use Rattle.course.specs.declared.Lane.{Lane}
 use Rattle.course.specs.declared.Desk.{Desk}
 use Rattle.course.specs.declared.Answer.{Answer}
 use Rattle.course.specs.declared.Reply.the-variants.{Written, Refused}
-use Rattle.course.specs.Course.{isIdle, Call, laneOf, writes}
+use Rattle.course.specs.Course.{isIdle, Call, writes}
 use Rattle.course.specs.Desk.{laneAt, place, places, Decision, refuse, accept, decide}
 use Rattle.course.specs.Memory.{freshDesk, view, Valid, refusedAnswer, answerOf, leavesOf, closeAnswer}
 use Rattle.course.proofs.Rows.{phaseAt}

@@ -1,13 +1,13 @@
 -- Which messages make a line approved: a report of code 00, the last of the payment's reports, and then a completion. Assumes nothing.
 use mathlib.Core.Path.{_≡_, refl, sym, ap, _∙_}
-use mathlib.Core.Bool.{Bool, true, false, not, _&&_, and-eq-true-iff}
+use mathlib.Core.Bool.{not, _&&_, and-eq-true-iff}
 use mathlib.Core.Logic.{_⊎_, inl, inr, ⊎-elim}
 use mathlib.Core.List.{List, [], _∷_, _++_}
 use Prim.Native.Nat.{ℕ}
 use native.Mathlib.Omega.{arith}
 use lib.Dec.{eqb}
 use borrow.Author.Tests.{eqb-true}
-use Rattle.messages.specs.Reading.{Reading, got, refused, pick}
+use Rattle.messages.specs.Reading.{Reading, got, refused}
 use Rattle.messages.specs.Message.{Body, bytes, listed, Message, readOf}
 use Rattle.messages.specs.Values.{statusOf}
 use Rattle.messages.specs.declared.Status.{Status}

@@ -9,9 +9,8 @@ use Prim.Native.Nat.{ℕ, _+_}
 use lib.IntN.{pos, _-ℤ_}
 use lib.ListN.{length, getD}
 use Rattle.course.specs.declared.Desk.{Desk}
-use Rattle.course.specs.declared.Line.{Line}
 use Rattle.course.specs.Course.{Call, laneOf}
-use Rattle.course.specs.Desk.{State, fresh, places, run, wrote}
+use Rattle.course.specs.Desk.{State, fresh, places, run}
 use Rattle.course.specs.Memory.{freshDesk, linesOfDesk, view}
 use Rattle.course.specs.Payments.{paymentsOf, oneByOne, linesOf}
 use Rattle.course.specs.Turnover.{gains, losses, netOf}

@@ -10,7 +10,7 @@ use native.Mathlib.Omega.{arith}
 use lib.ListN.{length, take}
 use Rattle.messages.specs.Reading.{Reading, got, refused, unless, andThen, among}
 use Rattle.messages.specs.Fields.{Field}
-use Rattle.messages.specs.Message.{Body, bytes, listed, Message, lengthOf, headerWith, headerOf, layoutOf, bodyOf, messageOf, wholeHeader, readOf, firstOf, countOf}
+use Rattle.messages.specs.Message.{bytes, listed, Message, lengthOf, headerWith, headerOf, layoutOf, bodyOf, messageOf, wholeHeader, readOf, firstOf, countOf}
 use Rattle.messages.specs.Writing.{messageBytes}
 use Rattle.messages.specs.Shortest.{shortMessage, isShort, write, shorten, SameValues}
 use Rattle.messages.specs.Grammar.{Bytes, MessageOk}

@@ -7,12 +7,10 @@ use mathlib.Core.List.{List, [], _∷_, _++_}
 use Prim.Native.Nat.{ℕ, _<_}
 use native.Mathlib.Omega.{arith}
 use lib.ListN.{length, getD, take}
-use Rattle.course.specs.declared.Phase.{Phase}
 use Rattle.course.specs.declared.Phase.the-variants.{Idle}
 use Rattle.course.specs.declared.Outcome.the-variants.{Approved}
 use Rattle.course.specs.declared.Desk.{Desk}
 use Rattle.course.specs.declared.Line.{Line}
-use Rattle.course.specs.declared.Answer.{Answer}
 use Rattle.course.specs.Lanes.{blankLine}
 use Rattle.course.specs.Course.{isIdle, Call, laneOf, opens}
 use Rattle.course.specs.Desk.{State, laneAt, Decision, refuse, accept, decide}
@@ -27,7 +25,7 @@ use Rattle.course.proofs.Memory.{refused-same, follows}
 use Rattle.promises.specs.Days.{Turn, callsIn, OfBytes, Taken}
 use Rattle.promises.proofs.Turns.{Day, a-day, of-desk}
 use Rattle.promises.proofs.Counted.{Counted, counted}
-use Rattle.promises.proofs.Openings.{In, in-middle, lines-length, Ended, Ongoing, opened}
+use Rattle.promises.proofs.Openings.{In, in-middle, lines-length, opened}
 use Rattle.promises.proofs.DemandThree.{atEnd, every-line, every-lane}
 
 module _ (day : List Turn) (b : OfBytes (callsIn day)) (t : Taken freshDesk day) where
