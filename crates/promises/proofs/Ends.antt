@@ -5,6 +5,7 @@ use Rattle.zvt.proofs as zvt
 use Rattle.desk.proofs as desk
 use Rattle.course.proofs as course
 use Rattle.blocks.proofs as blocks
+use Rattle.listing.proofs as listing
 use Rattle.course.specs.Memory.{Valid}
 
 -- Every public function's own theorem: a call of it ends, reads and writes only what it was lent, and answers as its contract states.
@@ -42,6 +43,12 @@ pub every-call-ends : {M : Type 1}
     × blocks.Block.before_last.Statement.statement M
     × blocks.Block.at_end.Statement.statement M
     × blocks.Taped.fresh.Statement.statement M
+    × listing.add_ids.Statement.statement M
+    × listing.next_line.Statement.statement M
+    × listing.text.add.Statement.statement M
+    × listing.text.add_all.Statement.statement M
+    × listing.text.add_hex.Statement.statement M
+    × listing.text.add_decimal.Statement.statement M
 every-call-ends = (
   zvt.read_header.Met.met,
   zvt.read.Met.met,
@@ -76,6 +83,12 @@ every-call-ends = (
   blocks.Block.before_last.Met.met,
   blocks.Block.at_end.Met.met,
   blocks.Taped.fresh.Met.met,
+  listing.add_ids.Met.met,
+  listing.next_line.Met.met,
+  listing.text.add.Met.met,
+  listing.text.add_all.Met.met,
+  listing.text.add_hex.Met.met,
+  listing.text.add_decimal.Met.met,
 )
 
 -- No function but the desk's asks anything of its caller; those ask that the desk is one that these functions gave out.
@@ -113,7 +126,19 @@ pub nothing-to-test :
     × ((κs : _) (a : _) → blocks.Block.before_last.Reads.Asked κs a ≡ Unit {0})
     × ((κs : _) (a : _) → blocks.Block.at_end.Reads.Asked κs a ≡ Unit {0})
     × ((κs : _) (a : _) → blocks.Taped.fresh.Reads.Asked κs a ≡ Unit {0})
+    × ((κs : _) (a : _) → listing.add_ids.Reads.Asked κs a ≡ Unit {0})
+    × ((κs : _) (a : _) → listing.next_line.Reads.Asked κs a ≡ Unit {0})
+    × ((κs : _) (a : _) → listing.text.add.Reads.Asked κs a ≡ Unit {0})
+    × ((κs : _) (a : _) → listing.text.add_all.Reads.Asked κs a ≡ Unit {0})
+    × ((κs : _) (a : _) → listing.text.add_hex.Reads.Asked κs a ≡ Unit {0})
+    × ((κs : _) (a : _) → listing.text.add_decimal.Reads.Asked κs a ≡ Unit {0})
 nothing-to-test = (
+  λ κs a. refl,
+  λ κs a. refl,
+  λ κs a. refl,
+  λ κs a. refl,
+  λ κs a. refl,
+  λ κs a. refl,
   λ κs a. refl,
   λ κs a. refl,
   λ κs a. refl,

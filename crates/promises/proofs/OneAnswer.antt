@@ -1,7 +1,7 @@
 -- "Every public function states one answer and one content of lent memory for each input, refusals too .. That it admits only one
 -- answer is proved". What a function states is its own contract, as a caller learns it (`Learnt`): were a clause of it weakened, the
 -- function's line here would fail. Assumes nothing.
-use mathlib.Core.Path.{_≡_, refl, sym, ap₂, _∙_}
+use mathlib.Core.Path.{_≡_, refl, sym, ap, ap₂, _∙_}
 use Prim.Native.Nat.{ℕ}
 use mathlib.Core.List.{List}
 use denote.Ref.{RefT, now}
@@ -9,6 +9,8 @@ use Rattle.zvt.proofs as zvt
 use Rattle.desk.proofs as desk
 use Rattle.course.proofs as course
 use Rattle.blocks.proofs as blocks
+use Rattle.listing.proofs as listing
+use Rattle.listing.specs.Text.{Text}
 
 -- a statement of the answer and of what was lent, at exit: any two answers that it admits are the same, and any two contents
 pub record Only {A E X Y : Type 0} (answer : A → X) (lent : E → Y) (states : A → E → Type 0) : Type 0 where
@@ -131,3 +133,22 @@ block-at-end-one κs a = only _ _ (λ r e h. (h, refl))
 
 pub taped-fresh-one : (κs : _) (a : _) → Only whole nothing (blocks.Taped.fresh.Reads.Learnt κs a)
 taped-fresh-one κs a = only _ _ (λ r e h. (h, refl))
+
+-- ---- the text of a listing: how far the buffer is taken, and its bytes
+pub add-ids-one : (κs : _) (a : _) → Only whole (λ e. now (e .1 .1 .0)) (listing.add_ids.Reads.Learnt κs a)
+add-ids-one κs a = only _ _ (λ r e h. (ap (λ (t : Text). t .at) h, ap (λ (t : Text). t .bytes) h))
+
+pub next-line-one : (κs : _) (a : _) → Only whole (λ e. now (e .1 .1 .0)) (listing.next_line.Reads.Learnt κs a)
+next-line-one κs a = only _ _ (λ r e h. (h .0 .answer, h .0 .left))
+
+pub text-add-one : (κs : _) (a : _) → Only whole (λ e. now (e .1 .1 .0)) (listing.text.add.Reads.Learnt κs a)
+text-add-one κs a = only _ _ (λ r e h. (ap (λ (t : Text). t .at) h, ap (λ (t : Text). t .bytes) h))
+
+pub text-add-all-one : (κs : _) (a : _) → Only whole (λ e. now (e .1 .1 .0)) (listing.text.add_all.Reads.Learnt κs a)
+text-add-all-one κs a = only _ _ (λ r e h. (ap (λ (t : Text). t .at) h, ap (λ (t : Text). t .bytes) h))
+
+pub text-add-hex-one : (κs : _) (a : _) → Only whole (λ e. now (e .1 .1 .0)) (listing.text.add_hex.Reads.Learnt κs a)
+text-add-hex-one κs a = only _ _ (λ r e h. (ap (λ (t : Text). t .at) h, ap (λ (t : Text). t .bytes) h))
+
+pub text-add-decimal-one : (κs : _) (a : _) → Only whole (λ e. now (e .1 .1 .0)) (listing.text.add_decimal.Reads.Learnt κs a)
+text-add-decimal-one κs a = only _ _ (λ r e h. (ap (λ (t : Text). t .at) h, ap (λ (t : Text). t .bytes) h))
