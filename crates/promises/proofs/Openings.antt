@@ -1,100 +1,102 @@
--- Every opening of a day is the first call of one of its payments. Assumes nothing.
-use mathlib.Core.Path.{_≡_, refl, ap, subst, _∙_}
+-- The openings of a day are the first calls of its payments, one by one. Assumes nothing.
+use mathlib.Core.Path.{_≡_, refl, sym, ap, ap₂, _∙_}
 use mathlib.Core.Bool.{Bool, true, false}
-use mathlib.Core.Logic.{_⊎_, inl, inr, ⊎-elim}
+use mathlib.Core.Logic.{_⊎_, ⊎-elim}
 use mathlib.Core.List.{List, [], _∷_, _++_}
 use Prim.Native.Nat.{ℕ, suc, _+_, _<_}
 use native.Mathlib.Omega.{arith}
 use lib.ListN.{length, getD, length-append}
 use lib.Dec.{eqb}
-use borrow.Author.Tests.{eq-eqb}
 use Rattle.messages.specs.Reading.{pick}
 use Rattle.course.specs.declared.Line.{Line}
 use Rattle.course.specs.Course.{Call, laneOf, opens}
-use Rattle.course.specs.Desk.{fresh, Accepted, run}
+use Rattle.course.specs.Desk.{fresh, Accepted}
 use Rattle.course.specs.Payments.{paymentsOf, joined, lineOf, linesOf}
 use Rattle.course.proofs.Lanes.{having, total, callsOf, opening-is}
 use Rattle.course.proofs.Runs.{openings}
 use Rattle.course.proofs.Payment.{Begins}
-use Rattle.course.proofs.DayBook.{book, every-opening}
+use Rattle.course.proofs.DayBook.{every-opening}
+use Rattle.promises.specs.Days.{openingsIn, firsts}
 
--- one of the calls
-unfoldable pub In : Call → List Call → Type 0
-In c [] = ⊥
-In c (x ∷ xs) = (x ≡ c) ⊎ In c xs
-
-pub in-middle : (c : Call) (xs ys : List Call) → In c (xs ++ (c ∷ ys))
-unfolding In
-in-middle c [] ys = inl refl
-in-middle c (x ∷ xs) ys = inr (in-middle c xs ys)
-
-in-append : (c : Call) (xs ys : List Call) → In c (xs ++ ys) → In c xs ⊎ In c ys
-unfolding In
-in-append c [] ys h = inr h
-in-append c (x ∷ xs) ys (inl e) = inl (inl e)
-in-append c (x ∷ xs) ys (inr h) = ⊎-elim (λ k. inl (inr k)) inr (in-append c xs ys h)
-
--- ---- of its lane
-in-lane : (c : Call) (xs : List Call) → In c xs → In c (callsOf (laneOf c) xs)
-unfolding In having
-in-lane c (x ∷ xs) (inl e) = rw (eq-eqb (laneOf x) (laneOf c) (ap laneOf e)) (inl e)
-in-lane c (x ∷ xs) (inr h) = go (eqb (laneOf x) (laneOf c)) (in-lane c xs h)
+-- ---- of calls in a row, and of a lane's calls
+openings-append : (xs ys : List Call) → openingsIn (xs ++ ys) ≡ openingsIn xs ++ openingsIn ys
+unfolding openingsIn
+openings-append [] ys = refl
+openings-append (x ∷ xs) ys = rw (openings-append xs ys) (go (opens x))
   where
-    go : (t : Bool) → In c (callsOf (laneOf c) xs) → In c (pick t (x ∷ callsOf (laneOf c) xs) (callsOf (laneOf c) xs))
-    go true k = inr k
-    go false k = k
+    go : (t : Bool) → pick t (x ∷ (openingsIn xs ++ openingsIn ys)) (openingsIn xs ++ openingsIn ys)
+        ≡ pick t (x ∷ openingsIn xs) (openingsIn xs) ++ openingsIn ys
+    go true = refl
+    go false = refl
 
-of-lane : (c : Call) (k : ℕ) (xs : List Call) → In c (callsOf k xs) → In c xs
-unfolding In having
-of-lane c k [] h = h
-of-lane c k (x ∷ xs) h = go (eqb (laneOf x) k) (of-lane c k xs) h
+openings-lane : (k : ℕ) (xs : List Call) → openingsIn (callsOf k xs) ≡ callsOf k (openingsIn xs)
+unfolding openingsIn having
+openings-lane k [] = refl
+openings-lane k (x ∷ xs) = go (eqb (laneOf x) k) (opens x) refl refl (openings-lane k xs)
   where
-    go : (t : Bool) → (In c (callsOf k xs) → In c xs) → In c (pick t (x ∷ callsOf k xs) (callsOf k xs)) → (x ≡ c) ⊎ In c xs
-    go true f (inl e) = inl e
-    go true f (inr h) = inr (f h)
-    go false f h = inr (f h)
+    go : (t o : Bool) → eqb (laneOf x) k ≡ t → opens x ≡ o → openingsIn (callsOf k xs) ≡ callsOf k (openingsIn xs)
+        → openingsIn (pick t (x ∷ callsOf k xs) (callsOf k xs)) ≡ callsOf k (pick o (x ∷ openingsIn xs) (openingsIn xs))
+    go true true e f h = rw (e, f) (ap (λ (ys : List Call). x ∷ ys) h)
+    go true false e f h = rw f h
+    go false true e f h = rw e h
+    go false false e f h = h
 
--- ---- of a payment
-in-joined : (c : Call) (ps : List (List Call)) → In c (joined ps) → (j : ℕ) × (j < length ps) × In c (getD ps j [])
-unfolding joined In
-in-joined c [] h = absurd h
-in-joined c (p ∷ ps) h =
-    ⊎-elim (λ k. (0, omega arith, k)) (λ k. let r = in-joined c ps k in (suc (r .0), omega (arith, r .1), r .2)) (in-append c p (joined ps) h)
+-- ---- of a payment only its first call is one
+none-in : (xs : List Call) → openings xs ≡ 0 → openingsIn xs ≡ []
+unfolding openingsIn total
+none-in [] e = refl
+none-in (x ∷ xs) e = go (opens x) refl (none-in xs)
+  where
+    go : (o : Bool) → opens x ≡ o → (openings xs ≡ 0 → openingsIn xs ≡ []) → pick o (x ∷ openingsIn xs) (openingsIn xs) ≡ []
+    go true f h = absurd (omega (arith, opening-is x true f))
+    go false f h = h (omega arith)
 
--- an opening among calls is counted
-in-opens : (c : Call) (xs : List Call) → opens c ≡ true → In c xs → 0 < openings xs
-unfolding In total
-in-opens c (x ∷ xs) o (inl e) = omega (arith, opening-is x true (ap opens e ∙ o))
-in-opens c (x ∷ xs) o (inr h) = omega (arith, in-opens c xs o h)
+payment-first : (p : List Call) → Begins p → openingsIn p ≡ firsts (p ∷ [])
+unfolding Begins openingsIn firsts
+payment-first [] b = absurd b
+payment-first (o ∷ ds) b = rw (b .0, none-in ds (b .1))
 
--- so it is the first of its payment
-begins-it : (c : Call) (p : List Call) → Begins p → opens c ≡ true → In c p → (rest : List Call) × (p ≡ c ∷ rest)
-unfolding Begins In
-begins-it c (x ∷ xs) b o (inl e) = (xs, ap (λ (y : Call). y ∷ xs) e)
-begins-it c (x ∷ xs) b o (inr h) = absurd (omega (arith, in-opens c xs o h, b .1))
+-- payments that begin so
+unfoldable All : List (List Call) → Type 0
+All [] = Unit {0}
+All (p ∷ ps) = Begins p × All ps
+
+all-begin : (ps : List (List Call)) → ((j : ℕ) → j < length ps → Begins (getD ps j [])) → All ps
+unfolding All
+all-begin [] h = tt
+all-begin (p ∷ ps) h = (h 0 (omega arith), all-begin ps (λ j l. h (suc j) (omega arith)))
+
+joined-firsts : (ps : List (List Call)) → All ps → (openingsIn (joined ps) ≡ firsts ps) × (length (firsts ps) ≡ length ps)
+unfolding All joined firsts openingsIn Begins
+joined-firsts [] h = (refl, refl)
+joined-firsts ([] ∷ ps) h = absurd (h .0)
+joined-firsts ((o ∷ ds) ∷ ps) h =
+    let k = joined-firsts ps (h .1) in
+    (openings-append (o ∷ ds) (joined ps) ∙ ap₂ (λ (xs ys : List Call). xs ++ ys) (payment-first (o ∷ ds) (h .0)) (k .0), omega (arith, k .1))
 
 pub lines-length : (ls : List Line) (ps : List (List Call)) → length (linesOf ls ps) ≡ length ls + length ps
 unfolding linesOf
 lines-length ls [] = omega arith
 lines-length ls (p ∷ ps) = omega (arith, lines-length (ls ++ (lineOf ls p ∷ [])) ps, length-append ls (lineOf ls p ∷ []))
 
--- ended, with a line of its own, or still open
-abbrev pub Ended : List Call → ℕ → Call → Type 0
-Ended cs lines c = (j : ℕ) × (j < lines) × ((rest : List Call) × (getD (paymentsOf cs .ended) j [] ≡ c ∷ rest))
+-- ---- one by one
+module _ (cs : List Call) (h : Accepted fresh cs) where
+  begun : All (paymentsOf cs .ended)
+  begun = all-begin (paymentsOf cs .ended) (λ j l. every-opening cs h .ended j l .3)
 
-abbrev pub Ongoing : List Call → Call → Type 0
-Ongoing cs c = (rest : List Call) × (getD (paymentsOf cs .ongoing) (laneOf c) [] ≡ c ∷ rest)
+  pub ended-firsts : length (firsts (paymentsOf cs .ended)) ≡ length (paymentsOf cs .ended)
+  ended-firsts = joined-firsts (paymentsOf cs .ended) begun .1
 
-pub opened : (cs : List Call) → Accepted fresh cs → (c : Call) → In c cs → opens c ≡ true → Ended cs (length (run fresh cs .lines)) c ⊎ Ongoing cs c
-unfolding In
-opened cs h c i o =
-    let p = paymentsOf cs in
-    let paid = every-opening cs h in
-    let k = laneOf c in
-    ⊎-elim
-    (λ x.
-    let y = in-joined c (p .ended) (of-lane c k (joined (p .ended)) x) in
-    let whole = paid .ended (y .0) (y .1) in
-    inl (y .0, omega (arith, y .1, ap length (book cs h), lines-length [] (p .ended)), begins-it c _ (whole .3) o (y .2)))
-    (λ x. ⊎-elim (λ e. absurd (subst (In c) e x)) (λ b. inr (begins-it c _ b o x)) (paid .ongoing k))
-    (in-append c (callsOf k (joined (p .ended))) (getD (p .ongoing) k []) (subst (In c) (paid .calls k) (in-lane c cs i)))
+  open-first : (k : ℕ) → openingsIn (getD (paymentsOf cs .ongoing) k []) ≡ firsts (getD (paymentsOf cs .ongoing) k [] ∷ [])
+  unfolding firsts openingsIn
+  open-first k = ⊎-elim (λ e. rw e) (payment-first _) (every-opening cs h .ongoing k)
+
+  pub one-by-one : (k : ℕ) → callsOf k (openingsIn cs)
+      ≡ callsOf k (firsts (paymentsOf cs .ended)) ++ firsts (getD (paymentsOf cs .ongoing) k [] ∷ [])
+  one-by-one k =
+      let p = paymentsOf cs in
+      sym (openings-lane k cs)
+      ∙ ap openingsIn (every-opening cs h .calls k)
+      ∙ openings-append (callsOf k (joined (p .ended))) (getD (p .ongoing) k [])
+      ∙ ap₂ (λ (xs ys : List Call). xs ++ ys)
+      (openings-lane k (joined (p .ended)) ∙ ap (callsOf k) (joined-firsts (p .ended) begun .0)) (open-first k)

@@ -1,32 +1,27 @@
 -- The auditor's three questions, each with the theorem that answers it. A day is any list of calls that the desk accepted, from a fresh
 -- one on. Assumes nothing.
-use mathlib.Core.Path.{_≡_, refl, sym, ap, subst, _∙_}
-use mathlib.Core.Bool.{true, false, false≢true}
-use mathlib.Core.Logic.{_⊎_, inl, inr, ⊎-elim}
+use mathlib.Core.Path.{_≡_, refl, sym, ap, _∙_}
 use mathlib.Core.List.{List, [], _∷_, _++_}
 use Prim.Native.Nat.{ℕ, _<_}
 use native.Mathlib.Omega.{arith}
 use lib.ListN.{length, getD, take}
-use Rattle.course.specs.declared.Phase.the-variants.{Idle}
 use Rattle.course.specs.declared.Outcome.the-variants.{Approved}
 use Rattle.course.specs.declared.Desk.{Desk}
 use Rattle.course.specs.declared.Line.{Line}
 use Rattle.course.specs.Lanes.{blankLine}
-use Rattle.course.specs.Course.{isIdle, Call, laneOf, opens}
+use Rattle.course.specs.Course.{Call, laneOf}
 use Rattle.course.specs.Desk.{State, laneAt, Decision, refuse, accept, decide}
 use Rattle.course.specs.Memory.{freshDesk, linesOfDesk, view, Valid, refusedAnswer, answerOf}
 use Rattle.course.specs.Payments.{paymentsOf, lineOf}
-use Rattle.course.proofs.Lanes.{ofLane, own, isolation}
-use Rattle.course.proofs.Rows.{phaseAt}
-use Rattle.course.proofs.Payment.{Says}
+use Rattle.course.proofs.Lanes.{ofLane, callsOf, isolation}
 use Rattle.course.proofs.DayBook.{Whole, line-of}
 use Rattle.course.proofs.DayBook as book
 use Rattle.course.proofs.Memory.{refused-same, follows}
-use Rattle.promises.specs.Days.{Turn, callsIn, OfBytes, Taken}
+use Rattle.promises.specs.Days.{Turn, callsIn, OfBytes, Taken, openingsIn, firsts}
 use Rattle.promises.proofs.Turns.{Day, a-day, of-desk}
 use Rattle.promises.proofs.Counted.{Counted, counted}
-use Rattle.promises.proofs.Openings.{In, in-middle, lines-length, opened}
-use Rattle.promises.proofs.DemandThree.{atEnd, every-line, every-lane}
+use Rattle.promises.proofs.Openings.{lines-length, ended-firsts, one-by-one}
+use Rattle.promises.proofs.DemandThree.{atEnd, every-line}
 
 module _ (day : List Turn) (b : OfBytes (callsIn day)) (t : Taken freshDesk day) where
   abbrev calls : List Call
@@ -59,22 +54,14 @@ module _ (day : List Turn) (b : OfBytes (callsIn day)) (t : Taken freshDesk day)
         λ a. counted (take j lines) _ (ap (λ (x : Line). x .outcome) (sym e) ∙ a),
       )
 
-  -- "Can a payment begin and leave no line at all?" Each opening begins a payment that has its line, or one that is still open.
-  pub no-payment-lost : (xs ys : List Call) (c : Call) → calls ≡ xs ++ (c ∷ ys) → opens c ≡ true
-      → ((j : ℕ) × (j < length lines) × ((rest : List Call) × (getD lines j blankLine ≡ lineOf (take j lines) (c ∷ rest))))
-      ⊎ (phaseAt (view (atEnd day)) (laneOf c) ≡ Idle → ⊥)
-  unfolding view Says isIdle
-  no-payment-lost xs ys c e o =
-      let k = laneOf c in
-      let few = ap (λ (s : State). length (s .lines)) (its .leaves) in
-      ⊎-elim
-      (λ x.
-      let l : x .0 < length lines = omega (arith, x .1) in
-      inl (x .0, l, (x .2 .0, by-payment (x .0) l ∙ ap (lineOf (take (x .0) lines)) (x .2 .1))))
-      (λ x. inr λ q.
-      let s = subst (Says k (own k (view (atEnd day)))) (x .1) (every-lane day b t k) in
-      false≢true (sym (s .2) ∙ ap isIdle q))
-      (opened calls (its .accepted) c (subst (In c) (sym e) (in-middle c xs ys)) o)
+  -- "Can a payment begin and leave no line at all?" The openings of a lane are, one by one and in order, the first calls of its payments: of
+  -- those that ended, of which there are as many as lines, and of the one that is still open.
+  pub no-payment-lost : (length (firsts (paymentsOf calls .ended)) ≡ length lines)
+      × ((k : ℕ) → callsOf k (openingsIn calls) ≡ callsOf k (firsts (paymentsOf calls .ended)) ++ firsts (getD (paymentsOf calls .ongoing) k [] ∷ []))
+  no-payment-lost =
+      let few = ap length (every-line day b t) in
+      let all = lines-length [] (paymentsOf calls .ended) in
+      (omega (arith, ended-firsts calls (its .accepted)), one-by-one calls (its .accepted))
 
 -- "If two terminals talk at once, can one customer's answer land on the other's line?" A call for one lane changes no other lane, and none
 -- of the lines of another lane.

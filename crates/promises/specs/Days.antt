@@ -8,7 +8,8 @@ use Rattle.course.specs.declared.Desk.{Desk}
 use Rattle.course.specs.declared.Reply.{Reply}
 use Rattle.course.specs.declared.Reply.the-variants.{Written, Refused}
 use Rattle.course.specs.declared.Answer.{Answer}
-use Rattle.course.specs.Course.{Call}
+use Rattle.messages.specs.Reading.{pick}
+use Rattle.course.specs.Course.{Call, opens}
 use Rattle.course.specs.Memory.{answerOf, leavesOf}
 use Rattle.course.proofs.Amounts.{NumbersFit}
 
@@ -55,3 +56,13 @@ bytesBy (Refused r) out = []
 unfoldable pub written : Desk → List Turn → List (List ℕ)
 written d [] = []
 written d (t ∷ ts) = bytesBy (answerIn d t .reply) (leavesOf d (t .call) (t .out)) ∷ written (answerIn d t .desk) ts
+
+-- the openings among calls, and the first calls of payments
+unfoldable pub openingsIn : List Call → List Call
+openingsIn [] = []
+openingsIn (c ∷ cs) = pick (opens c) (c ∷ openingsIn cs) (openingsIn cs)
+
+unfoldable pub firsts : List (List Call) → List Call
+firsts [] = []
+firsts ([] ∷ ps) = firsts ps
+firsts ((c ∷ cs) ∷ ps) = c ∷ firsts ps
