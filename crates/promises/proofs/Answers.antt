@@ -1,0 +1,202 @@
+-- What the answer of a function says of the reading or the decision behind it. Assumes nothing.
+use mathlib.Core.Path.{_≡_, refl, sym, ap, _∙_}
+use mathlib.Core.Bool.{Bool, true, false, false≢true}
+use mathlib.Core.Logic.{_↔_, _⊎_, inl, inr, ⊎-elim}
+use mathlib.Core.List.{List, [], _∷_}
+use Prim.Native.Nat.{ℕ, suc, _<_}
+use native.Mathlib.Omega.{arith}
+use lib.ListN.{length, take, drop}
+use lib.Seq.{take-at, drop-at}
+use borrow.Author.Tests.{eq-eqb, ne-eqb}
+use Rattle.messages.specs.declared.Fault.{Fault}
+use Rattle.messages.specs.declared.Refusal.{Refusal}
+use Rattle.messages.specs.Reading.{Reading, got, refused}
+use Rattle.messages.specs.Message.{wholeHeader, readOf, firstOf}
+use Rattle.zvt.specs.declared.HeaderAnswer.the-variants.{Refused as header-refused}
+use Rattle.zvt.specs.declared.ReadAnswer.the-variants.{Refused as read-refused}
+use Rattle.zvt.specs.declared.FirstAnswer.the-variants.{Refused as first-refused}
+use Rattle.zvt.specs.declared.ShortenAnswer.the-variants.{Written as short-written, Refused as short-refused}
+use Rattle.zvt.specs.Answers.{refusalOf, asHeaderAnswer, headerAnswer, asReadAnswer, readAnswer, asFirstAnswer, firstAnswer}
+use Rattle.zvt.specs.Writing.{front, shortened, asShortenAnswer, shortenAnswer, lent, shortenLeaves}
+use Rattle.course.specs.declared.Phase.{Phase}
+use Rattle.course.specs.declared.Phase.the-variants.{Idle, Waiting, Running}
+use Rattle.course.specs.declared.Lane.{Lane}
+use Rattle.course.specs.declared.Desk.{Desk}
+use Rattle.course.specs.declared.Answer.{Answer}
+use Rattle.course.specs.declared.Reply.the-variants.{Written, Refused}
+use Rattle.course.specs.Course.{isIdle, Call, writes}
+use Rattle.course.specs.Desk.{laneAt, place, places, Decision, refuse, accept, decide}
+use Rattle.course.specs.Memory.{freshDesk, view, Valid, refusedAnswer, answerOf, leavesOf, closeAnswer}
+use Rattle.course.proofs.Rows.{phaseAt}
+use Rattle.course.proofs.Memory.{place-idle, place-in, refused-same, accepted-answer, laneFor, refused-leaves, accepted-leaves}
+use Rattle.promises.proofs.ReadTable.{No}
+
+-- "Each refusal returns its number only"
+abbrev pub number : ℕ → Refusal
+number n = record { number = n }
+
+-- ---- a reading that is answered by a map of its own, which keeps refusals apart
+pub record Maps {A X : Type 0} (say : Reading A → X) (refuser : Refusal → X) : Type 0 where
+  pub kept : (f : Fault) → say (refused f) ≡ refuser (number (f .number))
+  pub apart : (a : A) (r : Refusal) → say (got a) ≡ refuser r → ⊥
+  pub one : (r r′ : Refusal) → refuser r ≡ refuser r′ → r ≡ r′
+
+pub reading-no : {A X : Type 0} (say : Reading A → X) (refuser : Refusal → X) → Maps say refuser → (x : Reading A) (n : ℕ)
+    → (say x ≡ refuser (number n)) ↔ No x n
+reading-no {A} say refuser m x n = (to x refl, λ h. ap say (h .1) ∙ m .kept (h .0) ∙ ap (λ (k : ℕ). refuser (number k)) (h .2))
+  where
+    to : (y : Reading A) → x ≡ y → say x ≡ refuser (number n) → No x n
+    to (got a) e h = absurd (m .apart a _ (ap say (sym e) ∙ h))
+    to (refused f) e h = (f, e, ap (λ (r : Refusal). r .number) (m .one _ _ (sym (m .kept f) ∙ ap say (sym e) ∙ h)))
+
+pub header-says : (s : List ℕ) (n : ℕ) → (headerAnswer s ≡ header-refused (number n)) ↔ No (wholeHeader s) n
+unfolding headerAnswer asHeaderAnswer refusalOf
+header-says s n =
+    reading-no asHeaderAnswer header-refused
+    (record { kept = λ f. refl; apart = λ a r e. (let z : _≡_ {A = ℕ} 0 1 = cc in omega arith); one = λ r r′ e. cc }) (wholeHeader s) n
+
+pub read-says : (s : List ℕ) (n : ℕ) → (readAnswer s ≡ read-refused (number n)) ↔ No (readOf s) n
+unfolding readAnswer asReadAnswer refusalOf
+read-says s n =
+    reading-no asReadAnswer read-refused
+    (record { kept = λ f. refl; apart = λ a r e. (let z : _≡_ {A = ℕ} 0 1 = cc in omega arith); one = λ r r′ e. cc }) (readOf s) n
+
+pub first-says : (s : List ℕ) (n : ℕ) → (firstAnswer s ≡ first-refused (number n)) ↔ No (firstOf s) n
+unfolding firstAnswer asFirstAnswer refusalOf
+first-says s n =
+    reading-no asFirstAnswer first-refused
+    (record { kept = λ f. refl; apart = λ a r e. (let z : _≡_ {A = ℕ} 0 1 = cc in omega arith); one = λ r r′ e. cc }) (firstOf s) n
+
+pub short-says : (room : ℕ) (s : List ℕ) (n : ℕ) → (shortenAnswer room s ≡ short-refused (number n)) ↔ No (shortened room s) n
+unfolding shortenAnswer asShortenAnswer refusalOf
+short-says room s n =
+    reading-no asShortenAnswer short-refused
+    (record { kept = λ f. refl; apart = λ a r e. (let z : _≡_ {A = ℕ} 0 1 = cc in omega arith); one = λ r r′ e. cc }) (shortened room s) n
+
+-- what a buffer that was lent holds at the end
+pub short-leaves : (s out : List ℕ) (n : ℕ) → shortenAnswer (length out) s ≡ short-refused (number n) → shortenLeaves s out ≡ out
+unfolding shortenLeaves lent
+short-leaves s out n e = let h = short-says (length out) s n .0 e in rw (h .1)
+
+pub short-beyond : (s out : List ℕ) (k : ℕ) → shortenAnswer (length out) s ≡ short-written k → drop k (shortenLeaves s out) ≡ drop k out
+unfolding shortenAnswer asShortenAnswer shortenLeaves lent front
+short-beyond s out k = go (shortened (length out) s)
+  where
+    go : (x : Reading (List ℕ)) → asShortenAnswer x ≡ short-written k → drop k (lent x out) ≡ drop k out
+    go (got w) e = let q : length w ≡ k = cc in drop-at w (drop (length w) out) k q ∙ ap (λ (n : ℕ). drop n out) q
+    go (refused f) e = absurd (let z : _≡_ {A = ℕ} 0 1 = cc in omega arith)
+
+-- ---- a call of the desk
+abbrev pub Refuses : Answer → ℕ → Type 0
+Refuses a n = a .reply ≡ Refused (number n)
+
+abbrev pub Takes : Answer → Type 0
+Takes a = (k : ℕ) × (a .reply ≡ Written k)
+
+-- a reply is one of the two, with one number
+apart : {k : ℕ} {r : Refusal} → Written k ≡ Refused r → ⊥
+apart e = let z : _≡_ {A = ℕ} 0 1 = cc in omega arith
+
+same-number : {m n : ℕ} → Refused (number m) ≡ Refused (number n) → m ≡ n
+same-number {m} {n} e = let q : number m ≡ number n = cc in ap (λ (r : Refusal). r .number) q
+
+module _ (d : Desk) (c : Call) (room : ℕ) where
+  pub decided-no : (n : ℕ) → Refuses (answerOf d c room) n ↔ (decide (view d) c room ≡ refuse n)
+  unfolding refusedAnswer
+  decided-no n = (to (decide (view d) c room) refl, λ e. rw (refused-same d c room n e))
+    where
+      to : (x : Decision) → decide (view d) c room ≡ x → Refuses (answerOf d c room) n → decide (view d) c room ≡ refuse n
+      to (refuse k) e h = e ∙ ap refuse (same-number (rw (refused-same d c room k e) at h))
+      to accept e h = absurd (apart (rw (accepted-answer d c room e) at h))
+
+  pub decided-yes : Takes (answerOf d c room) ↔ (decide (view d) c room ≡ accept)
+  unfolding refusedAnswer
+  decided-yes = (to (decide (view d) c room) refl, λ e. (length (writes (laneFor d c) c), rw (accepted-answer d c room e)))
+    where
+      to : (x : Decision) → decide (view d) c room ≡ x → Takes (answerOf d c room) → decide (view d) c room ≡ accept
+      to (refuse k) e h = absurd (apart (sym (rw (refused-same d c room k e) at (h .1))))
+      to accept e h = e
+
+module _ (d : Desk) (c : Call) (out : List ℕ) where
+  pub call-same : (n : ℕ) → Refuses (answerOf d c (length out)) n → (answerOf d c (length out) .desk ≡ d) × (leavesOf d c out ≡ out)
+  unfolding refusedAnswer
+  call-same n h =
+      let e = decided-no d c (length out) n .0 h in
+      (ap (λ (a : Answer). a .desk) (refused-same d c (length out) n e), refused-leaves d c out n e)
+
+  module _ (k : ℕ) (h : answerOf d c (length out) .reply ≡ Written k) where
+    taken : decide (view d) c (length out) ≡ accept
+    taken = decided-yes d c (length out) .0 (k, h)
+
+    size : length (writes (laneFor d c) c) ≡ k
+    size =
+        let q : Written (length (writes (laneFor d c) c)) ≡ Written k = rw (accepted-answer d c (length out) taken) at h in
+        cc
+
+    pub call-wrote : take k (leavesOf d c out) ≡ writes (laneFor d c) c
+    call-wrote = let w = writes (laneFor d c) c in ap (take k) (accepted-leaves d c out taken) ∙ take-at w (drop (length w) out) k size
+
+    pub call-beyond : drop k (leavesOf d c out) ≡ drop k out
+    call-beyond =
+        let w = writes (laneFor d c) c in
+        ap (drop k) (accepted-leaves d c out taken) ∙ drop-at w (drop (length w) out) k size ∙ ap (λ (n : ℕ). drop n out) size
+
+-- ---- closing
+unfoldable pub Open : Desk → Type 0
+Open d = (i : ℕ) × (i < 8) × (phaseAt (view d) i ≡ Idle → ⊥)
+
+idle-same : (p : Phase) → isIdle p ≡ true → p ≡ Idle
+unfolding isIdle
+idle-same Idle e = refl
+idle-same Waiting e = absurd (false≢true e)
+idle-same Running e = absurd (false≢true e)
+
+-- no place is taken, or some lane is not idle
+place-or-none : (ls : List Lane) → (places ls ≡ 0) ⊎ ((i : ℕ) × (i < length ls) × (laneAt ls i .phase ≡ Idle → ⊥))
+unfolding places place isIdle
+place-or-none [] = inl refl
+place-or-none (l ∷ ls) = go (isIdle (l .phase)) refl (place-or-none ls)
+  where
+    go : (t : Bool) → isIdle (l .phase) ≡ t → (places ls ≡ 0) ⊎ ((i : ℕ) × (i < length ls) × (laneAt ls i .phase ≡ Idle → ⊥))
+        → (places (l ∷ ls) ≡ 0) ⊎ ((i : ℕ) × (i < length (l ∷ ls)) × (laneAt (l ∷ ls) i .phase ≡ Idle → ⊥))
+    go false e r = inr (0, omega arith, λ q. false≢true (sym e ∙ ap isIdle q))
+    go true e (inl r) = inl (rw (e, r))
+    go true e (inr r) = inr (suc (r .0), omega (arith, r .1), r .2)
+
+none-taken : (ls : List Lane) (i : ℕ) → places ls ≡ 0 → laneAt ls i .phase ≡ Idle
+none-taken ls i e = idle-same _ (place-idle (laneAt ls i) .0 (omega (arith, place-in ls i)))
+
+module _ (d : Desk) (v : Valid d) where
+  pub open-or-not : (places (d .lanes) ≡ 0) ⊎ Open d
+  unfolding Open view
+  open-or-not = ⊎-elim inl (λ k. inr (k .0, omega (arith, k .1, v .lanes), k .2)) (place-or-none (d .lanes))
+
+  pub all-idle : places (d .lanes) ≡ 0 → Open d → ⊥
+  unfolding Open view
+  all-idle e o = o .2 (none-taken (d .lanes) (o .0) e)
+
+  closed : places (d .lanes) ≡ 0 → closeAnswer d ≡ record { reply = Written 0; desk = freshDesk }
+  unfolding closeAnswer
+  closed e = rw (eq-eqb (places (d .lanes)) 0 e)
+
+  held : Open d → closeAnswer d ≡ refusedAnswer d 19
+  unfolding closeAnswer
+  held o = rw (ne-eqb (places (d .lanes)) 0 (λ e. all-idle e o))
+
+  pub closing-no : (n : ℕ) → Refuses (closeAnswer d) n ↔ (Open d × (19 ≡ n))
+  unfolding refusedAnswer
+  closing-no n = (
+    λ h. ⊎-elim (λ e. absurd (apart (rw (closed e) at h))) (λ o. (o, same-number (rw (held o) at h))) open-or-not,
+    λ k. rw (held (k .0)) (ap (λ (m : ℕ). Refused (number m)) (k .1)),
+  )
+
+  pub closing-yes : (closeAnswer d ≡ record { reply = Written 0; desk = freshDesk }) ↔ (Open d → ⊥)
+  unfolding refusedAnswer
+  closing-yes = (
+    λ e o. apart (ap (λ (a : Answer). a .reply) (sym e ∙ held o)),
+    λ n. ⊎-elim closed (λ o. absurd (n o)) open-or-not,
+  )
+
+  pub closing-same : (n : ℕ) → Refuses (closeAnswer d) n → closeAnswer d .desk ≡ d
+  unfolding refusedAnswer
+  closing-same n h = ap (λ (a : Answer). a .desk) (held (closing-no n .0 h .0))

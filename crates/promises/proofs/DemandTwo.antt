@@ -1,0 +1,132 @@
+-- The second demand: "Messages, their fields and nested data objects are read and written as PA00P015 13.11 lays them out. What we
+-- write reads back as the same values. An accepted message, written again, has the same bytes exactly when all its lengths were in
+-- shortest form." Assumes nothing.
+use mathlib.Core.Path.{_≡_, refl, sym, ap, _∙_}
+use mathlib.Core.Bool.{true, false}
+use mathlib.Core.Logic.{_↔_, _⊎_}
+use mathlib.Core.List.{List, [], _++_}
+use Prim.Native.Nat.{ℕ, _≤_}
+use native.Mathlib.Omega.{arith}
+use lib.ListN.{length, take}
+use Rattle.messages.specs.Reading.{Reading, got, refused, unless, andThen, among}
+use Rattle.messages.specs.Fields.{Field}
+use Rattle.messages.specs.Message.{bytes, listed, Message, lengthOf, headerWith, headerOf, layoutOf, bodyOf, messageOf, wholeHeader, readOf, firstOf, countOf}
+use Rattle.messages.specs.Writing.{messageBytes}
+use Rattle.messages.specs.Shortest.{shortMessage, isShort, write, shorten, SameValues}
+use Rattle.messages.specs.Grammar.{Bytes, MessageOk}
+use Rattle.messages.specs.Digits.{numberOf}
+use Rattle.messages.specs.Values.{valueIn, statusFields}
+use Rattle.messages.proofs.Readings.{got-same, then-on}
+use Rattle.messages.proofs.MessageBytes as reading
+use Rattle.messages.proofs.MessageShort as shortest
+use Rattle.zvt.specs.declared.Message.{Message as Told}
+use Rattle.zvt.specs.declared.ReadAnswer.the-variants.{Accepted}
+use Rattle.zvt.specs.Answers.{messageAnswer, asReadAnswer, readAnswer}
+use Rattle.zvt.specs.Name.{nameAt, cardName, namePlace}
+use Rattle.course.specs.declared.Desk.{Desk}
+use Rattle.course.specs.declared.Reply.the-variants.{Written}
+use Rattle.course.specs.Numbers.{amountOk, receiptOk, passwordOk}
+use Rattle.course.specs.Commands.{saleCommand, refundCommand, reversalCommand, saleBytes, refundBytes, reversalBytes, replyBytes}
+use Rattle.course.specs.Course.{Call, writes}
+use Rattle.course.specs.Memory.{answerOf, leavesOf}
+use Rattle.course.proofs.Commands.{FieldIs, MoneyIs}
+use Rattle.course.proofs.Commands as commands
+use Rattle.course.proofs.Memory.{laneFor}
+use Rattle.promises.specs.Names.{shownName}
+use Rattle.promises.proofs.Answers.{call-wrote}
+use Rattle.promises.proofs.NameTable.{InMessage, shown, name-lies}
+
+-- ---- "read .. as PA00P015 13.11 lays them out"
+
+-- Bytes are accepted exactly where they are those of a message within the limits, and what is answered is told of that message.
+pub read-exactly : (s : List ℕ) (t : Told) → Bytes s
+    → (readAnswer s ≡ Accepted t) ↔ ((m : Message) × (messageBytes m ≡ s) × MessageOk m × (messageAnswer m ≡ t))
+unfolding readAnswer asReadAnswer
+read-exactly s t b = (to (readOf s) refl, λ k. ap asReadAnswer (reading.read-exactly s (k .0) b .1 (k .1, k .2)) ∙ ap Accepted (k .3))
+  where
+    to : (x : Reading Message) → readOf s ≡ x → asReadAnswer x ≡ Accepted t
+        → (m : Message) × (messageBytes m ≡ s) × MessageOk m × (messageAnswer m ≡ t)
+    to (got m) e h = let k = reading.read-exactly s m b .0 e in (m, k .0, k .1, cc)
+    to (refused f) e h = absurd (let z : _≡_ {A = ℕ} 0 1 = cc in omega arith)
+
+-- No two messages have the same bytes.
+pub one-reading : (m m′ : Message) → MessageOk m → MessageOk m′ → messageBytes m ≡ messageBytes m′ → m ≡ m′
+one-reading m m′ ok ok′ e = got-same (sym (reading.read-complete m ok) ∙ ap readOf e ∙ reading.read-complete m′ ok′)
+
+-- A message is found too where others follow it, with nothing taken of them.
+pub first-of-many : (m : Message) (rest : List ℕ) → MessageOk m → firstOf (messageBytes m ++ rest) ≡ got m
+first-of-many = reading.first-complete
+
+-- "The reader reports the number of objects, and it is the number that the definition counts", at most 64.
+pub objects-counted : (s : List ℕ) (t : Told) → Bytes s → readAnswer s ≡ Accepted t
+    → (m : Message) × (readOf s ≡ got m) × (t .objects ≡ countOf m) × (countOf m ≤ 64)
+unfolding messageAnswer
+objects-counted s t b h =
+    let k = read-exactly s t b .0 h in
+    (k .0, reading.read-exactly s (k .0) b .1 (k .1, k .2), ap (λ (x : Told). x .objects) (sym (k .3)), reading.count-limit (k .0) (k .2))
+
+-- ---- "What we write reads back as the same values."
+
+-- What shortening writes is the same message, but for the forms of its lengths.
+pub shortened-reads-back : (s : List ℕ) (m : Message) → Bytes s → readOf s ≡ got m
+    → (shorten s ≡ got (write m)) × (readOf (write m) ≡ got (shortMessage m)) × SameValues m (shortMessage m)
+unfolding shorten
+shortened-reads-back s m b e = (then-on _ m e, shortest.write-reads m (reading.read-sound s m b e .1), shortest.same-values m)
+
+-- What a call of the desk writes is what the course says: a command, a reply, or nothing.
+pub written : (d : Desk) (c : Call) (out : List ℕ) (k : ℕ) → answerOf d c (length out) .reply ≡ Written k
+    → take k (leavesOf d c out) ≡ writes (laneFor d c) c
+written = call-wrote
+
+-- A terminal reads a sale's command as a sale of that amount, in euros.
+pub sale-reads-back : (amount : ℕ) → amountOk amount ≡ true
+    → (readOf (saleBytes amount) ≡ got (saleCommand amount)) × ((fs : List Field) × (saleCommand amount .body ≡ listed [] fs) × MoneyIs fs amount)
+sale-reads-back amount h = (commands.sale-reads amount, commands.sale-says amount h)
+
+-- It reads a refund's command as a refund of that amount, with that password.
+pub refund-reads-back : (password amount : ℕ) → passwordOk password ≡ true → amountOk amount ≡ true
+    → (readOf (refundBytes password amount) ≡ got (refundCommand password amount))
+    × ((word : List ℕ) × (fs : List Field) × (refundCommand password amount .body ≡ listed word fs) × (numberOf word ≡ password) × MoneyIs fs amount)
+refund-reads-back password amount p h = (commands.refund-reads password amount, commands.refund-says password amount p h)
+
+-- It reads a reversal's command as the reversal of that receipt, with that password.
+pub reversal-reads-back : (password receipt : ℕ) → passwordOk password ≡ true → receiptOk receipt ≡ true
+    → (readOf (reversalBytes password receipt) ≡ got (reversalCommand password receipt))
+    × ((word : List ℕ) × (fs : List Field) × (reversalCommand password receipt .body ≡ listed word fs) × (numberOf word ≡ password)
+    × FieldIs fs 0x87 receipt)
+reversal-reads-back password receipt p h = (commands.reversal-reads password receipt, commands.reversal-says password receipt p h)
+
+-- It reads a reply as 80 00 with an empty body.
+pub reply-reads-back : readOf replyBytes ≡ got (record { class = 0x80; instruction = 0x00; long = false; body = bytes [] })
+unfolding readOf wholeHeader headerOf lengthOf headerWith messageOf bodyOf layoutOf andThen unless among
+reply-reads-back = refl
+
+-- ---- ".. has the same bytes exactly when all its lengths were in shortest form"
+
+-- Shortening changes a message exactly where the reader says that it is not shortest.
+pub same-bytes-exactly : (s : List ℕ) (t : Told) → Bytes s → readAnswer s ≡ Accepted t → (shorten s ≡ got s) ↔ (t .shortest ≡ true)
+unfolding messageAnswer
+same-bytes-exactly s t b h =
+    let k = read-exactly s t b .0 h in
+    let m = k .0 in
+    let e : isShort m ≡ t .shortest = ap (λ (x : Told). x .shortest) (k .3) in
+    rw (← e) (shortest.shorten-exactly s m b (reading.read-exactly s m b .1 (k .1, k .2)))
+
+-- Shortening twice changes nothing more.
+pub shortened-once : (s w : List ℕ) → Bytes s → shorten s ≡ got w → shorten w ≡ got w
+shortened-once = shortest.shorten-twice
+
+-- It never makes a message longer.
+pub never-longer : (m : Message) → MessageOk m → length (write m) ≤ length (messageBytes m)
+never-longer = shortest.never-longer
+
+-- ---- "The card name for a receipt"
+
+-- A receipt shows the name in field 8B of the status information, up to its first zero byte; where there is none, the till's own.
+pub card-name : (s till : List ℕ) → Bytes s → cardName s till ≡ shownName (valueIn 0x8B (statusFields (readOf s))) till
+card-name = shown
+
+-- "Thus the part handed back lies in the status information or in the till's own name, never in a copy."
+pub no-copy : (s till : List ℕ) (p q : ℕ × ℕ) → Bytes s
+    → InMessage s (cardName s till) p (namePlace p q (nameAt s)) ⊎ ((cardName s till ≡ till) × (namePlace p q (nameAt s) ≡ q))
+no-copy = name-lies

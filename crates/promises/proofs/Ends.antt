@@ -1,0 +1,175 @@
+-- The first demand's first sentence: "Every call ends and stays within its memory, for all bytes and all numbers, with nothing left
+-- for the caller to test beforehand." Assumes nothing.
+use mathlib.Core.Path.{_≡_, refl}
+use Rattle.zvt.proofs as zvt
+use Rattle.desk.proofs as desk
+use Rattle.course.proofs as course
+use Rattle.blocks.proofs as blocks
+use Rattle.listing.proofs as listing
+use Rattle.course.specs.Memory.{Valid}
+
+-- Every public function's own theorem: a call of it ends, reads and writes only what it was lent, and answers as its contract states.
+pub every-call-ends : {M : Type 1}
+    → zvt.read_header.Statement.statement M
+    × zvt.read.Statement.statement M
+    × zvt.read_first.Statement.statement M
+    × zvt.shorten.Statement.statement M
+    × zvt.field_at.Statement.statement M
+    × zvt.read_status.Statement.statement M
+    × zvt.card_name.Statement.statement M
+    × zvt.amount_bytes.Statement.statement M
+    × zvt.password_bytes.Statement.statement M
+    × zvt.receipt_bytes.Statement.statement M
+    × desk.open_sale.Statement.statement M
+    × desk.open_refund.Statement.statement M
+    × desk.open_reversal.Statement.statement M
+    × desk.terminal.Statement.statement M
+    × desk.link_lost.Statement.statement M
+    × desk.close.Statement.statement M
+    × desk.net.Statement.statement M
+    × desk.line_at.Statement.statement M
+    × desk.lane_at.Statement.statement M
+    × course.Desk.fresh.Statement.statement M
+    × course.Book.empty.Statement.statement M
+    × course.Line.blank.Statement.statement M
+    × course.Lane.idle.Statement.statement M
+    × course.Lane.waiting.Statement.statement M
+    × course.Lane.running.Statement.statement M
+    × course.Lane.reported.Statement.statement M
+    × course.Lane.amount_ok.Statement.statement M
+    × course.Lane.receipt_ok.Statement.statement M
+    × course.Lane.password_ok.Statement.statement M
+    × course.nothing_told.Statement.statement M
+    × blocks.Block.before_last.Statement.statement M
+    × blocks.Block.at_end.Statement.statement M
+    × blocks.Taped.fresh.Statement.statement M
+    × listing.add_ids.Statement.statement M
+    × listing.next_line.Statement.statement M
+    × listing.text.add.Statement.statement M
+    × listing.text.add_all.Statement.statement M
+    × listing.text.add_hex.Statement.statement M
+    × listing.text.add_decimal.Statement.statement M
+every-call-ends = (
+  zvt.read_header.Met.met,
+  zvt.read.Met.met,
+  zvt.read_first.Met.met,
+  zvt.shorten.Met.met,
+  zvt.field_at.Met.met,
+  zvt.read_status.Met.met,
+  zvt.card_name.Met.met,
+  zvt.amount_bytes.Met.met,
+  zvt.password_bytes.Met.met,
+  zvt.receipt_bytes.Met.met,
+  desk.open_sale.Met.met,
+  desk.open_refund.Met.met,
+  desk.open_reversal.Met.met,
+  desk.terminal.Met.met,
+  desk.link_lost.Met.met,
+  desk.close.Met.met,
+  desk.net.Met.met,
+  desk.line_at.Met.met,
+  desk.lane_at.Met.met,
+  course.Desk.fresh.Met.met,
+  course.Book.empty.Met.met,
+  course.Line.blank.Met.met,
+  course.Lane.idle.Met.met,
+  course.Lane.waiting.Met.met,
+  course.Lane.running.Met.met,
+  course.Lane.reported.Met.met,
+  course.Lane.amount_ok.Met.met,
+  course.Lane.receipt_ok.Met.met,
+  course.Lane.password_ok.Met.met,
+  course.nothing_told.Met.met,
+  blocks.Block.before_last.Met.met,
+  blocks.Block.at_end.Met.met,
+  blocks.Taped.fresh.Met.met,
+  listing.add_ids.Met.met,
+  listing.next_line.Met.met,
+  listing.text.add.Met.met,
+  listing.text.add_all.Met.met,
+  listing.text.add_hex.Met.met,
+  listing.text.add_decimal.Met.met,
+)
+
+-- No function but the desk's asks anything of its caller; those ask that the desk is one that these functions gave out.
+pub nothing-to-test :
+    ((κs : _) (a : _) → zvt.read_header.Reads.Asked κs a ≡ Unit {0})
+    × ((κs : _) (a : _) → zvt.read.Reads.Asked κs a ≡ Unit {0})
+    × ((κs : _) (a : _) → zvt.read_first.Reads.Asked κs a ≡ Unit {0})
+    × ((κs : _) (a : _) → zvt.shorten.Reads.Asked κs a ≡ Unit {0})
+    × ((κs : _) (a : _) → zvt.field_at.Reads.Asked κs a ≡ Unit {0})
+    × ((κs : _) (a : _) → zvt.read_status.Reads.Asked κs a ≡ Unit {0})
+    × ((κs : _) (a : _) → zvt.card_name.Reads.Asked κs a ≡ Unit {0})
+    × ((κs : _) (a : _) → zvt.amount_bytes.Reads.Asked κs a ≡ Unit {0})
+    × ((κs : _) (a : _) → zvt.password_bytes.Reads.Asked κs a ≡ Unit {0})
+    × ((κs : _) (a : _) → zvt.receipt_bytes.Reads.Asked κs a ≡ Unit {0})
+    × ((κs : _) (a : _) → desk.open_sale.Reads.Asked κs a ≡ Valid (a .0))
+    × ((κs : _) (a : _) → desk.open_refund.Reads.Asked κs a ≡ Valid (a .0))
+    × ((κs : _) (a : _) → desk.open_reversal.Reads.Asked κs a ≡ Valid (a .0))
+    × ((κs : _) (a : _) → desk.terminal.Reads.Asked κs a ≡ Valid (a .0))
+    × ((κs : _) (a : _) → desk.link_lost.Reads.Asked κs a ≡ Valid (a .0))
+    × ((κs : _) (a : _) → desk.close.Reads.Asked κs a ≡ Valid (a .0))
+    × ((κs : _) (a : _) → desk.net.Reads.Asked κs a ≡ Valid (a .0))
+    × ((κs : _) (a : _) → desk.line_at.Reads.Asked κs a ≡ Valid (a .0))
+    × ((κs : _) (a : _) → desk.lane_at.Reads.Asked κs a ≡ Valid (a .0))
+    × ((κs : _) (a : _) → course.Desk.fresh.Reads.Asked κs a ≡ Unit {0})
+    × ((κs : _) (a : _) → course.Book.empty.Reads.Asked κs a ≡ Unit {0})
+    × ((κs : _) (a : _) → course.Line.blank.Reads.Asked κs a ≡ Unit {0})
+    × ((κs : _) (a : _) → course.Lane.idle.Reads.Asked κs a ≡ Unit {0})
+    × ((κs : _) (a : _) → course.Lane.waiting.Reads.Asked κs a ≡ Unit {0})
+    × ((κs : _) (a : _) → course.Lane.running.Reads.Asked κs a ≡ Unit {0})
+    × ((κs : _) (a : _) → course.Lane.reported.Reads.Asked κs a ≡ Unit {0})
+    × ((κs : _) (a : _) → course.Lane.amount_ok.Reads.Asked κs a ≡ Unit {0})
+    × ((κs : _) (a : _) → course.Lane.receipt_ok.Reads.Asked κs a ≡ Unit {0})
+    × ((κs : _) (a : _) → course.Lane.password_ok.Reads.Asked κs a ≡ Unit {0})
+    × ((κs : _) (a : _) → course.nothing_told.Reads.Asked κs a ≡ Unit {0})
+    × ((κs : _) (a : _) → blocks.Block.before_last.Reads.Asked κs a ≡ Unit {0})
+    × ((κs : _) (a : _) → blocks.Block.at_end.Reads.Asked κs a ≡ Unit {0})
+    × ((κs : _) (a : _) → blocks.Taped.fresh.Reads.Asked κs a ≡ Unit {0})
+    × ((κs : _) (a : _) → listing.add_ids.Reads.Asked κs a ≡ Unit {0})
+    × ((κs : _) (a : _) → listing.next_line.Reads.Asked κs a ≡ Unit {0})
+    × ((κs : _) (a : _) → listing.text.add.Reads.Asked κs a ≡ Unit {0})
+    × ((κs : _) (a : _) → listing.text.add_all.Reads.Asked κs a ≡ Unit {0})
+    × ((κs : _) (a : _) → listing.text.add_hex.Reads.Asked κs a ≡ Unit {0})
+    × ((κs : _) (a : _) → listing.text.add_decimal.Reads.Asked κs a ≡ Unit {0})
+nothing-to-test = (
+  λ κs a. refl,
+  λ κs a. refl,
+  λ κs a. refl,
+  λ κs a. refl,
+  λ κs a. refl,
+  λ κs a. refl,
+  λ κs a. refl,
+  λ κs a. refl,
+  λ κs a. refl,
+  λ κs a. refl,
+  λ κs a. refl,
+  λ κs a. refl,
+  λ κs a. refl,
+  λ κs a. refl,
+  λ κs a. refl,
+  λ κs a. refl,
+  λ κs a. refl,
+  λ κs a. refl,
+  λ κs a. refl,
+  λ κs a. refl,
+  λ κs a. refl,
+  λ κs a. refl,
+  λ κs a. refl,
+  λ κs a. refl,
+  λ κs a. refl,
+  λ κs a. refl,
+  λ κs a. refl,
+  λ κs a. refl,
+  λ κs a. refl,
+  λ κs a. refl,
+  λ κs a. refl,
+  λ κs a. refl,
+  λ κs a. refl,
+  λ κs a. refl,
+  λ κs a. refl,
+  λ κs a. refl,
+  λ κs a. refl,
+  λ κs a. refl,
+  λ κs a. refl,
+)

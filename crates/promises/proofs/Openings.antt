@@ -1,0 +1,102 @@
+-- The openings of a day are the first calls of its payments, one by one. Assumes nothing.
+use mathlib.Core.Path.{_≡_, refl, sym, ap, ap₂, _∙_}
+use mathlib.Core.Bool.{Bool, true, false}
+use mathlib.Core.Logic.{_⊎_, ⊎-elim}
+use mathlib.Core.List.{List, [], _∷_, _++_}
+use Prim.Native.Nat.{ℕ, suc, _+_, _<_}
+use native.Mathlib.Omega.{arith}
+use lib.ListN.{length, getD, length-append}
+use lib.Dec.{eqb}
+use Rattle.messages.specs.Reading.{pick}
+use Rattle.course.specs.declared.Line.{Line}
+use Rattle.course.specs.Course.{Call, laneOf, opens}
+use Rattle.course.specs.Desk.{fresh, Accepted}
+use Rattle.course.specs.Payments.{paymentsOf, joined, lineOf, linesOf}
+use Rattle.course.proofs.Lanes.{having, total, callsOf, opening-is}
+use Rattle.course.proofs.Runs.{openings}
+use Rattle.course.proofs.Payment.{Begins}
+use Rattle.course.proofs.DayBook.{every-opening}
+use Rattle.promises.specs.Days.{openingsIn, firsts}
+
+-- ---- of calls in a row, and of a lane's calls
+openings-append : (xs ys : List Call) → openingsIn (xs ++ ys) ≡ openingsIn xs ++ openingsIn ys
+unfolding openingsIn
+openings-append [] ys = refl
+openings-append (x ∷ xs) ys = rw (openings-append xs ys) (go (opens x))
+  where
+    go : (t : Bool) → pick t (x ∷ (openingsIn xs ++ openingsIn ys)) (openingsIn xs ++ openingsIn ys)
+        ≡ pick t (x ∷ openingsIn xs) (openingsIn xs) ++ openingsIn ys
+    go true = refl
+    go false = refl
+
+openings-lane : (k : ℕ) (xs : List Call) → openingsIn (callsOf k xs) ≡ callsOf k (openingsIn xs)
+unfolding openingsIn having
+openings-lane k [] = refl
+openings-lane k (x ∷ xs) = go (eqb (laneOf x) k) (opens x) refl refl (openings-lane k xs)
+  where
+    go : (t o : Bool) → eqb (laneOf x) k ≡ t → opens x ≡ o → openingsIn (callsOf k xs) ≡ callsOf k (openingsIn xs)
+        → openingsIn (pick t (x ∷ callsOf k xs) (callsOf k xs)) ≡ callsOf k (pick o (x ∷ openingsIn xs) (openingsIn xs))
+    go true true e f h = rw (e, f) (ap (λ (ys : List Call). x ∷ ys) h)
+    go true false e f h = rw f h
+    go false true e f h = rw e h
+    go false false e f h = h
+
+-- ---- of a payment only its first call is one
+none-in : (xs : List Call) → openings xs ≡ 0 → openingsIn xs ≡ []
+unfolding openingsIn total
+none-in [] e = refl
+none-in (x ∷ xs) e = go (opens x) refl (none-in xs)
+  where
+    go : (o : Bool) → opens x ≡ o → (openings xs ≡ 0 → openingsIn xs ≡ []) → pick o (x ∷ openingsIn xs) (openingsIn xs) ≡ []
+    go true f h = absurd (omega (arith, opening-is x true f))
+    go false f h = h (omega arith)
+
+payment-first : (p : List Call) → Begins p → openingsIn p ≡ firsts (p ∷ [])
+unfolding Begins openingsIn firsts
+payment-first [] b = absurd b
+payment-first (o ∷ ds) b = rw (b .0, none-in ds (b .1))
+
+-- payments that begin so
+unfoldable All : List (List Call) → Type 0
+All [] = Unit {0}
+All (p ∷ ps) = Begins p × All ps
+
+all-begin : (ps : List (List Call)) → ((j : ℕ) → j < length ps → Begins (getD ps j [])) → All ps
+unfolding All
+all-begin [] h = tt
+all-begin (p ∷ ps) h = (h 0 (omega arith), all-begin ps (λ j l. h (suc j) (omega arith)))
+
+joined-firsts : (ps : List (List Call)) → All ps → (openingsIn (joined ps) ≡ firsts ps) × (length (firsts ps) ≡ length ps)
+unfolding All joined firsts openingsIn Begins
+joined-firsts [] h = (refl, refl)
+joined-firsts ([] ∷ ps) h = absurd (h .0)
+joined-firsts ((o ∷ ds) ∷ ps) h =
+    let k = joined-firsts ps (h .1) in
+    (openings-append (o ∷ ds) (joined ps) ∙ ap₂ (λ (xs ys : List Call). xs ++ ys) (payment-first (o ∷ ds) (h .0)) (k .0), omega (arith, k .1))
+
+pub lines-length : (ls : List Line) (ps : List (List Call)) → length (linesOf ls ps) ≡ length ls + length ps
+unfolding linesOf
+lines-length ls [] = omega arith
+lines-length ls (p ∷ ps) = omega (arith, lines-length (ls ++ (lineOf ls p ∷ [])) ps, length-append ls (lineOf ls p ∷ []))
+
+-- ---- one by one
+module _ (cs : List Call) (h : Accepted fresh cs) where
+  begun : All (paymentsOf cs .ended)
+  begun = all-begin (paymentsOf cs .ended) (λ j l. every-opening cs h .ended j l .3)
+
+  pub ended-firsts : length (firsts (paymentsOf cs .ended)) ≡ length (paymentsOf cs .ended)
+  ended-firsts = joined-firsts (paymentsOf cs .ended) begun .1
+
+  open-first : (k : ℕ) → openingsIn (getD (paymentsOf cs .ongoing) k []) ≡ firsts (getD (paymentsOf cs .ongoing) k [] ∷ [])
+  unfolding firsts openingsIn
+  open-first k = ⊎-elim (λ e. rw e) (payment-first _) (every-opening cs h .ongoing k)
+
+  pub one-by-one : (k : ℕ) → callsOf k (openingsIn cs)
+      ≡ callsOf k (firsts (paymentsOf cs .ended)) ++ firsts (getD (paymentsOf cs .ongoing) k [] ∷ [])
+  one-by-one k =
+      let p = paymentsOf cs in
+      sym (openings-lane k cs)
+      ∙ ap openingsIn (every-opening cs h .calls k)
+      ∙ openings-append (callsOf k (joined (p .ended))) (getD (p .ongoing) k [])
+      ∙ ap₂ (λ (xs ys : List Call). xs ++ ys)
+      (openings-lane k (joined (p .ended)) ∙ ap (callsOf k) (joined-firsts (p .ended) begun .0)) (open-first k)

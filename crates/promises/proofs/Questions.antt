@@ -1,0 +1,81 @@
+-- The auditor's three questions, each with the theorem that answers it. A day is any list of calls that the desk accepted, from a fresh
+-- one on. Assumes nothing.
+use mathlib.Core.Path.{_≡_, refl, sym, ap, _∙_}
+use mathlib.Core.List.{List, [], _∷_, _++_}
+use Prim.Native.Nat.{ℕ, _<_}
+use native.Mathlib.Omega.{arith}
+use lib.ListN.{length, getD, take}
+use Rattle.course.specs.declared.Outcome.the-variants.{Approved}
+use Rattle.course.specs.declared.Desk.{Desk}
+use Rattle.course.specs.declared.Line.{Line}
+use Rattle.course.specs.Lanes.{blankLine}
+use Rattle.course.specs.Course.{Call, laneOf}
+use Rattle.course.specs.Desk.{State, laneAt, Decision, refuse, accept, decide}
+use Rattle.course.specs.Memory.{freshDesk, linesOfDesk, view, Valid, refusedAnswer, answerOf}
+use Rattle.course.specs.Payments.{paymentsOf, lineOf}
+use Rattle.course.proofs.Lanes.{ofLane, callsOf, isolation}
+use Rattle.course.proofs.DayBook.{Whole, line-of}
+use Rattle.course.proofs.DayBook as book
+use Rattle.course.proofs.Memory.{refused-same, follows}
+use Rattle.promises.specs.Days.{Turn, callsIn, OfBytes, Taken, openingsIn, firsts}
+use Rattle.promises.proofs.Turns.{Day, a-day, of-desk}
+use Rattle.promises.proofs.Counted.{Counted, counted}
+use Rattle.promises.proofs.Openings.{lines-length, ended-firsts, one-by-one}
+use Rattle.promises.proofs.DemandThree.{atEnd, every-line}
+
+module _ (day : List Turn) (b : OfBytes (callsIn day)) (t : Taken freshDesk day) where
+  abbrev calls : List Call
+  calls = callsIn day
+
+  abbrev lines : List Line
+  lines = linesOfDesk (atEnd day)
+
+  its : Day day
+  its = a-day day b t
+
+  -- line j is judged by the calls of payment j
+  by-payment : (j : ℕ) → j < length lines → getD lines j blankLine ≡ lineOf (take j lines) (getD (paymentsOf calls .ended) j [])
+  unfolding view
+  by-payment =
+      of-desk
+      (λ (s : State). (j : ℕ) → j < length (s .lines)
+      → getD (s .lines) j blankLine ≡ lineOf (take j (s .lines)) (getD (paymentsOf calls .ended) j [])) day its (line-of calls (its .accepted))
+
+  -- "Which bytes from a terminal made you count this sale?" Line j is made by the calls of the j-th payment that ended, which are all of
+  -- one lane and begin with its opening; and if it is approved, by a report of code 00, the last that this payment had, and a completion.
+  pub which-bytes : (j : ℕ) → j < length lines → let p = getD (paymentsOf calls .ended) j [] in
+      (getD lines j blankLine ≡ lineOf (take j lines) p) × Whole p × (getD lines j blankLine .outcome ≡ Approved → Counted (take j lines) p)
+  which-bytes j l =
+      let e = by-payment j l in
+      let few = ap length (every-line day b t) in
+      let all = lines-length [] (paymentsOf calls .ended) in (
+        e,
+        book.every-opening calls (its .accepted) .ended j (omega (arith, l)),
+        λ a. counted (take j lines) _ (ap (λ (x : Line). x .outcome) (sym e) ∙ a),
+      )
+
+  -- "Can a payment begin and leave no line at all?" The openings of a lane are, one by one and in order, the first calls of its payments: of
+  -- those that ended, of which there are as many as lines, and of the one that is still open.
+  pub no-payment-lost : (length (firsts (paymentsOf calls .ended)) ≡ length lines)
+      × ((k : ℕ) → callsOf k (openingsIn calls) ≡ callsOf k (firsts (paymentsOf calls .ended)) ++ firsts (getD (paymentsOf calls .ongoing) k [] ∷ []))
+  no-payment-lost =
+      let few = ap length (every-line day b t) in
+      let all = lines-length [] (paymentsOf calls .ended) in
+      (omega (arith, ended-firsts calls (its .accepted)), one-by-one calls (its .accepted))
+
+-- "If two terminals talk at once, can one customer's answer land on the other's line?" A call for one lane changes no other lane, and none
+-- of the lines of another lane.
+pub no-crossing : (d : Desk) → Valid d → (c : Call) (room k : ℕ) → (laneOf c ≡ k → ⊥) → let after = answerOf d c room .desk in
+    (laneAt (after .lanes) k ≡ laneAt (d .lanes) k) × (ofLane k (linesOfDesk after) ≡ ofLane k (linesOfDesk d))
+unfolding view refusedAnswer
+no-crossing d v c room k n = go (decide (view d) c room) refl
+  where
+    Same : Desk → Type 0
+    Same after = (laneAt (after .lanes) k ≡ laneAt (d .lanes) k) × (ofLane k (linesOfDesk after) ≡ ofLane k (linesOfDesk d))
+
+    go : (x : Decision) → decide (view d) c room ≡ x → Same (answerOf d c room .desk)
+    go (refuse m) e = rw (refused-same d c room m e) (refl, refl)
+    go accept e =
+        let f = follows d c room v e in
+        let i = isolation (view d) c k n in
+        (ap (λ (s : State). laneAt (s .lanes) k) f ∙ i .0, ap (λ (s : State). ofLane k (s .lines)) f ∙ i .1)

@@ -1,0 +1,103 @@
+-- What a case of document 01 asks and answers, and how it is judged: by the definitions that the functions' contracts cite.
+-- Definitions only.
+use Prim.Native.Nat.{ℕ, _*_, _+_}
+use mathlib.Core.Bool.{Bool}
+use mathlib.Core.List.{List, [], _∷_}
+use lib.IntN.{ℤ}
+use lib.ListN.{length, take, replicate}
+use Rattle.messages.specs.Reading.{Reading, got, refused}
+use Rattle.messages.specs.Fields.{Field}
+use Rattle.messages.specs.Message.{Message, readOf}
+use Rattle.messages.specs.Values.{bodyFields}
+use Rattle.zvt.specs.declared.ReadAnswer.{ReadAnswer}
+use Rattle.zvt.specs.declared.ReadAnswer.the-variants.{Accepted, Refused as read-refused}
+use Rattle.zvt.specs.declared.ShortenAnswer.{ShortenAnswer}
+use Rattle.zvt.specs.declared.ShortenAnswer.the-variants.{Written as short-written, Refused as short-refused}
+use Rattle.zvt.specs.Answers.{readAnswer}
+use Rattle.zvt.specs.Writing.{shortenAnswer, shortenLeaves}
+use Rattle.zvt.specs.Name.{cardName}
+use Rattle.course.specs.declared.Line.{Line}
+use Rattle.course.specs.declared.Desk.{Desk}
+use Rattle.course.specs.declared.Reply.{Reply}
+use Rattle.course.specs.declared.Reply.the-variants.{Written, Refused}
+use Rattle.course.specs.Course.{Call}
+use Rattle.course.specs.Memory.{freshDesk, linesOfDesk, answerOf, leavesOf}
+use Rattle.course.specs.Turnover.{netOf}
+use Rattle.promises.specs.Days.{buffer}
+
+-- ---- a row: what is asked, and what the page answers
+
+pub data Question : Type 0 where
+  -- the message that bytes are; a list of fields, and its card name where the till has none; the bytes with every length shortest
+  read list name short : List ℕ → Question
+  -- a call after a day of calls; the day itself
+  call : List Call → Call → Question
+  day : List Call → Question
+
+pub data Answer : Type 0 where
+  -- pair, length of the body, whether every length was shortest, number of objects
+  accepted : ℕ → ℕ → Bool → ℕ → Answer
+  fields : List Field → Answer
+  bytes : List ℕ → Answer
+  -- the lines, and net turnover
+  book : List Line → ℤ → Answer
+  -- the number of refusal
+  no : ℕ → Answer
+
+infix 70 _⟶_
+pub data Row : Type 0 where
+  _⟶_ : Question → Answer → Row
+
+-- ---- what the definitions answer
+
+unfoldable pub readSays : ReadAnswer → Answer
+readSays (Accepted m) = accepted (m .class * 256 + m .instruction) (m .length) (m .shortest) (m .objects)
+readSays (read-refused r) = no (r .number)
+
+unfoldable pub listSays : Reading Message → Answer
+listSays (got m) = fields (bodyFields (m .body))
+listSays (refused f) = no (f .number)
+
+-- so many bytes were written into the output, which is left so
+unfoldable pub shortSays : ShortenAnswer → List ℕ → Answer
+shortSays (short-written n) out = bytes (take n out)
+shortSays (short-refused r) out = no (r .number)
+
+unfoldable pub callSays : Reply → List ℕ → Answer
+callSays (Written n) out = bytes (take n out)
+callSays (Refused r) out = no (r .number)
+
+-- a list as the body of a status information; an output as long as the message
+unfoldable pub status : List ℕ → List ℕ
+status s = 0x04 ∷ 0x0F ∷ length s ∷ s
+
+unfoldable pub output : List ℕ → List ℕ
+output s = replicate (length s) 0
+
+-- the calls of a day one after another, and then what is asked of the desk; the first refusal is the answer
+unfoldable pub unlessNo : Reply → Answer → Answer
+unlessNo (Written n) a = a
+unlessNo (Refused r) a = no (r .number)
+
+unfoldable pub afterDay : Desk → List Call → (Desk → Answer) → Answer
+afterDay d [] ask = ask d
+afterDay d (c ∷ cs) ask =
+    let a = answerOf d c (length buffer) in
+    unlessNo (a .reply) (afterDay (a .desk) cs ask)
+
+unfoldable pub answerTo : Question → Answer
+answerTo (read s) = readSays (readAnswer s)
+answerTo (list s) = listSays (readOf (status s))
+answerTo (name s) = bytes (cardName (status s) [])
+answerTo (short s) = shortSays (shortenAnswer (length s) s) (shortenLeaves s (output s))
+answerTo (call cs c) = afterDay freshDesk cs λ d. callSays (answerOf d c (length buffer) .reply) (leavesOf d c buffer)
+answerTo (day cs) = afterDay freshDesk cs λ d. book (linesOfDesk d) (netOf (linesOfDesk d))
+
+-- the answers that the definitions give to a table's rows, and those that the page gives
+unfoldable pub computed : List Row → List Answer
+computed [] = []
+computed (q ⟶ a ∷ rs) = answerTo q ∷ computed rs
+
+unfoldable pub stated : List Row → List Answer
+stated [] = []
+stated (q ⟶ a ∷ rs) = a ∷ stated rs

@@ -1,0 +1,68 @@
+-- A day at the desk: calls one after another, each with the buffer that it is lent, answered as the functions' contracts state.
+-- Definitions only.
+use mathlib.Core.Path.{_≡_}
+use Prim.Native.Nat.{ℕ}
+use mathlib.Core.List.{List, [], _∷_}
+use lib.ListN.{length, take, replicate}
+use Rattle.course.specs.declared.Desk.{Desk}
+use Rattle.course.specs.declared.Reply.{Reply}
+use Rattle.course.specs.declared.Reply.the-variants.{Written, Refused}
+use Rattle.course.specs.declared.Answer.{Answer}
+use Rattle.messages.specs.Reading.{pick}
+use Rattle.course.specs.Course.{Call, opens}
+use Rattle.course.specs.Memory.{answerOf, leavesOf}
+use Rattle.course.proofs.Amounts.{NumbersFit}
+
+-- a call, and what it is lent for its command or reply; a lost link needs none
+pub record Turn : Type 0 where
+  pub call : Call
+  pub out : List ℕ
+
+unfoldable pub callsIn : List Turn → List Call
+callsIn [] = []
+callsIn (t ∷ ts) = t .call ∷ callsIn ts
+
+-- calls with room enough for every command and reply
+unfoldable pub buffer : List ℕ
+buffer = replicate 16 0
+
+unfoldable pub roomy : List Call → List Turn
+roomy [] = []
+roomy (c ∷ cs) = record { call = c; out = buffer } ∷ roomy cs
+
+-- a terminal's messages are of bytes: what the functions' parameters are
+unfoldable pub OfBytes : List Call → Type 0
+OfBytes [] = Unit {0}
+OfBytes (c ∷ cs) = NumbersFit c × OfBytes cs
+
+abbrev pub answerIn : Desk → Turn → Answer
+answerIn d t = answerOf d (t .call) (length (t .out))
+
+-- every call is accepted: its answer says how many bytes were written
+unfoldable pub Taken : Desk → List Turn → Type 0
+Taken d [] = Unit {0}
+Taken d (t ∷ ts) = ((k : ℕ) × (answerIn d t .reply ≡ Written k)) × Taken (answerIn d t .desk) ts
+
+-- the desk that is left
+unfoldable pub deskAfter : Desk → List Turn → Desk
+deskAfter d [] = d
+deskAfter d (t ∷ ts) = deskAfter (answerIn d t .desk) ts
+
+-- and the bytes that each call wrote
+unfoldable pub bytesBy : Reply → List ℕ → List ℕ
+bytesBy (Written k) out = take k out
+bytesBy (Refused r) out = []
+
+unfoldable pub written : Desk → List Turn → List (List ℕ)
+written d [] = []
+written d (t ∷ ts) = bytesBy (answerIn d t .reply) (leavesOf d (t .call) (t .out)) ∷ written (answerIn d t .desk) ts
+
+-- the openings among calls, and the first calls of payments
+unfoldable pub openingsIn : List Call → List Call
+openingsIn [] = []
+openingsIn (c ∷ cs) = pick (opens c) (c ∷ openingsIn cs) (openingsIn cs)
+
+unfoldable pub firsts : List (List Call) → List Call
+firsts [] = []
+firsts ([] ∷ ps) = firsts ps
+firsts ((c ∷ cs) ∷ ps) = c ∷ firsts ps
