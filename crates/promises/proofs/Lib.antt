@@ -10,6 +10,7 @@ pub mod Ends
 pub mod OneAnswer
 pub mod ReadTable
 pub mod TapeTable
+pub mod TapeAnswers
 pub mod Answers
 pub mod NameTable
 pub mod Turns

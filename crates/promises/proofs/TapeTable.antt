@@ -42,7 +42,7 @@ module _ {A : Type 0} (x : Reading A) (Row : ℕ → Type 0) (given : (m : ℕ) 
 true-false : {t : Bool} → t ≡ true → t ≡ false → ⊥
 true-false e f = false≢true (sym f ∙ e)
 
-by-test : {X : Type 0} (t : Bool) → (t ≡ true → X) → (t ≡ false → X) → X
+pub by-test : {X : Type 0} (t : Bool) → (t ≡ true → X) → (t ≡ false → X) → X
 by-test true p q = p refl
 by-test false p q = q refl
 
