@@ -11,6 +11,7 @@ pub mod OneAnswer
 pub mod ReadTable
 pub mod TapeTable
 pub mod TapeAnswers
+pub mod Secrets
 pub mod Answers
 pub mod NameTable
 pub mod Turns
