@@ -2,13 +2,14 @@
 -- Assumes nothing.
 use mathlib.Core.Path.{_≡_, refl, sym, ap, ap₂, _∙_}
 use mathlib.Core.Bool.{Bool, true, false, _&&_}
+use mathlib.Core.Logic.{inl, inr}
 use mathlib.Core.List.{List, [], _∷_, _++_}
 use Prim.Native.Nat.{ℕ, _+_, _-_, _≤_}
 use native.Mathlib.Omega.{arith}
 use lib.ListN.{length, replicate, length-append, length-replicate}
 use borrow.Author.Tests.{le-leb}
 use Rattle.messages.specs.declared.Fault.{Fault}
-use Rattle.messages.specs.Reading.{Reading, got, refused, pick}
+use Rattle.messages.specs.Reading.{Reading, got, refused, pick, among}
 use Rattle.messages.specs.Fields.{Field, plain, container, fieldId}
 use Rattle.messages.specs.Message.{Body, bytes, listed, Message, readOf, headerSize}
 use Rattle.messages.specs.Writing.{fieldBytes}
@@ -20,19 +21,26 @@ use Rattle.messages.proofs.MessageBytes.{read-sound}
 use Rattle.zvt.specs.Answers.{messageAnswer, asReadAnswer, readAnswer}
 use Rattle.zvt.specs.List.{listedAt, listedFrom, listedBody, listedMessage, nthListed, fieldAnswer}
 use Rattle.zvt.specs.declared.Listed.{Listed}
+use Rattle.messages.specs.Digits.{digitBytesOf}
+use Rattle.course.specs.declared.Phase.{Phase}
+use Rattle.course.specs.declared.Phase.the-variants.{Idle, Waiting, Running}
 use Rattle.course.specs.declared.Lane.{Lane}
 use Rattle.course.specs.declared.Line.{Line}
-use Rattle.course.specs.Course.{openedBy, Call, laneOf, opens, moves, writes}
-use Rattle.course.specs.Desk.{State, laneAt, Decision, refuse, accept, decide}
+use Rattle.course.specs.Commands.{saleCommand, refundCommand, reversalCommand, saleBytes, refundBytes, reversalBytes}
+use Rattle.course.specs.Course.{openedBy, Call, sale, refund, reversal, message, lost, laneOf, opens, moves, answered, writes}
+use Rattle.course.specs.Desk.{State, laneAt, Decision, refuse, accept, decide, step, Accepts, Accepted}
 use Rattle.course.specs.Memory.{linesOfDesk, view, answerBy}
-use Rattle.course.proofs.Commands.{refund-size, reversal-size}
+use Rattle.course.proofs.Amounts.{NumbersFit}
+use Rattle.course.proofs.Commands.{refund-size, reversal-size, sale-reads, refund-reads, reversal-reads}
 use Rattle.blocks.specs.declared.Taped.{Taped}
-use Rattle.blocks.specs.Records.{secret, maskField, maskList, maskBody, maskMessage, masked, entriesBy}
+use Rattle.blocks.specs.Records.{secret, maskField, maskList, maskBody, maskMessage, masked, HiddenBody, Hidden, Record, replyEntry, entriesBy, entriesOf}
 use Rattle.blocks.specs.Recording.{callBytes, decideTaped, usedBy, tapedBy, tapedAnswer, tapeBy, tapedLeaves}
 use Rattle.blocks.specs.Taping.{Turn, Day, afterTurn, tapedRun}
-use Rattle.blocks.proofs.Masks.{mask-same, mask-reads, masked-refused, alike-recorded, refund-masked, reversal-masked}
-use Rattle.blocks.proofs.Unseen.{alike-heard}
-use Rattle.promises.specs.TapeDays.{AlikeCall, unchanged, refunds, reversals, messages, AlikeDays}
+use Rattle.blocks.proofs.Masks.{mask-same, mask-reads, mask-hides, masked-refused, alike-recorded, sale-masked, refund-masked, reversal-masked}
+use Rattle.blocks.proofs.Unseen.{alike-heard, heard-reads}
+use Rattle.promises.specs.Days.{OfBytes}
+use Rattle.promises.specs.TapeDays.{Hiding, AlikeCall, unchanged, refunds, reversals, messages, AlikeDays}
+use Rattle.promises.proofs.DemandTwo.{reply-reads-back}
 
 -- ---- what the reader says of a masked message
 field-place : (at : ℕ) (f : Field) → (listedAt at (maskField f) ≡ listedAt at f) × (length (fieldBytes (maskField f)) ≡ length (fieldBytes f))
@@ -91,6 +99,47 @@ module _ (s : List ℕ) (b : Bytes s) where
       pick-alike : (t : Bool) (fs gs : List Field) → statusIn fs ≡ statusIn gs → statusIn (pick t fs []) ≡ statusIn (pick t gs [])
       pick-alike true fs gs e = e
       pick-alike false fs gs e = refl
+
+-- ---- the records of accepted calls
+hiding-append : (rs ts : List Record) → Hiding rs → Hiding ts → Hiding (rs ++ ts)
+unfolding Hiding
+hiding-append [] ts h k = k
+hiding-append (r ∷ rs) ts h k = (h .0, hiding-append rs ts (h .1) k)
+
+refund-hides : (password amount : ℕ) → readOf (masked (refundBytes password amount)) ≡ got (maskMessage (refundCommand password amount))
+unfolding refundCommand maskMessage maskBody maskList maskField among digitBytesOf
+refund-hides password amount = rw (refund-masked password amount) (refund-reads 0 amount)
+
+reversal-hides : (password receipt : ℕ) → readOf (masked (reversalBytes password receipt)) ≡ got (maskMessage (reversalCommand password receipt))
+unfolding reversalCommand maskMessage maskBody maskList maskField among digitBytesOf
+reversal-hides password receipt = rw (reversal-masked password receipt) (reversal-reads 0 receipt)
+
+sale-hides : (amount : ℕ) → readOf (masked (saleBytes amount)) ≡ got (maskMessage (saleCommand amount))
+unfolding saleCommand maskMessage maskBody maskList maskField among
+sale-hides amount = rw (sale-masked amount) (sale-reads amount)
+
+reply-hides : (i : ℕ) (p : Phase) → Hiding (replyEntry i (answered p))
+unfolding Hiding replyEntry answered Hidden HiddenBody
+reply-hides i Idle = tt
+reply-hides i Waiting = tt
+reply-hides i Running = (inr (_, reply-reads-back, tt), tt)
+
+call-hides : (s : State) (c : Call) → Accepts s c → NumbersFit c → Hiding (entriesBy (laneAt (s .lanes) (laneOf c)) c)
+unfolding Hiding entriesBy laneOf writes NumbersFit
+call-hides s (sale i amount) a n = (inr (_, sale-hides amount, mask-hides (saleCommand amount)), tt)
+call-hides s (refund i password amount) a n = (inr (_, refund-hides password amount, mask-hides (refundCommand password amount)), tt)
+call-hides s (reversal i password receipt) a n = (inr (_, reversal-hides password receipt, mask-hides (reversalCommand password receipt)), tt)
+call-hides s (message i b) a n =
+    let k = heard-reads s i b a in
+    (inr (_, mask-reads b (k .0) n (k .1), mask-hides (k .0)), reply-hides i (laneAt (s .lanes) i .phase))
+call-hides s (lost i) a n = (inl refl, tt)
+
+pub run-hides : (s : State) (cs : List Call) → Accepted s cs → OfBytes cs → Hiding (entriesOf s cs)
+unfolding Hiding Accepted OfBytes entriesOf
+run-hides s [] a n = tt
+run-hides s (c ∷ cs) a n =
+    hiding-append (entriesBy (laneAt (s .lanes) (laneOf c)) c) (entriesOf (step s c) cs) (call-hides s c (a .0) (n .0))
+    (run-hides (step s c) cs (a .1) (n .1))
 
 -- ---- calls that differ in secrets alone
 record Agree (c e : Call) : Type 0 where

@@ -13,17 +13,22 @@ use Rattle.messages.specs.Reading.{Reading, got, refused}
 use Rattle.course.specs.declared.Reply.{Reply}
 use Rattle.course.specs.declared.Reply.the-variants.{Written, Refused}
 use Rattle.course.specs.Course.{Call, laneOf}
-use Rattle.course.specs.Desk.{laneAt, Decision, refuse, accept, decide}
+use Rattle.course.specs.Desk.{fresh, laneAt, Decision, refuse, accept, decide, Accepted, run}
 use Rattle.course.specs.declared.Answer.{Answer}
 use Rattle.course.specs.Memory.{view, Valid, answerOf, leavesOf}
+use Rattle.course.proofs.Amounts.{NumbersFit}
 use Rattle.course.proofs.Memory.{accepted-answer, accepted-leaves}
 use Rattle.blocks.specs.declared.BlockAnswer.the-variants.{Payload, Refused as block-refused}
 use Rattle.blocks.specs.declared.Taped.{Taped}
 use Rattle.blocks.specs.declared.TapedAnswer.{TapedAnswer}
-use Rattle.blocks.specs.Records.{recordBytes, joined, entriesBy}
+use Rattle.blocks.specs.Records.{recordBytes, joined, entriesBy, entriesOf, recorded, recordsIn}
 use Rattle.blocks.specs.Recording.{blockAnswer, writtenAnswer, writtenLeaves, callBytes, thenSpace, decideTaped, tapedBy, tapedAnswer, tapedOut, tapedLeaves, usedAfter, closeTaped, freshTaped}
-use Rattle.blocks.proofs.RecordLaws.{directionOf, own-first, record-size}
-use Rattle.blocks.proofs.Taping.{taped-taken, taped-refused, taped-accepted}
+use Rattle.blocks.proofs.RecordLaws.{directionOf, own-first, record-size, records-read}
+use Rattle.blocks.specs.Taping.{Turn, Day, freshDay, decideTurn, afterTurn, tapedRun, keptIf, keptCalls}
+use Rattle.blocks.proofs.Masks.{Each}
+use Rattle.blocks.proofs.Taping.{taped-taken, taped-refused, taped-accepted, TurnFits, tape-follows}
+use Rattle.promises.specs.Days.{OfBytes}
+use Rattle.promises.specs.TapeDays.{callsPlayed}
 use Rattle.promises.proofs.ReadTable.{No}
 use Rattle.promises.proofs.TapeTable.{by-test}
 use Rattle.promises.proofs.Answers.{number, reading-no, apart, same-number, Refuses, Takes, decided-no, decided-yes, Open, closing-no, closing-yes, closing-same}
@@ -205,3 +210,39 @@ module _ (t : Taped) (v : Valid (t .desk)) where
   pub close-taped-same : (n : ℕ) → closeTaped t .reply ≡ Refused (number n) → closeTaped t .taped ≡ t
   unfolding closeTaped usedAfter
   close-taped-same n h = rw (closing-same (t .desk) v n h, h)
+
+-- ---- the calls of a day
+turns-fit : (us : List Turn) → OfBytes (callsPlayed us) → Each TurnFits us
+unfolding OfBytes callsPlayed
+turns-fit [] b = tt
+turns-fit (u ∷ us) b = (b .0, turns-fit us (b .1))
+
+calls-fit : (cs : List Call) → OfBytes cs → Each NumbersFit cs
+unfolding OfBytes
+calls-fit [] b = tt
+calls-fit (c ∷ cs) b = (b .0, calls-fit cs (b .1))
+
+pub kept-bytes : (d : Day) (us : List Turn) → OfBytes (callsPlayed us) → OfBytes (keptCalls d us)
+unfolding OfBytes callsPlayed keptCalls keptIf
+kept-bytes d [] b = tt
+kept-bytes d (u ∷ us) b = go (decideTurn d u) (kept-bytes (afterTurn d u) us (b .1))
+  where
+    go : (x : Decision) → OfBytes (keptCalls (afterTurn d u) us) → OfBytes (keptIf x (u .call) (keptCalls (afterTurn d u) us))
+    go (refuse n) more = more
+    go accept more = (b .0, more)
+
+module _ (us : List Turn) (tape : List ℕ) (b : OfBytes (callsPlayed us)) where
+  abbrev kept : List Call
+  kept = keptCalls (freshDay tape) us
+
+  abbrev day : Day
+  day = tapedRun (freshDay tape) us
+
+  pub day-kept : Accepted fresh kept × (view (day .taped .desk) ≡ run fresh kept)
+  day-kept = let k = tape-follows us tape (turns-fit us b) in (k .0, k .1)
+
+  pub day-payload : (take (day .taped .used) (day .tape) ≡ recorded fresh kept) × (drop (day .taped .used) (day .tape) ≡ drop (day .taped .used) tape)
+  day-payload = let k = tape-follows us tape (turns-fit us b) in (k .4, k .5)
+
+  pub day-records : recordsIn (take (day .taped .used) (day .tape)) ≡ entriesOf fresh kept
+  day-records = ap recordsIn (day-payload .0) ∙ records-read fresh kept (day-kept .0) (calls-fit kept (kept-bytes (freshDay tape) us b))

@@ -13,7 +13,7 @@ use Rattle.messages.specs.declared.Fault.{Fault}
 use Rattle.messages.specs.Reading.{Reading, got, refused, noHeader, unless, part}
 use Rattle.messages.specs.Grammar.{Bytes}
 use Rattle.messages.proofs.ObjectBytes.{bytes-drop, bytes-take}
-use Rattle.messages.proofs.Readings.{got-same, got-not-refused, unless-got, unless-on}
+use Rattle.messages.proofs.Readings.{got-same, got-not-refused, unless-got, unless-on, then-got, then-on}
 use Rattle.blocks.specs.Block.{checkOf, numberIn, usedIn, payloadIn, checkIn, allZero, wrongNumber, wrongCount, wrongFilling, blockBytes, writeBlock, readBlock}
 use Rattle.blocks.specs.Tape.{cut, blocksFrom, tapeBytes, payloadOf}
 use Rattle.blocks.specs.Recording.{writeTape, readTape}
@@ -70,13 +70,20 @@ module _ (number : ℕ) (p : List ℕ) (room : ℕ) where
   tests (payload-over l) = rw (lt-ltb 504 (length p) l, or-true (eqb (length p) 0)) (or-true (eqb number 0))
 
   -- within its limits
-  within : (Outside number p → ⊥) → (number ≡ 0 → ⊥) × (length p ≡ 0 → ⊥) × (length p ≤ 504)
+  pub within : (Outside number p → ⊥) → (number ≡ 0 → ⊥) × (length p ≡ 0 → ⊥) × (length p ≤ 504)
   within n =
       let most : 504 < length p → ⊥ = λ l. n (payload-over l) in
       (λ e. n (number-0 e), λ e. n (payload-0 e), omega arith)
 
   pub block-fits : (Outside number p → ⊥) → 512 ≤ room → writeBlock number p room ≡ got (blockBytes number p)
   block-fits n h = let w = within n in block-written number p room (w .0) (w .1) (w .2) h
+
+  pub block-got : (w : List ℕ) → writeBlock number p room ≡ got w → (Outside number p → ⊥) × (512 ≤ room) × (blockBytes number p ≡ w)
+  unfolding writeBlock
+  block-got w e =
+      let within = unless-got test _ _ w e in
+      let fits = unless-got (ltb room 512) _ _ w (within .1) in
+      (λ o. true-false (tests o) (within .0), ltb-false room 512 (fits .0), got-same (fits .1))
 
   given-write : (m : ℕ) → WriteNo number p room m → writeBlock number p room ≡ refused (noHeader m)
   given-write _ (outside o) = outside-refused number p room (tests o)
@@ -319,6 +326,16 @@ read-tape-no s room n =
     then-table (payloadOf s) _ n
     (to-first 1 s n, λ r. from-first (r .at) 1 s n (r .inside) (r .before) (block-no _ _ _ n .1 (r .row)))
     (λ p. Iff·rfl) (λ p. over-no room (length p) 11 p n)
+
+pub read-tape-got : (s : List ℕ) (room : ℕ) (p : List ℕ) → (readTape s room ≡ got p) ↔ ((payloadOf s ≡ got p) × (length p ≤ room))
+unfolding readTape
+read-tape-got s room p = (
+  λ e.
+      let k = then-got (payloadOf s) _ p e in
+      let u = unless-got (ltb room (length (k .0))) _ _ p (k .2) in
+      rw (← (got-same (u .1))) (k .1, ltb-false room (length (k .0)) (u .0)),
+  λ k. then-on _ p (k .0) ∙ unless-on _ _ (le-ltb room (length p) (k .1)),
+)
 
 -- ---- what is read was written, and what was written is read
 few-from : (b : ℕ) (s p : List ℕ) → Bytes s → joinFrom b s ≡ got p → blocksFor p ≤ 4_294_967_296 - b
