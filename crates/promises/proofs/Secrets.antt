@@ -1,27 +1,24 @@
--- What is hidden on the tape: the reader says the same of a masked message, and days that differ in secrets alone leave the same.
--- Assumes nothing.
+-- What is hidden on the tape: the reader says the same of a masked message, no record of an accepted call holds a secret, and days
+-- that differ in secrets alone leave the same. Assumes nothing.
 use mathlib.Core.Path.{_≡_, refl, sym, ap, ap₂, _∙_}
-use mathlib.Core.Bool.{Bool, true, false, _&&_}
+use mathlib.Core.Bool.{Bool, true, false}
 use mathlib.Core.Logic.{inl, inr}
 use mathlib.Core.List.{List, [], _∷_, _++_}
-use Prim.Native.Nat.{ℕ, _+_, _-_, _≤_}
-use native.Mathlib.Omega.{arith}
+use Prim.Native.Nat.{ℕ, _+_}
 use lib.ListN.{length, replicate, length-append, length-replicate}
 use borrow.Author.Tests.{le-leb}
-use Rattle.messages.specs.declared.Fault.{Fault}
 use Rattle.messages.specs.Reading.{Reading, got, refused, pick, among}
 use Rattle.messages.specs.Fields.{Field, plain, container, fieldId}
 use Rattle.messages.specs.Message.{Body, bytes, listed, Message, readOf, headerSize}
 use Rattle.messages.specs.Writing.{fieldBytes}
 use Rattle.messages.specs.Grammar.{Bytes}
+use Rattle.messages.specs.Digits.{digitBytesOf}
 use Rattle.messages.specs.Values.{fieldValue, statusFields, statusOf, isStatus, statusIn, bodyFields}
-use Rattle.messages.specs.declared.Status.{Status}
 use Rattle.messages.proofs.Readings.{pick-test}
 use Rattle.messages.proofs.MessageBytes.{read-sound}
 use Rattle.zvt.specs.Answers.{messageAnswer, asReadAnswer, readAnswer}
 use Rattle.zvt.specs.List.{listedAt, listedFrom, listedBody, listedMessage, nthListed, fieldAnswer}
 use Rattle.zvt.specs.declared.Listed.{Listed}
-use Rattle.messages.specs.Digits.{digitBytesOf}
 use Rattle.course.specs.declared.Phase.{Phase}
 use Rattle.course.specs.declared.Phase.the-variants.{Idle, Waiting, Running}
 use Rattle.course.specs.declared.Lane.{Lane}

@@ -1,16 +1,14 @@
 -- What an answer of the tape's functions says of the reading or the decision behind it. Assumes nothing.
 use mathlib.Core.Path.{_≡_, refl, sym, ap, _∙_}
-use mathlib.Core.Logic.{_↔_, _⊎_, inl, inr, ⊎-elim, Iff·trans}
+use mathlib.Core.Logic.{_↔_, _⊎_, inl, inr, ⊎-elim}
 use mathlib.Core.List.{List, [], _∷_, _++_}
 use Prim.Native.Nat.{ℕ, _+_, _-_, _<_, _≤_}
 use native.Mathlib.Omega.{arith}
 use lib.ListN.{length, take, drop, length-append}
-use lib.Seq.{take-at, drop-at}
+use lib.Seq.{take-append-seam, take-at, drop-at}
 use lib.Dec.{ltb}
-use borrow.Author.Tests.{lt-ltb, le-ltb, ltb-true, ltb-false}
-use Rattle.messages.specs.declared.Fault.{Fault}
+use borrow.Author.Tests.{lt-ltb, le-ltb, ltb-true}
 use Rattle.messages.specs.Reading.{Reading, got, refused}
-use Rattle.course.specs.declared.Reply.{Reply}
 use Rattle.course.specs.declared.Reply.the-variants.{Written, Refused}
 use Rattle.course.specs.Course.{Call, laneOf}
 use Rattle.course.specs.Desk.{fresh, laneAt, Decision, refuse, accept, decide, Accepted, run}
@@ -21,8 +19,8 @@ use Rattle.course.proofs.Memory.{accepted-answer, accepted-leaves}
 use Rattle.blocks.specs.declared.BlockAnswer.the-variants.{Payload, Refused as block-refused}
 use Rattle.blocks.specs.declared.Taped.{Taped}
 use Rattle.blocks.specs.declared.TapedAnswer.{TapedAnswer}
-use Rattle.blocks.specs.Records.{recordBytes, joined, entriesBy, entriesOf, recorded, recordsIn}
-use Rattle.blocks.specs.Recording.{blockAnswer, writtenAnswer, writtenLeaves, callBytes, thenSpace, decideTaped, tapedBy, tapedAnswer, tapedOut, tapedLeaves, usedAfter, closeTaped, freshTaped}
+use Rattle.blocks.specs.Records.{recordBytes, joined, entriesOf, recorded, recordsIn}
+use Rattle.blocks.specs.Recording.{blockAnswer, writtenAnswer, writtenLeaves, callBytes, thenSpace, decideTaped, tapedAnswer, tapedOut, tapedLeaves, usedAfter, closeTaped, freshTaped}
 use Rattle.blocks.proofs.RecordLaws.{directionOf, own-first, record-size, records-read}
 use Rattle.blocks.specs.Taping.{Turn, Day, freshDay, decideTurn, afterTurn, tapedRun, keptIf, keptCalls}
 use Rattle.blocks.proofs.Masks.{Each}
@@ -47,6 +45,10 @@ written-size x k = (to x, λ h. rw (h .1, h .2))
     to : (y : Reading (List ℕ)) → writtenAnswer y ≡ Written k → (w : List ℕ) × (y ≡ got w) × (length w ≡ k)
     to (got w) e = (w, refl, cc)
     to (refused f) e = absurd (let z : _≡_ {A = ℕ} 0 1 = cc in omega arith)
+
+pub written-from : (x : Reading (List ℕ)) (out w : List ℕ) → x ≡ got w → (writtenAnswer x ≡ Written (length w)) × (take (length w) (writtenLeaves x out) ≡ w)
+unfolding writtenAnswer writtenLeaves
+written-from x out w e = rw e (refl, take-append-seam w (drop (length w) out))
 
 pub written-same : (x : Reading (List ℕ)) (out : List ℕ) (n : ℕ) → writtenAnswer x ≡ Refused (number n) → writtenLeaves x out ≡ out
 unfolding writtenLeaves

@@ -3,12 +3,12 @@ use mathlib.Core.Path.{_≡_, refl, sym, ap, _∙_}
 use mathlib.Core.Bool.{Bool, true, false, not, _&&_, _||_, false≢true, or-true}
 use mathlib.Core.Logic.{_↔_, _⊎_, inl, inr, ⊎-elim, Iff·rfl}
 use mathlib.Core.List.{List, [], _∷_, _++_}
-use Prim.Native.Nat.{ℕ, zero, suc, _+_, _-_, _*_, _/_, _<_, _≤_}
+use Prim.Native.Nat.{ℕ, zero, suc, _+_, _-_, _*_, _^_, _<_, _≤_}
 use native.Mathlib.Omega.{arith}
 use lib.ListN.{length, getD, take, drop, length-take, length-drop, length-append}
 use lib.Seq.{drop-drop, getD-drop, getD-take, take-at, drop-at}
 use lib.Dec.{ltb, leb, eqb}
-use borrow.Author.Tests.{lt-ltb, le-ltb, ltb-true, ltb-false, eq-eqb, eqb-true, eqb-false, ne-eqb, leb-true, leb-false, le-leb, lt-leb, not-true}
+use borrow.Author.Tests.{lt-ltb, le-ltb, ltb-true, ltb-false, eq-eqb, eqb-true, eqb-false, leb-true, leb-false, le-leb, lt-leb, not-true}
 use Rattle.messages.specs.declared.Fault.{Fault}
 use Rattle.messages.specs.Reading.{Reading, got, refused, noHeader, unless, part}
 use Rattle.messages.specs.Grammar.{Bytes}
@@ -17,8 +17,8 @@ use Rattle.messages.proofs.Readings.{got-same, got-not-refused, unless-got, unl
 use Rattle.blocks.specs.Block.{checkOf, numberIn, usedIn, payloadIn, checkIn, allZero, wrongNumber, wrongCount, wrongFilling, blockBytes, writeBlock, readBlock}
 use Rattle.blocks.specs.Tape.{cut, blocksFrom, tapeBytes, payloadOf}
 use Rattle.blocks.specs.Recording.{writeTape, readTape}
-use Rattle.blocks.proofs.BlockLaws.{block-size, BlockRead, read-got, outside-refused, room-refused, block-written, short-refused, long-refused, check-refused, wrong-refused, right-read, block-sound}
-use Rattle.blocks.proofs.Cutting.{cut-step, cut-count, tape-size, joinFrom, andRest, join-none, join-step, join-got, tape-reads, tape-sound}
+use Rattle.blocks.proofs.BlockLaws.{block-size, BlockRead, read-got, outside-refused, room-refused, block-written, short-refused, long-refused, check-refused, wrong-refused, right-read, block-sound, block-exactly}
+use Rattle.blocks.proofs.Cutting.{cut-step, cut-count, tape-size, joinFrom, join-none, join-step, join-got, tape-reads, tape-sound}
 use Rattle.promises.specs.TapeRows.{Outside, number-0, payload-0, payload-over, WriteNo, outside, too-small}
 use Rattle.promises.specs.TapeRows.{Wrong, always-wrong, other-number, count-0, count-over, short-before-last, filling}
 use Rattle.promises.specs.TapeRows.{blocksFor, pieceAt, blockAt, lastAt, TapeWriteNo, too-many, tape-too-small, TapeNo}
@@ -189,7 +189,29 @@ module _ (due : ℕ) (last : Bool) (s : List ℕ) where
   pub block-no : (n : ℕ) → No (readBlock due last s) n ↔ BlockNo due last s n
   block-no = by-rows (readBlock due last s) (BlockNo due last s) given-read found-read
 
+-- ---- a block that is read was written, and one that was written is read
+pub in-limits : (number : ℕ) (p : List ℕ) → 1 ≤ number → 1 ≤ length p → length p ≤ 504 → Outside number p → ⊥
+in-limits number p one some most (number-0 e) = omega arith
+in-limits number p one some most (payload-0 e) = omega arith
+in-limits number p one some most (payload-over l) = omega arith
+
+pub block-back-and-forth : (due : ℕ) (last : Bool) (s p : List ℕ) → Bytes s → due < 2 ^ 32
+    → (readBlock due last s ≡ got p) ↔ ((writeBlock due p 512 ≡ got s) × (last ≡ false → length p ≡ 504))
+block-back-and-forth due last s p b fits =
+    let law = block-exactly due last s p b fits in (
+      λ e.
+          let k = law .0 e in
+          (block-fits due p 512 (in-limits due p (k .1) (k .2) (k .3)) (omega arith) ∙ ap got (sym (k .0)), k .4),
+      λ h.
+          let k = block-got due p 512 s (h .0) in
+          let w = within due p 512 (k .0) in
+          law .1 (sym (k .2), omega (arith, w .0), omega (arith, w .1), w .2, h .1),
+    )
+
 -- ---- writing a tape
+pub tape-bytes : (p : List ℕ) → length (tapeBytes p) ≡ blocksFor p * 512
+tape-bytes p = tape-size p ∙ ap (λ (m : ℕ). m * 512) (cut-count p)
+
 module _ (p : List ℕ) (room : ℕ) where
   by-size : writeTape p room
       ≡ unless (ltb 4_294_967_295 (blocksFor p)) (noHeader 16) (unless (ltb room (blocksFor p * 512)) (noHeader 11) (got (tapeBytes p)))
@@ -338,6 +360,9 @@ read-tape-got s room p = (
 )
 
 -- ---- what is read was written, and what was written is read
+pub written-joins : (p : List ℕ) (room : ℕ) (s : List ℕ) → writeTape p room ≡ got s → payloadOf s ≡ got p
+written-joins p room s e = let k = tape-got p room s e in rw (← (k .2)) (tape-reads p (omega (arith, k .0)))
+
 few-from : (b : ℕ) (s p : List ℕ) → Bytes s → joinFrom b s ≡ got p → blocksFor p ≤ 4_294_967_296 - b
 few-from =
     by-blocks (λ b s. (p : List ℕ) → Bytes s → joinFrom b s ≡ got p → blocksFor p ≤ 4_294_967_296 - b)
@@ -353,11 +378,10 @@ module _ (s p : List ℕ) (b : Bytes s) where
   unfolding payloadOf
   few-blocks e = omega (arith, few-from 1 s p b e)
 
-  pub back-and-forth : (payloadOf s ≡ got p) ↔ (writeTape p (length s) ≡ got s)
-  back-and-forth = (
+  pub tape-back-and-forth : (payloadOf s ≡ got p) ↔ (writeTape p (length s) ≡ got s)
+  tape-back-and-forth = (
     λ e.
         let same = tape-sound s p b e in
-        let size : length s ≡ blocksFor p * 512 = ap length same ∙ tape-size p ∙ ap (λ (m : ℕ). m * 512) (cut-count p) in
-        tape-fits p (length s) (few-blocks e) (omega arith) ∙ ap got (sym same),
-    λ e. let k = tape-got p (length s) s e in rw (← (k .2)) (tape-reads p (omega (arith, k .0))),
+        tape-fits p (length s) (few-blocks e) (omega (arith, ap length same ∙ tape-bytes p)) ∙ ap got (sym same),
+    written-joins p (length s) s,
   )
