@@ -1,6 +1,6 @@
 -- A block and a tape are refused as one of their rows says, and as no other. Assumes nothing.
 use mathlib.Core.Path.{_≡_, refl, sym, ap, _∙_}
-use mathlib.Core.Bool.{Bool, true, false, not, _&&_, _||_, false≢true, or-true}
+use mathlib.Core.Bool.{Bool, true, false, not, _||_, false≢true, or-true, and-eq-true-iff}
 use mathlib.Core.Logic.{_↔_, _⊎_, inl, inr, ⊎-elim, Iff·rfl}
 use mathlib.Core.List.{List, [], _∷_, _++_}
 use Prim.Native.Nat.{ℕ, zero, suc, _+_, _-_, _*_, _^_, _<_, _≤_}
@@ -27,7 +27,7 @@ use Rattle.promises.proofs.ReadTable.{No, then-no, no-then, then-table,
 
 -- ---- what is refused by its rows, and else read
 module _ {A : Type 0} (x : Reading A) (Row : ℕ → Type 0) (given : (m : ℕ) → Row m → x ≡ refused (noHeader m)) where
-  pub by-rows : ((a : A) × (x ≡ got a)) ⊎ ((m : ℕ) × Row m) → (n : ℕ) → No x n ↔ Row n
+  by-rows : ((a : A) × (x ≡ got a)) ⊎ ((m : ℕ) × Row m) → (n : ℕ) → No x n ↔ Row n
   by-rows all n = (to all, λ r. (noHeader n, given n r, refl))
     where
       to : ((a : A) × (x ≡ got a)) ⊎ ((m : ℕ) × Row m) → No x n → Row n
@@ -49,10 +49,6 @@ by-test false p q = q refl
 either : (a b : Bool) → (a || b) ≡ true → (a ≡ true) ⊎ (b ≡ true)
 either true b e = inl refl
 either false b e = inr e
-
-both-hold : (a b : Bool) → (a && b) ≡ true → (a ≡ true) × (b ≡ true)
-both-hold true b e = (refl, e)
-both-hold false b e = let z : _≡_ {A = ℕ} 0 1 = cc in absurd (omega arith)
 
 -- ---- writing a block
 module _ (number : ℕ) (p : List ℕ) (room : ℕ) where
@@ -81,9 +77,9 @@ module _ (number : ℕ) (p : List ℕ) (room : ℕ) where
   pub block-got : (w : List ℕ) → writeBlock number p room ≡ got w → (Outside number p → ⊥) × (512 ≤ room) × (blockBytes number p ≡ w)
   unfolding writeBlock
   block-got w e =
-      let within = unless-got test _ _ w e in
-      let fits = unless-got (ltb room 512) _ _ w (within .1) in
-      (λ o. true-false (tests o) (within .0), ltb-false room 512 (fits .0), got-same (fits .1))
+      let limits = unless-got test _ _ w e in
+      let fits = unless-got (ltb room 512) _ _ w (limits .1) in
+      (λ o. true-false (tests o) (limits .0), ltb-false room 512 (fits .0), got-same (fits .1))
 
   given-write : (m : ℕ) → WriteNo number p room m → writeBlock number p room ≡ refused (noHeader m)
   given-write _ (outside o) = outside-refused number p room (tests o)
@@ -114,8 +110,8 @@ some-byte (b ∷ s) e = go (eqb b 0) refl (some-byte s)
 no-byte : (s : List ℕ) (i : ℕ) → allZero s ≡ true → getD s i 0 ≡ 0
 unfolding allZero
 no-byte [] i e = refl
-no-byte (b ∷ s) zero e = eqb-true b 0 (both-hold (eqb b 0) (allZero s) e .0)
-no-byte (b ∷ s) (suc i) e = no-byte s i (both-hold (eqb b 0) (allZero s) e .1)
+no-byte (b ∷ s) zero e = eqb-true b 0 (and-eq-true-iff (eqb b 0) (allZero s) .0 e .0)
+no-byte (b ∷ s) (suc i) e = no-byte s i (and-eq-true-iff (eqb b 0) (allZero s) .0 e .1)
 
 part-at : (a e : ℕ) (s : List ℕ) (i : ℕ) → a + i < e → getD (part a e s) i 0 ≡ getD s (a + i) 0
 part-at a e s i h = getD-take (e - a) (drop a s) i 0 (omega arith) ∙ getD-drop a s i 0
@@ -137,7 +133,7 @@ module _ (due : ℕ) (last : Bool) (s : List ℕ) where
       (λ a.
       by-test (ltb 504 used) (λ f. count-over (ltb-true 504 used f))
       (λ f.
-      let b = ⊎-elim (λ k. absurd (true-false k f)) (both-hold (not last) _) (either _ _ a) in
+      let b = ⊎-elim (λ k. absurd (true-false k f)) (and-eq-true-iff (not last) _ .0) (either _ _ a) in
       let other = eqb-false used 504 (not-true _ (b .1)) in
       short-before-last (not-true last (b .0)) (omega (arith, ltb-false 504 used f))))
       (either _ _ e)
@@ -363,6 +359,7 @@ read-tape-got s room p = (
 pub written-joins : (p : List ℕ) (room : ℕ) (s : List ℕ) → writeTape p room ≡ got s → payloadOf s ≡ got p
 written-joins p room s e = let k = tape-got p room s e in rw (← (k .2)) (tape-reads p (omega (arith, k .0)))
 
+-- the numbers of blocks that are read fit four bytes
 few-from : (b : ℕ) (s p : List ℕ) → Bytes s → joinFrom b s ≡ got p → blocksFor p ≤ 4_294_967_296 - b
 few-from =
     by-blocks (λ b s. (p : List ℕ) → Bytes s → joinFrom b s ≡ got p → blocksFor p ≤ 4_294_967_296 - b)

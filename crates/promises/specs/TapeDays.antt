@@ -11,6 +11,7 @@ use Rattle.course.specs.Course.{Call, refund, reversal, message}
 use Rattle.blocks.specs.Records.{Record, Alike, Hidden}
 use Rattle.blocks.specs.Taping.{Turn}
 
+-- what the turns of a day call
 unfoldable pub callsPlayed : List Turn → List Call
 callsPlayed [] = []
 callsPlayed (u ∷ us) = u .call ∷ callsPlayed us
