@@ -94,10 +94,10 @@ abbrev pub Takes : Answer → Type 0
 Takes a = (k : ℕ) × (a .reply ≡ Written k)
 
 -- a reply is one of the two, with one number
-apart : {k : ℕ} {r : Refusal} → Written k ≡ Refused r → ⊥
+pub apart : {k : ℕ} {r : Refusal} → Written k ≡ Refused r → ⊥
 apart e = let z : _≡_ {A = ℕ} 0 1 = cc in omega arith
 
-same-number : {m n : ℕ} → Refused (number m) ≡ Refused (number n) → m ≡ n
+pub same-number : {m n : ℕ} → Refused (number m) ≡ Refused (number n) → m ≡ n
 same-number {m} {n} e = let q : number m ≡ number n = cc in ap (λ (r : Refusal). r .number) q
 
 module _ (d : Desk) (c : Call) (room : ℕ) where

@@ -5,6 +5,7 @@ use Rattle.zvt.proofs as zvt
 use Rattle.desk.proofs as desk
 use Rattle.course.proofs as course
 use Rattle.blocks.proofs as blocks
+use Rattle.tape.proofs as tape
 use Rattle.listing.proofs as listing
 use Rattle.course.specs.Memory.{Valid}
 
@@ -14,7 +15,9 @@ pub every-call-ends : {M : Type 1}
     × zvt.read.Statement.statement M
     × zvt.read_first.Statement.statement M
     × zvt.shorten.Statement.statement M
+    × zvt.list_place.Statement.statement M
     × zvt.field_at.Statement.statement M
+    × zvt.field_named.Statement.statement M
     × zvt.read_status.Statement.statement M
     × zvt.card_name.Statement.statement M
     × zvt.amount_bytes.Statement.statement M
@@ -43,6 +46,16 @@ pub every-call-ends : {M : Type 1}
     × blocks.Block.before_last.Statement.statement M
     × blocks.Block.at_end.Statement.statement M
     × blocks.Taped.fresh.Statement.statement M
+    × tape.write_block.Statement.statement M
+    × tape.read_block.Statement.statement M
+    × tape.write_tape.Statement.statement M
+    × tape.read_tape.Statement.statement M
+    × tape.open_sale.Statement.statement M
+    × tape.open_refund.Statement.statement M
+    × tape.open_reversal.Statement.statement M
+    × tape.terminal.Statement.statement M
+    × tape.link_lost.Statement.statement M
+    × tape.close.Statement.statement M
     × listing.add_ids.Statement.statement M
     × listing.next_line.Statement.statement M
     × listing.text.add.Statement.statement M
@@ -54,7 +67,9 @@ every-call-ends = (
   zvt.read.Met.met,
   zvt.read_first.Met.met,
   zvt.shorten.Met.met,
+  zvt.list_place.Met.met,
   zvt.field_at.Met.met,
+  zvt.field_named.Met.met,
   zvt.read_status.Met.met,
   zvt.card_name.Met.met,
   zvt.amount_bytes.Met.met,
@@ -83,6 +98,16 @@ every-call-ends = (
   blocks.Block.before_last.Met.met,
   blocks.Block.at_end.Met.met,
   blocks.Taped.fresh.Met.met,
+  tape.write_block.Met.met,
+  tape.read_block.Met.met,
+  tape.write_tape.Met.met,
+  tape.read_tape.Met.met,
+  tape.open_sale.Met.met,
+  tape.open_refund.Met.met,
+  tape.open_reversal.Met.met,
+  tape.terminal.Met.met,
+  tape.link_lost.Met.met,
+  tape.close.Met.met,
   listing.add_ids.Met.met,
   listing.next_line.Met.met,
   listing.text.add.Met.met,
@@ -91,13 +116,15 @@ every-call-ends = (
   listing.text.add_decimal.Met.met,
 )
 
--- No function but the desk's asks anything of its caller; those ask that the desk is one that these functions gave out.
+-- No function but those over a desk asks anything of its caller; those ask that the desk is one that these functions gave out.
 pub nothing-to-test :
     ((κs : _) (a : _) → zvt.read_header.Reads.Asked κs a ≡ Unit {0})
     × ((κs : _) (a : _) → zvt.read.Reads.Asked κs a ≡ Unit {0})
     × ((κs : _) (a : _) → zvt.read_first.Reads.Asked κs a ≡ Unit {0})
     × ((κs : _) (a : _) → zvt.shorten.Reads.Asked κs a ≡ Unit {0})
+    × ((κs : _) (a : _) → zvt.list_place.Reads.Asked κs a ≡ Unit {0})
     × ((κs : _) (a : _) → zvt.field_at.Reads.Asked κs a ≡ Unit {0})
+    × ((κs : _) (a : _) → zvt.field_named.Reads.Asked κs a ≡ Unit {0})
     × ((κs : _) (a : _) → zvt.read_status.Reads.Asked κs a ≡ Unit {0})
     × ((κs : _) (a : _) → zvt.card_name.Reads.Asked κs a ≡ Unit {0})
     × ((κs : _) (a : _) → zvt.amount_bytes.Reads.Asked κs a ≡ Unit {0})
@@ -126,6 +153,16 @@ pub nothing-to-test :
     × ((κs : _) (a : _) → blocks.Block.before_last.Reads.Asked κs a ≡ Unit {0})
     × ((κs : _) (a : _) → blocks.Block.at_end.Reads.Asked κs a ≡ Unit {0})
     × ((κs : _) (a : _) → blocks.Taped.fresh.Reads.Asked κs a ≡ Unit {0})
+    × ((κs : _) (a : _) → tape.write_block.Reads.Asked κs a ≡ Unit {0})
+    × ((κs : _) (a : _) → tape.read_block.Reads.Asked κs a ≡ Unit {0})
+    × ((κs : _) (a : _) → tape.write_tape.Reads.Asked κs a ≡ Unit {0})
+    × ((κs : _) (a : _) → tape.read_tape.Reads.Asked κs a ≡ Unit {0})
+    × ((κs : _) (a : _) → tape.open_sale.Reads.Asked κs a ≡ Valid (a .0 .desk))
+    × ((κs : _) (a : _) → tape.open_refund.Reads.Asked κs a ≡ Valid (a .0 .desk))
+    × ((κs : _) (a : _) → tape.open_reversal.Reads.Asked κs a ≡ Valid (a .0 .desk))
+    × ((κs : _) (a : _) → tape.terminal.Reads.Asked κs a ≡ Valid (a .0 .desk))
+    × ((κs : _) (a : _) → tape.link_lost.Reads.Asked κs a ≡ Valid (a .0 .desk))
+    × ((κs : _) (a : _) → tape.close.Reads.Asked κs a ≡ Valid (a .0 .desk))
     × ((κs : _) (a : _) → listing.add_ids.Reads.Asked κs a ≡ Unit {0})
     × ((κs : _) (a : _) → listing.next_line.Reads.Asked κs a ≡ Unit {0})
     × ((κs : _) (a : _) → listing.text.add.Reads.Asked κs a ≡ Unit {0})
@@ -133,6 +170,18 @@ pub nothing-to-test :
     × ((κs : _) (a : _) → listing.text.add_hex.Reads.Asked κs a ≡ Unit {0})
     × ((κs : _) (a : _) → listing.text.add_decimal.Reads.Asked κs a ≡ Unit {0})
 nothing-to-test = (
+  λ κs a. refl,
+  λ κs a. refl,
+  λ κs a. refl,
+  λ κs a. refl,
+  λ κs a. refl,
+  λ κs a. refl,
+  λ κs a. refl,
+  λ κs a. refl,
+  λ κs a. refl,
+  λ κs a. refl,
+  λ κs a. refl,
+  λ κs a. refl,
   λ κs a. refl,
   λ κs a. refl,
   λ κs a. refl,

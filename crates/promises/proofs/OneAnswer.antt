@@ -9,6 +9,7 @@ use Rattle.zvt.proofs as zvt
 use Rattle.desk.proofs as desk
 use Rattle.course.proofs as course
 use Rattle.blocks.proofs as blocks
+use Rattle.tape.proofs as tape
 use Rattle.listing.proofs as listing
 use Rattle.listing.specs.Text.{Text}
 
@@ -44,8 +45,14 @@ read-first-one κs a = only _ _ (λ r e h. (h, refl))
 pub shorten-one : (κs : _) (a : _) → Only whole (λ e. now (e .1 .0)) (zvt.shorten.Reads.Learnt κs a)
 shorten-one κs a = only _ _ (λ r e h. h)
 
+pub list-place-one : (κs : _) (a : _) → Only whole nothing (zvt.list_place.Reads.Learnt κs a)
+list-place-one κs a = only _ _ (λ r e h. (h, refl))
+
 pub field-at-one : (κs : _) (a : _) → Only whole nothing (zvt.field_at.Reads.Learnt κs a)
 field-at-one κs a = only _ _ (λ r e h. (h, refl))
+
+pub field-named-one : (κs : _) (a : _) → Only whole nothing (zvt.field_named.Reads.Learnt κs a)
+field-named-one κs a = only _ _ (λ r e h. (h, refl))
 
 pub read-status-one : (κs : _) (a : _) → Only whole nothing (zvt.read_status.Reads.Learnt κs a)
 read-status-one κs a = only _ _ (λ r e h. (h, refl))
@@ -133,6 +140,47 @@ block-at-end-one κs a = only _ _ (λ r e h. (h, refl))
 
 pub taped-fresh-one : (κs : _) (a : _) → Only whole nothing (blocks.Taped.fresh.Reads.Learnt κs a)
 taped-fresh-one κs a = only _ _ (λ r e h. (h, refl))
+
+-- ---- the tape: where two buffers are lent, the one content is the pair of them
+abbrev pub contents : RefT (List ℕ) → RefT (List ℕ) → List ℕ × List ℕ
+contents out tape = (now out, now tape)
+
+both : {o o′ t t′ : List ℕ} → o ≡ o′ → t ≡ t′ → _≡_ {A = List ℕ × List ℕ} (o, t) (o′, t′)
+both = ap₂ (λ (o t : List ℕ). (o, t))
+
+pub write-block-one : (κs : _) (a : _) → Only whole (λ e. now (e .1 .1 .0)) (tape.write_block.Reads.Learnt κs a)
+write-block-one κs a = only _ _ (λ r e h. h)
+
+pub read-block-one : (κs : _) (a : _) → Only whole nothing (tape.read_block.Reads.Learnt κs a)
+read-block-one κs a = only _ _ (λ r e h. (h, refl))
+
+pub write-tape-one : (κs : _) (a : _) → Only whole (λ e. now (e .1 .0)) (tape.write_tape.Reads.Learnt κs a)
+write-tape-one κs a = only _ _ (λ r e h. h)
+
+pub read-tape-one : (κs : _) (a : _) → Only whole (λ e. now (e .1 .0)) (tape.read_tape.Reads.Learnt κs a)
+read-tape-one κs a = only _ _ (λ r e h. h)
+
+pub taped-sale-one : (κs : _) (a : _)
+    → Only whole (λ e. contents (e .1 .1 .1 .0) (e .1 .1 .1 .1 .0)) (tape.open_sale.Reads.Learnt κs a)
+taped-sale-one κs a = only _ _ (λ r e h. (h .0, both (h .1 .0) (h .1 .1)))
+
+pub taped-refund-one : (κs : _) (a : _)
+    → Only whole (λ e. contents (e .1 .1 .1 .1 .0) (e .1 .1 .1 .1 .1 .0)) (tape.open_refund.Reads.Learnt κs a)
+taped-refund-one κs a = only _ _ (λ r e h. (h .0, both (h .1 .0) (h .1 .1)))
+
+pub taped-reversal-one : (κs : _) (a : _)
+    → Only whole (λ e. contents (e .1 .1 .1 .1 .0) (e .1 .1 .1 .1 .1 .0)) (tape.open_reversal.Reads.Learnt κs a)
+taped-reversal-one κs a = only _ _ (λ r e h. (h .0, both (h .1 .0) (h .1 .1)))
+
+pub taped-terminal-one : (κs : _) (a : _)
+    → Only whole (λ e. contents (e .1 .1 .1 .0) (e .1 .1 .1 .1 .0)) (tape.terminal.Reads.Learnt κs a)
+taped-terminal-one κs a = only _ _ (λ r e h. (h .0, both (h .1 .0) (h .1 .1)))
+
+pub taped-link-lost-one : (κs : _) (a : _) → Only whole (λ e. now (e .1 .1 .0)) (tape.link_lost.Reads.Learnt κs a)
+taped-link-lost-one κs a = only _ _ (λ r e h. h)
+
+pub taped-close-one : (κs : _) (a : _) → Only whole nothing (tape.close.Reads.Learnt κs a)
+taped-close-one κs a = only _ _ (λ r e h. (h, refl))
 
 -- ---- the text of a listing: how far the buffer is taken, and its bytes
 pub add-ids-one : (κs : _) (a : _) → Only whole (λ e. now (e .1 .1 .0)) (listing.add_ids.Reads.Learnt κs a)

@@ -88,7 +88,7 @@ No x n = (f : Fault) × (x ≡ refused f) × (f .number ≡ n)
 
 -- the first step is, or what follows it
 module _ {A B : Type 0} (x : Reading A) (k : A → Reading B) (n : ℕ) where
-  then-no : No (andThen x k) n → No x n ⊎ ((a : A) × (x ≡ got a) × No (k a) n)
+  pub then-no : No (andThen x k) n → No x n ⊎ ((a : A) × (x ≡ got a) × No (k a) n)
   unfolding andThen
   then-no h = go x refl h
     where
@@ -96,12 +96,12 @@ module _ {A B : Type 0} (x : Reading A) (k : A → Reading B) (n : ℕ) where
       go (got a) e h = inr (a, e, h)
       go (refused r) e h = let q : r ≡ h .0 = cc (h .1) in inl (r, e, ap (λ (f : Fault). f .number) q ∙ h .2)
 
-  no-then : No x n ⊎ ((a : A) × (x ≡ got a) × No (k a) n) → No (andThen x k) n
+  pub no-then : No x n ⊎ ((a : A) × (x ≡ got a) × No (k a) n) → No (andThen x k) n
   no-then (inl h) = (h .0, then-stop k (h .0) (h .1), h .2)
   no-then (inr h) = (h .2 .0, then-on k (h .0) (h .1) ∙ h .2 .1, h .2 .2)
 
   -- the same with what each step says
-  then-table : {P : Type 0} {Q R : A → Type 0} → (No x n ↔ P) → ((a : A) → (x ≡ got a) ↔ Q a) → ((a : A) → No (k a) n ↔ R a)
+  pub then-table : {P : Type 0} {Q R : A → Type 0} → (No x n ↔ P) → ((a : A) → (x ≡ got a) ↔ Q a) → ((a : A) → No (k a) n ↔ R a)
       → No (andThen x k) n ↔ (P ⊎ ((a : A) × Q a × R a))
   then-table {P} {Q} {R} p q r = (λ h. to (then-no h), λ h. no-then (from h))
     where
@@ -124,7 +124,7 @@ header-no s n = (λ h. row (h .0) (header-table s _ .0 (h .1)) (h .2), λ r. (no
     row _ (cut-short long v h m c) e = rw (← e) (cut-short long v h m c)
 
 -- ---- "3", "11": a bound that is broken
-over-no : {A : Type 0} (a b k : ℕ) (x : A) (n : ℕ) → No (unless (ltb a b) (noHeader k) (got x)) n ↔ ((a < b) × (k ≡ n))
+pub over-no : {A : Type 0} (a b k : ℕ) (x : A) (n : ℕ) → No (unless (ltb a b) (noHeader k) (got x)) n ↔ ((a < b) × (k ≡ n))
 unfolding unless
 over-no a b k x n = (λ h. to (ltb a b) refl h, λ h. (noHeader k, rw (lt-ltb a b (h .0)), h .1))
   where
@@ -151,7 +151,7 @@ whole-table s h = (
 -- ---- the body
 
 -- a step that cannot be refused adds nothing
-got-no : {A B : Type 0} (x : Reading A) (g : A → B) (n : ℕ) → No (andThen x λ a. got (g a)) n ↔ No x n
+pub got-no : {A B : Type 0} (x : Reading A) (g : A → B) (n : ℕ) → No (andThen x λ a. got (g a)) n ↔ No x n
 got-no x g n = (λ k. ⊎-elim (λ b. b) (λ b. absurd (got-not-refused (b .2 .1))) (then-no x _ n k), λ k. no-then x _ n (inl k))
 
 message-no : (s : List ℕ) (h : Header) (n : ℕ) → No (messageOf s h) n ↔ BodyNo s h n

@@ -1,7 +1,10 @@
 -- What the promises speak of, beside the definitions of the crates below: document 01's cases and how they are judged, its rows of
--- refusals for reading, the name on a receipt, and a day at the desk. A reader has to believe these files.
+-- refusals for reading and for the tape, the name on a receipt, a day at the desk, and one with its tape. A reader has to believe these
+-- files.
 pub mod Cases
 pub mod Asking
 pub mod ReadRows
+pub mod TapeRows
 pub mod Names
 pub mod Days
+pub mod TapeDays

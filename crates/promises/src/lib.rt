@@ -1,1 +1,1 @@
-// What is promised of the reader and the desk, for an auditor: nothing here runs. The page's cases stand in specs/, the theorems in proofs/.
+// What is promised of the reader, the desk and the tape, for an auditor: nothing here runs. The page's cases stand in specs/, the theorems in proofs/.

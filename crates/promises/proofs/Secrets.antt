@@ -1,0 +1,223 @@
+-- What is hidden on the tape: the reader says the same of a masked message, no record of an accepted call holds a secret, and days
+-- that differ in secrets alone leave the same. Assumes nothing.
+use mathlib.Core.Path.{_≡_, refl, sym, ap, ap₂, _∙_}
+use mathlib.Core.Bool.{Bool, true, false}
+use mathlib.Core.Logic.{inl, inr}
+use mathlib.Core.List.{List, [], _∷_, _++_}
+use Prim.Native.Nat.{ℕ, _+_}
+use lib.ListN.{length, replicate, length-append, length-replicate}
+use borrow.Author.Tests.{le-leb}
+use Rattle.messages.specs.Reading.{Reading, got, refused, pick, among}
+use Rattle.messages.specs.Fields.{Field, plain, container, fieldId}
+use Rattle.messages.specs.Message.{Body, bytes, listed, Message, readOf, headerSize}
+use Rattle.messages.specs.Writing.{fieldBytes}
+use Rattle.messages.specs.Grammar.{Bytes}
+use Rattle.messages.specs.Digits.{digitBytesOf}
+use Rattle.messages.specs.Values.{fieldValue, statusFields, statusOf, isStatus, statusIn, bodyFields}
+use Rattle.messages.proofs.Readings.{pick-test}
+use Rattle.messages.proofs.MessageBytes.{read-sound}
+use Rattle.zvt.specs.Answers.{messageAnswer, asReadAnswer, readAnswer}
+use Rattle.zvt.specs.List.{listedAt, listedFrom, listedBody, listedMessage, nthListed, fieldAnswer}
+use Rattle.zvt.specs.declared.Listed.{Listed}
+use Rattle.course.specs.declared.Phase.{Phase}
+use Rattle.course.specs.declared.Phase.the-variants.{Idle, Waiting, Running}
+use Rattle.course.specs.declared.Lane.{Lane}
+use Rattle.course.specs.declared.Line.{Line}
+use Rattle.course.specs.Commands.{saleCommand, refundCommand, reversalCommand, saleBytes, refundBytes, reversalBytes}
+use Rattle.course.specs.Course.{openedBy, Call, sale, refund, reversal, message, lost, laneOf, opens, moves, answered, writes}
+use Rattle.course.specs.Desk.{State, laneAt, Decision, refuse, accept, decide, step, Accepts, Accepted}
+use Rattle.course.specs.Memory.{linesOfDesk, view, answerBy}
+use Rattle.course.proofs.Amounts.{NumbersFit}
+use Rattle.course.proofs.Commands.{refund-size, reversal-size, sale-reads, refund-reads, reversal-reads}
+use Rattle.blocks.specs.declared.Taped.{Taped}
+use Rattle.blocks.specs.Records.{secret, maskField, maskList, maskBody, maskMessage, masked, HiddenBody, Hidden, Record, replyEntry, entriesBy, entriesOf}
+use Rattle.blocks.specs.Recording.{callBytes, decideTaped, usedBy, tapedBy, tapedAnswer, tapeBy, tapedLeaves}
+use Rattle.blocks.specs.Taping.{Turn, Day, afterTurn, tapedRun}
+use Rattle.blocks.proofs.Masks.{mask-same, mask-reads, mask-hides, masked-refused, alike-recorded, sale-masked, refund-masked, reversal-masked}
+use Rattle.blocks.proofs.Unseen.{alike-heard, heard-reads}
+use Rattle.promises.specs.Days.{OfBytes}
+use Rattle.promises.specs.TapeDays.{Hiding, AlikeCall, unchanged, refunds, reversals, messages, AlikeDays}
+use Rattle.promises.proofs.DemandTwo.{reply-reads-back}
+
+-- ---- what the reader says of a masked message
+field-place : (at : ℕ) (f : Field) → (listedAt at (maskField f) ≡ listedAt at f) × (length (fieldBytes (maskField f)) ≡ length (fieldBytes f))
+unfolding listedAt maskField fieldBytes fieldId fieldValue
+field-place at (plain id value) = go (pick (secret id) (replicate (length value) 0xEE) value) size
+  where
+    size : length (pick (secret id) (replicate (length value) 0xEE) value) ≡ length value
+    size = pick-test (λ (w : List ℕ). length w ≡ length value) (secret id) (λ _. length-replicate (length value) 0xEE) (λ _. refl)
+
+    go : (w : List ℕ) → length w ≡ length value
+        → (listedAt at (plain id w) ≡ listedAt at (plain id value)) × (length (fieldBytes (plain id w)) ≡ length (fieldBytes (plain id value)))
+    go w e = (simp (length-append, e), simp (length-append, e))
+field-place at (container form os) = (refl, refl)
+
+list-places : (at : ℕ) (fs : List Field) → listedFrom at (maskList fs) ≡ listedFrom at fs
+unfolding listedFrom maskList
+list-places at [] = refl
+list-places at (f ∷ fs) =
+    let k = field-place at f in
+    ap₂ (λ (l : Listed) (ls : List Listed). l ∷ ls) (k .0)
+    (list-places (at + length (fieldBytes (maskField f))) fs ∙ ap (λ (n : ℕ). listedFrom (at + n) fs) (k .1))
+
+body-places : (at : ℕ) (b : Body) → listedBody at (maskBody b) ≡ listedBody at b
+unfolding listedBody maskBody
+body-places at (bytes s) = refl
+body-places at (listed password fs) = rw (length-replicate {A = ℕ} (length password) 0) (list-places (at + length password) fs)
+
+told-same : (m : Message) → messageAnswer (maskMessage m) ≡ messageAnswer m
+unfolding messageAnswer
+told-same m = let k = mask-same m in rw (k .count, k .short, k .size, k .class, k .instruction, k .long)
+
+-- a reading's answer that is the same of a masked message is the same of masked bytes
+of-masked : {X : Type 0} (say : Reading Message → X) → ((m : Message) → say (got (maskMessage m)) ≡ say (got m)) → (s : List ℕ) → Bytes s
+    → say (readOf (masked s)) ≡ say (readOf s)
+of-masked {X} say same s b = go (readOf s) refl
+  where
+    go : (r : Reading Message) → readOf s ≡ r → say (readOf (masked s)) ≡ say (readOf s)
+    go (got m) e = ap say (mask-reads s m b e) ∙ same m ∙ ap say (sym e)
+    go (refused f) e = ap (λ (t : List ℕ). say (readOf t)) (masked-refused s f e)
+
+module _ (s : List ℕ) (b : Bytes s) where
+  pub masked-read : readAnswer (masked s) ≡ readAnswer s
+  unfolding readAnswer asReadAnswer
+  masked-read = of-masked asReadAnswer (λ m. rw (told-same m)) s b
+
+  pub masked-field : (k : ℕ) → fieldAnswer k (masked s) ≡ fieldAnswer k s
+  unfolding fieldAnswer listedMessage maskMessage
+  masked-field k = ap (nthListed k) (of-masked listedMessage (λ m. body-places (headerSize (m .long)) (m .body)) s b)
+
+  pub masked-status : statusOf (masked s) ≡ statusOf s
+  unfolding statusOf statusFields maskMessage
+  masked-status =
+      of-masked (λ r. statusIn (statusFields r))
+      (λ m. pick-alike (isStatus m) (bodyFields (maskBody (m .body))) (bodyFields (m .body)) (mask-same m .status)) s b
+    where
+      pick-alike : (t : Bool) (fs gs : List Field) → statusIn fs ≡ statusIn gs → statusIn (pick t fs []) ≡ statusIn (pick t gs [])
+      pick-alike true fs gs e = e
+      pick-alike false fs gs e = refl
+
+-- ---- the records of accepted calls
+hiding-append : (rs ts : List Record) → Hiding rs → Hiding ts → Hiding (rs ++ ts)
+unfolding Hiding
+hiding-append [] ts h k = k
+hiding-append (r ∷ rs) ts h k = (h .0, hiding-append rs ts (h .1) k)
+
+refund-hides : (password amount : ℕ) → readOf (masked (refundBytes password amount)) ≡ got (maskMessage (refundCommand password amount))
+unfolding refundCommand maskMessage maskBody maskList maskField among digitBytesOf
+refund-hides password amount = rw (refund-masked password amount) (refund-reads 0 amount)
+
+reversal-hides : (password receipt : ℕ) → readOf (masked (reversalBytes password receipt)) ≡ got (maskMessage (reversalCommand password receipt))
+unfolding reversalCommand maskMessage maskBody maskList maskField among digitBytesOf
+reversal-hides password receipt = rw (reversal-masked password receipt) (reversal-reads 0 receipt)
+
+sale-hides : (amount : ℕ) → readOf (masked (saleBytes amount)) ≡ got (maskMessage (saleCommand amount))
+unfolding saleCommand maskMessage maskBody maskList maskField among
+sale-hides amount = rw (sale-masked amount) (sale-reads amount)
+
+reply-hides : (i : ℕ) (p : Phase) → Hiding (replyEntry i (answered p))
+unfolding Hiding replyEntry answered Hidden HiddenBody
+reply-hides i Idle = tt
+reply-hides i Waiting = tt
+reply-hides i Running = (inr (_, reply-reads-back, tt), tt)
+
+call-hides : (s : State) (c : Call) → Accepts s c → NumbersFit c → Hiding (entriesBy (laneAt (s .lanes) (laneOf c)) c)
+unfolding Hiding entriesBy laneOf writes NumbersFit
+call-hides s (sale i amount) a n = (inr (_, sale-hides amount, mask-hides (saleCommand amount)), tt)
+call-hides s (refund i password amount) a n = (inr (_, refund-hides password amount, mask-hides (refundCommand password amount)), tt)
+call-hides s (reversal i password receipt) a n = (inr (_, reversal-hides password receipt, mask-hides (reversalCommand password receipt)), tt)
+call-hides s (message i b) a n =
+    let k = heard-reads s i b a in
+    (inr (_, mask-reads b (k .0) n (k .1), mask-hides (k .0)), reply-hides i (laneAt (s .lanes) i .phase))
+call-hides s (lost i) a n = (inl refl, tt)
+
+pub run-hides : (s : State) (cs : List Call) → Accepted s cs → OfBytes cs → Hiding (entriesOf s cs)
+unfolding Hiding Accepted OfBytes entriesOf
+run-hides s [] a n = tt
+run-hides s (c ∷ cs) a n =
+    hiding-append (entriesBy (laneAt (s .lanes) (laneOf c)) c) (entriesOf (step s c) cs) (call-hides s c (a .0) (n .0))
+    (run-hides (step s c) cs (a .1) (n .1))
+
+-- ---- calls that differ in secrets alone
+record Agree (c e : Call) : Type 0 where
+  lane : laneOf c ≡ laneOf e
+  opening : opens c ≡ opens e
+  move : (l : Lane) (ls : List Line) → moves l ls c ≡ moves l ls e
+  size : (l : Lane) → length (writes l c) ≡ length (writes l e)
+  entries : (l : Lane) → entriesBy l c ≡ entriesBy l e
+
+agree : {c e : Call} → AlikeCall c e → Agree c e
+unfolding laneOf opens moves writes entriesBy openedBy
+agree (unchanged c) = record { lane = refl; opening = refl; move = λ l ls. refl; size = λ l. refl; entries = λ l. refl }
+agree (refunds i p q amount hp hq) =
+    record {
+      lane = refl;
+      opening = refl;
+      move = λ l ls. rw (le-leb p 999_999 hp, le-leb q 999_999 hq);
+      size = λ l. refund-size p amount ∙ sym (refund-size q amount);
+      entries = λ l. rw (refund-masked p amount, refund-masked q amount);
+    }
+agree (reversals i p q receipt hp hq) =
+    record {
+      lane = refl;
+      opening = refl;
+      move = λ l ls. rw (le-leb p 999_999 hp, le-leb q 999_999 hq);
+      size = λ l. reversal-size p receipt ∙ sym (reversal-size q receipt);
+      entries = λ l. rw (reversal-masked p receipt, reversal-masked q receipt);
+    }
+agree (messages i s t m n b d e f a) =
+    record {
+      lane = refl;
+      opening = refl;
+      move = λ l ls. alike-heard l s t m n (e, read-sound s m b e .0) (f, read-sound t n d f .0) a;
+      size = λ l. refl;
+      entries = λ l. rw (alike-recorded s t m n e f a);
+    }
+
+module _ (c e : Call) (a : Agree c e) where
+  decide-agree : (s : State) (room : ℕ) → decide s c room ≡ decide s e room
+  unfolding decide
+  decide-agree s room =
+      let l = laneAt (s .lanes) (laneOf e) in
+      rw (a .lane, a .opening, a .move l (s .lines), a .size l)
+
+  bytes-agree : (s : State) → callBytes s c ≡ callBytes s e
+  unfolding callBytes
+  bytes-agree s = rw (a .lane, a .entries (laneAt (s .lanes) (laneOf e)))
+
+  module _ (t : Taped) where
+    decide-taped-agree : (room size : ℕ) → decideTaped t c room size ≡ decideTaped t e room size
+    unfolding decideTaped
+    decide-taped-agree room size = rw (decide-agree (view (t .desk)) room, bytes-agree (view (t .desk)))
+
+    answer-agree : (x : Decision) → tapedBy x t c ≡ tapedBy x t e
+    unfolding tapedBy usedBy answerBy
+    answer-agree (refuse n) = refl
+    answer-agree accept =
+        let l = laneAt (t .desk .lanes) (laneOf e) in
+        rw (a .lane, a .size l, a .move l (linesOfDesk (t .desk)), bytes-agree (view (t .desk)))
+
+    tape-agree : (x : Decision) (tape : List ℕ) → tapeBy x t c tape ≡ tapeBy x t e tape
+    unfolding tapeBy
+    tape-agree (refuse n) tape = refl
+    tape-agree accept tape = rw (bytes-agree (view (t .desk)))
+
+turn-agree : (d : Day) (u v : Turn) → AlikeCall (u .call) (v .call) → u .room ≡ v .room → afterTurn d u ≡ afterTurn d v
+unfolding afterTurn tapedAnswer tapedLeaves
+turn-agree d u v a r =
+    let k = agree a in
+    let x = decideTaped (d .taped) (v .call) (v .room) (length (d .tape)) in
+    rw (
+      r,
+      decide-taped-agree (u .call) (v .call) k (d .taped) (v .room) (length (d .tape)),
+      answer-agree (u .call) (v .call) k (d .taped) x,
+      tape-agree (u .call) (v .call) k (d .taped) x (d .tape),
+    )
+
+pub alike-days : (us vs : List Turn) (d : Day) → AlikeDays us vs → tapedRun d us ≡ tapedRun d vs
+unfolding AlikeDays tapedRun
+alike-days [] [] d a = refl
+alike-days [] (v ∷ vs) d a = absurd a
+alike-days (u ∷ us) [] d a = absurd a
+alike-days (u ∷ us) (v ∷ vs) d a =
+    alike-days us vs (afterTurn d u) (a .2) ∙ ap (λ (e : Day). tapedRun e vs) (turn-agree d u v (a .0) (a .1))

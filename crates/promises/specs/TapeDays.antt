@@ -1,0 +1,37 @@
+-- Document 01, 'The tape': the calls of a day on a desk with its tape, and days that differ only in what must not be on it: "Passwords
+-- are recorded as zeros and every value byte of fields 22, 23, 24 and 2D of a list, not of data objects, as EE." Definitions only.
+use mathlib.Core.Path.{_≡_}
+use mathlib.Core.Logic.{_⊎_}
+use Prim.Native.Nat.{ℕ, _≤_}
+use mathlib.Core.List.{List, [], _∷_}
+use Rattle.messages.specs.Reading.{got}
+use Rattle.messages.specs.Message.{Message, readOf}
+use Rattle.messages.specs.Grammar.{Bytes}
+use Rattle.course.specs.Course.{Call, refund, reversal, message}
+use Rattle.blocks.specs.Records.{Record, Alike, Hidden}
+use Rattle.blocks.specs.Taping.{Turn}
+
+-- what the turns of a day call
+unfoldable pub callsPlayed : List Turn → List Call
+callsPlayed [] = []
+callsPlayed (u ∷ us) = u .call ∷ callsPlayed us
+
+-- records that hold no bytes, as of a lost link, or a message in which nothing is left that must not be on the tape
+unfoldable pub Hiding : List Record → Type 0
+Hiding [] = Unit {0}
+Hiding (r ∷ rs) = ((r .content ≡ []) ⊎ ((m : Message) × (readOf (r .content) ≡ got m) × Hidden m)) × Hiding rs
+
+-- the same call, but for the digits of a password or for the bytes that are hidden in a message; "Password 0 to 999,999."
+pub data AlikeCall : Call → Call → Type 0 where
+  unchanged : (c : Call) → AlikeCall c c
+  refunds : (i p q amount : ℕ) → p ≤ 999_999 → q ≤ 999_999 → AlikeCall (refund i p amount) (refund i q amount)
+  reversals : (i p q receipt : ℕ) → p ≤ 999_999 → q ≤ 999_999 → AlikeCall (reversal i p receipt) (reversal i q receipt)
+  messages : (i : ℕ) (s t : List ℕ) (m n : Message) → Bytes s → Bytes t → readOf s ≡ got m → readOf t ≡ got n → Alike m n
+      → AlikeCall (message i s) (message i t)
+
+-- call by call, with the same room lent to what each writes
+unfoldable pub AlikeDays : List Turn → List Turn → Type 0
+AlikeDays [] [] = Unit {0}
+AlikeDays [] (v ∷ vs) = ⊥
+AlikeDays (u ∷ us) [] = ⊥
+AlikeDays (u ∷ us) (v ∷ vs) = AlikeCall (u .call) (v .call) × (u .room ≡ v .room) × AlikeDays us vs
