@@ -3,7 +3,7 @@ ghost use mathlib.Core.Path.{_≡_};
 ghost use Rattle.course.specs.Commands.{saleBytes, refundBytes, reversalBytes};
 
 // 06 01: amount, currency.
-pub fn sale_bytes(amount: u64) -> [u8; 13]
+pub(crate) fn sale_bytes(amount: u64) -> [u8; 13]
     ensures { λ r. ⌜ r ≡ saleBytes amount ⌝ }
 {
     let a = zvt::amount_bytes(amount);
@@ -25,7 +25,7 @@ pub fn sale_bytes(amount: u64) -> [u8; 13]
 }
 
 // 06 31: password, amount, currency.
-pub fn refund_bytes(password: u32, amount: u64) -> [u8; 16]
+pub(crate) fn refund_bytes(password: u32, amount: u64) -> [u8; 16]
     ensures { λ r. ⌜ r ≡ refundBytes password amount ⌝ }
 {
     let p = zvt::password_bytes(password);
@@ -51,7 +51,7 @@ pub fn refund_bytes(password: u32, amount: u64) -> [u8; 16]
 }
 
 // 06 30: password, receipt.
-pub fn reversal_bytes(password: u32, receipt: u16) -> [u8; 9]
+pub(crate) fn reversal_bytes(password: u32, receipt: u16) -> [u8; 9]
     ensures { λ r. ⌜ r ≡ reversalBytes password receipt ⌝ }
 {
     let p = zvt::password_bytes(password);

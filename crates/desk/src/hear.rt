@@ -24,14 +24,14 @@ ghost use Rattle.course.specs.Desk.{place};
 ghost use Rattle.course.specs.Turnover.{gain, loss};
 ghost use Rattle.desk.specs.Hear.{inCourse, waitingMoved, runningMoved, abortedIn, reportedAs, movedAs, ReadIn, replied};
 
-pub fn both(a: bool, b: bool) -> bool
+pub(crate) fn both(a: bool, b: bool) -> bool
     ensures { λ r. ⌜ r ≡ (a && b) ⌝ }
 {
     if a { b } else { false }
 }
 
 // An open payment takes a place in the book, an idle lane none.
-pub fn place(l: Lane) -> usize
+pub(crate) fn place(l: Lane) -> usize
     ensures { λ r. ⌜ r ≡ place l ⌝ }
 {
     let p = l.phase;
@@ -42,7 +42,7 @@ pub fn place(l: Lane) -> usize
     }
 }
 
-pub fn is_sale(k: Kind) -> bool
+pub(crate) fn is_sale(k: Kind) -> bool
     ensures { λ r. ⌜ r ≡ isSale k ⌝ }
 {
     match k {
@@ -52,7 +52,7 @@ pub fn is_sale(k: Kind) -> bool
     }
 }
 
-pub fn is_reversal(k: Kind) -> bool
+pub(crate) fn is_reversal(k: Kind) -> bool
     ensures { λ r. ⌜ r ≡ isReversal k ⌝ }
 {
     match k {
@@ -62,7 +62,7 @@ pub fn is_reversal(k: Kind) -> bool
     }
 }
 
-pub fn approved(l: Line) -> bool
+pub(crate) fn approved(l: Line) -> bool
     ensures { λ r. ⌜ r ≡ isApproved (l .outcome) ⌝ }
 {
     let o = l.outcome;
@@ -74,7 +74,7 @@ pub fn approved(l: Line) -> bool
 }
 
 // An approved sale.
-pub fn approved_sale(l: Line) -> bool
+pub(crate) fn approved_sale(l: Line) -> bool
     ensures { λ r. ⌜ r ≡ (isApproved (l .outcome) && isSale (l .kind)) ⌝ }
 {
     let k = l.kind;
@@ -82,7 +82,7 @@ pub fn approved_sale(l: Line) -> bool
 }
 
 // An approved sale or reversal of that lane with that receipt.
-pub fn concerns(l: Line, lane: u8, receipt: u16) -> bool
+pub(crate) fn concerns(l: Line, lane: u8, receipt: u16) -> bool
     ensures { λ r. ⌜ r ≡ concerns lane receipt l ⌝ }
 {
     if l.lane != lane {
@@ -98,14 +98,14 @@ pub fn concerns(l: Line, lane: u8, receipt: u16) -> bool
     approved_sale(l)
 }
 
-pub fn gain(l: Line) -> u64
+pub(crate) fn gain(l: Line) -> u64
     ensures { λ r. ⌜ r ≡ gain (l .outcome) (l .kind) (l .settled) ⌝ }
 {
     if approved_sale(l) { l.settled } else { 0 }
 }
 
 // An approved line that is no sale takes away.
-pub fn loss(l: Line) -> u64
+pub(crate) fn loss(l: Line) -> u64
     ensures { λ r. ⌜ r ≡ loss (l .outcome) (l .kind) (l .settled) ⌝ }
 {
     if approved_sale(l) {
@@ -115,7 +115,7 @@ pub fn loss(l: Line) -> u64
 }
 
 // The receipt named for a reversal, else the one told, else 0.
-pub fn receipt_by(kind: Kind, named: u16, told: ToldReceipt) -> u16
+pub(crate) fn receipt_by(kind: Kind, named: u16, told: ToldReceipt) -> u16
     ensures { λ r. ⌜ r ≡ receiptBy kind named told ⌝ }
 {
     if is_reversal(kind) {
@@ -128,7 +128,7 @@ pub fn receipt_by(kind: Kind, named: u16, told: ToldReceipt) -> u16
 }
 
 // The line at the end of a lane's payment.
-pub fn line_at(lane: u8, l: Lane, outcome: Outcome, settled: u64, code: u8) -> Line
+pub(crate) fn ending_line(lane: u8, l: Lane, outcome: Outcome, settled: u64, code: u8) -> Line
     ensures { λ r. ⌜ r ≡ lineAt lane l outcome settled code ⌝ }
 {
     let kind = l.kind;
@@ -147,7 +147,7 @@ pub fn line_at(lane: u8, l: Lane, outcome: Outcome, settled: u64, code: u8) -> L
 }
 
 // The amount told, else the amount asked.
-pub fn amount_by(told: ToldAmount, asked: u64) -> u64
+pub(crate) fn amount_by(told: ToldAmount, asked: u64) -> u64
     ensures { λ r. ⌜ r ≡ amountBy told asked ⌝ }
 {
     match told {
@@ -157,7 +157,7 @@ pub fn amount_by(told: ToldAmount, asked: u64) -> u64
 }
 
 // Code 00: approved, but for a reversal at another amount.
-pub fn settled_as(kind: Kind, asked: u64, amount: u64) -> Moved
+pub(crate) fn settled_as(kind: Kind, asked: u64, amount: u64) -> Moved
     ensures { λ r. ⌜ r ≡ settledAs kind asked amount ⌝ }
 {
     if is_reversal(kind) {
@@ -169,7 +169,7 @@ pub fn settled_as(kind: Kind, asked: u64, amount: u64) -> Moved
 }
 
 // 06 0F: the remembered code decides.
-pub fn completed(l: Lane) -> Moved
+pub(crate) fn completed(l: Lane) -> Moved
     ensures { λ r. ⌜ r ≡ completedBy l (l .status .code) ⌝ }
 {
     let status = l.status;
@@ -188,7 +188,7 @@ pub fn completed(l: Lane) -> Moved
 }
 
 // 06 1E: the first body byte is the code.
-pub fn aborted(s: &[u8], m: Message) -> Moved
+pub(crate) fn aborted(s: &[u8], m: Message) -> Moved
     requires { ⌜ ReadIn m (now s) ⌝ }
     ensures { λ r. ⌜ r ≡ abortedIn m (now (s .entry)) ⌝ }
 {
@@ -201,7 +201,7 @@ pub fn aborted(s: &[u8], m: Message) -> Moved
 }
 
 // 04 0F: with a code it replaces the remembered status.
-pub fn reported(l: Lane, status: Status) -> Moved
+pub(crate) fn reported(l: Lane, status: Status) -> Moved
     ensures { λ r. ⌜ r ≡ reportedAs l status ⌝ }
 {
     let code = status.code;
@@ -212,7 +212,7 @@ pub fn reported(l: Lane, status: Status) -> Moved
 }
 
 // A message of the course, read, on a running lane.
-pub fn moved_by(l: Lane, s: &[u8], m: Message) -> Moved
+pub(crate) fn moved_by(l: Lane, s: &[u8], m: Message) -> Moved
     requires { ⌜ ReadIn m (now s) ⌝ }
     ensures { λ r. ⌜ r ≡ movedAs l m (now (s .entry)) ⌝ }
 {
@@ -232,7 +232,7 @@ pub fn moved_by(l: Lane, s: &[u8], m: Message) -> Moved
 }
 
 // The pairs that a running lane takes.
-pub fn in_course(class: u8, instruction: u8) -> bool
+pub(crate) fn in_course(class: u8, instruction: u8) -> bool
     ensures { λ r. ⌜ r ≡ inCourse class instruction ⌝ }
 {
     if class == 0x04 {
@@ -250,7 +250,7 @@ pub fn in_course(class: u8, instruction: u8) -> bool
     }
 }
 
-pub fn heard_waiting(l: Lane, h: Header) -> Moved
+pub(crate) fn heard_waiting(l: Lane, h: Header) -> Moved
     ensures { λ r. ⌜ r ≡ waitingMoved l h ⌝ }
 {
     if h.length != 0 {
@@ -268,7 +268,7 @@ pub fn heard_waiting(l: Lane, h: Header) -> Moved
     Moved::Becomes(l.running())
 }
 
-pub fn heard_running(l: Lane, s: &[u8], h: Header) -> Moved
+pub(crate) fn heard_running(l: Lane, s: &[u8], h: Header) -> Moved
     ensures { λ r. ⌜ r ≡ runningMoved l h (now (s .entry)) ⌝ }
 {
     if !in_course(h.class, h.instruction) {
@@ -281,7 +281,7 @@ pub fn heard_running(l: Lane, s: &[u8], h: Header) -> Moved
 }
 
 // A message for a lane: 14, header, 15, body.
-pub fn heard(l: Lane, s: &[u8]) -> Moved
+pub(crate) fn heard(l: Lane, s: &[u8]) -> Moved
     ensures { λ r. ⌜ r ≡ heard l (now (s .entry)) ⌝ }
 {
     let phase = l.phase;
@@ -298,7 +298,7 @@ pub fn heard(l: Lane, s: &[u8]) -> Moved
 }
 
 // A running lane's message is answered with 80 00 00, a waiting one's with nothing.
-pub fn reply_size(l: Lane) -> usize
+pub(crate) fn reply_size(l: Lane) -> usize
     ensures { λ r. ⌜ r ≡ length (answered (l .phase)) ⌝ }
 {
     let p = l.phase;
@@ -309,7 +309,7 @@ pub fn reply_size(l: Lane) -> usize
     }
 }
 
-pub fn put_reply(size: usize, out: &mut [u8])
+pub(crate) fn put_reply(size: usize, out: &mut [u8])
     requires { ⌜ size ≤ length (now out) ⌝ }
     ensures { λ _. ⌜ now (out .exit) ≡ replied size (now (out .entry)) ⌝ }
 {

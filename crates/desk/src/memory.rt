@@ -13,7 +13,7 @@ ghost use Rattle.course.specs.Desk.{places};
 ghost use Rattle.course.specs.Memory.{Valid, withLine, endedDesk, movedDesk};
 ghost use Rattle.desk.specs.Opening.{openingNumber};
 
-pub fn with_line(b: Book, l: Line) -> Book
+pub(crate) fn with_line(b: Book, l: Line) -> Book
     requires { ⌜ b .count < 64 ⌝ }
     ensures { λ r. ⌜ r ≡ withLine b l ⌝ }
 {
@@ -25,7 +25,7 @@ pub fn with_line(b: Book, l: Line) -> Book
 }
 
 // The last approved sale or reversal line of a lane with that receipt, or a blank one.
-pub fn last_line(b: Book, lane: u8, receipt: u16) -> Line
+pub(crate) fn last_line(b: Book, lane: u8, receipt: u16) -> Line
     requires { ⌜ (b .count ≤ 64) × (length (b .lines) ≡ 64) ⌝ }
     ensures { λ r. ⌜ r ≡ lastLine lane receipt (take (b .count) (b .lines)) ⌝ }
 {
@@ -43,7 +43,7 @@ pub fn last_line(b: Book, lane: u8, receipt: u16) -> Line
 }
 
 // How many payments are open.
-pub fn places_in(d: Desk) -> usize
+pub(crate) fn places_in(d: Desk) -> usize
     requires { ⌜ length (d .lanes) ≡ 8 ⌝ }
     ensures { λ r. ⌜ r ≡ places (d .lanes) ⌝ }
 {
@@ -58,7 +58,7 @@ pub fn places_in(d: Desk) -> usize
 }
 
 // The number of refusal of an opening, 0 for none: 12, 13, 16, 17, 18, 11.
-pub fn opening(d: Desk, lane: u8, within: bool, sale: bool, need: usize, room: usize) -> u8
+pub(crate) fn opening(d: Desk, lane: u8, within: bool, sale: bool, need: usize, room: usize) -> u8
     requires { ⌜ Valid d ⌝ }
     ensures { λ r. ⌜ r ≡ openingNumber d lane within sale need room ⌝ }
 {
@@ -88,7 +88,7 @@ pub fn opening(d: Desk, lane: u8, within: bool, sale: bool, need: usize, room: u
 }
 
 // The lane's payment ends with that line, and the lane is idle.
-pub fn ended(d: Desk, lane: u8, line: Line) -> Desk
+pub(crate) fn ended(d: Desk, lane: u8, line: Line) -> Desk
     requires { ⌜ (lane < 8) × (length (d .lanes) ≡ 8) × (d .book .count < 64) × (length (d .book .lines) ≡ 64) ⌝ }
     ensures { λ r. ⌜ r ≡ endedDesk d lane line ⌝ }
 {
@@ -101,7 +101,7 @@ pub fn ended(d: Desk, lane: u8, line: Line) -> Desk
 }
 
 // What a move of a lane leaves.
-pub fn moved(d: Desk, lane: u8, m: Moved) -> Desk
+pub(crate) fn moved(d: Desk, lane: u8, m: Moved) -> Desk
     requires { ⌜ (lane < 8) × (length (d .lanes) ≡ 8) × (d .book .count < 64) × (length (d .book .lines) ≡ 64) ⌝ }
     ensures { λ r. ⌜ r ≡ movedDesk d lane m ⌝ }
 {
@@ -116,7 +116,7 @@ pub fn moved(d: Desk, lane: u8, m: Moved) -> Desk
         }
         Moved::Ends(outcome, settled, code) => {
             let l = d.lanes[at];
-            ended(d, lane, hear::line_at(lane, l, outcome, settled, code))
+            ended(d, lane, hear::ending_line(lane, l, outcome, settled, code))
         }
     }
 }

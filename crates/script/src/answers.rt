@@ -5,6 +5,7 @@ use course::Lane;
 use course::Line;
 use course::Outcome;
 use course::Phase;
+use course::Reply;
 use listing::add_ids;
 use listing::text::add;
 use listing::text::add_all;
@@ -145,15 +146,48 @@ pub(crate) fn refused_block(block: u64, number: u8, out: &mut [u8]) -> usize {
 }
 
 // A block of a printed tape: its payload, how many changes were made to it, and how many were refused.
-pub(crate) fn damaged(block: u64, payload: u64, changes: u64, seen: u64, out: &mut [u8]) -> usize {
+pub(crate) fn add_damaged(
+    block: u64,
+    payload: u64,
+    changes: u64,
+    seen: u64,
+    out: &mut [u8],
+) -> usize {
     let mut to = add_decimal(block, 0, out);
     to = add_all(b" payload", to, out);
     to = add_number(payload, to, out);
     to = add_all(b" changed", to, out);
     to = add_number(changes, to, out);
     to = add_all(b" refused", to, out);
-    to = add_number(seen, to, out);
-    add_end(to, out)
+    add_number(seen, to, out)
+}
+
+// What a block is refused with that is too short, too long, or not due.
+pub(crate) fn add_refusals(short: u8, long: u8, other: u8, at: usize, out: &mut [u8]) -> usize {
+    let mut to = add_all(b" short", at, out);
+    to = add_number(short as u64, to, out);
+    to = add_all(b" long", to, out);
+    to = add_number(long as u64, to, out);
+    to = add_all(b" other", to, out);
+    add_number(other as u64, to, out)
+}
+
+pub(crate) fn add_again(same: bool, at: usize, out: &mut [u8]) -> usize {
+    if same {
+        return add_all(b" again the same", at, out);
+    }
+    add_all(b" again another", at, out)
+}
+
+pub(crate) fn add_alone(r: Reply, at: usize, out: &mut [u8]) -> usize {
+    let to = add_all(b" alone", at, out);
+    match r {
+        Reply::Written(n) => add_number(n as u64, to, out),
+        Reply::Refused(f) => {
+            let end = add_all(b" refused", to, out);
+            add_number(f.number as u64, end, out)
+        }
+    }
 }
 
 fn add_code(c: ToldCode, at: usize, out: &mut [u8]) -> usize {

@@ -26,9 +26,6 @@ const TEXT: usize = 267533;
 // No line about a block is longer.
 const LINE: usize = 256;
 
-// The largest number of a block.
-const MOST: u32 = 4294967295;
-
 // Every answer fits the buffer, so nothing is left unprinted.
 fn print(size: usize, text: &[u8]) {
     if text.len() < size {
@@ -131,7 +128,7 @@ pub fn damage(printed: &[u8]) {
             return;
         }
         let next = to + 1;
-        if number == MOST {
+        if number == Block::MOST_NUMBER {
             return;
         }
         number += 1;

@@ -22,7 +22,7 @@ ghost use lib.ListN.{length};
 // What every byte of a lent buffer is before a call.
 const BLANK: u8 = 0xC3;
 
-pub fn blank(room: &mut [u8]) {
+pub(crate) fn blank(room: &mut [u8]) {
     fill(BLANK, room);
 }
 
@@ -40,7 +40,7 @@ fn add_header(class: u8, instruction: u8, start: usize, length: usize, out: &mut
     add_decimal(length as u64, to, out)
 }
 
-pub fn header_text(s: &[u8], out: &mut [u8]) -> usize {
+pub(crate) fn header_text(s: &[u8], out: &mut [u8]) -> usize {
     match zvt::read_header(s) {
         HeaderAnswer::Refused(f) => add_refused(f.number, 0, out),
         HeaderAnswer::Header(h) => add_header(h.class, h.instruction, h.start, h.length, out),
@@ -74,14 +74,14 @@ fn message_text(s: &[u8], m: Message, out: &mut [u8]) -> usize {
     add_fields(s, to, out)
 }
 
-pub fn read_text(s: &[u8], out: &mut [u8]) -> usize {
+pub(crate) fn read_text(s: &[u8], out: &mut [u8]) -> usize {
     match zvt::read(s) {
         ReadAnswer::Refused(f) => add_refused(f.number, 0, out),
         ReadAnswer::Accepted(m) => message_text(s, m, out),
     }
 }
 
-pub fn first_text(s: &[u8], out: &mut [u8]) -> usize {
+pub(crate) fn first_text(s: &[u8], out: &mut [u8]) -> usize {
     match zvt::read_first(s) {
         FirstAnswer::Refused(f) => add_refused(f.number, 0, out),
         FirstAnswer::Accepted(m, next) => {
@@ -129,12 +129,12 @@ fn add_shortened(answer: ShortenAnswer, room: &[u8], out: &mut [u8]) -> usize {
 }
 
 // Shortens into a blank buffer.
-pub fn shorten_text(s: &[u8], room: &mut [u8], out: &mut [u8]) -> usize {
+pub(crate) fn shorten_text(s: &[u8], room: &mut [u8], out: &mut [u8]) -> usize {
     let answer = zvt::shorten(s, room);
     add_shortened(answer, room, out)
 }
 
-pub fn field_text(k: usize, s: &[u8], out: &mut [u8]) -> usize {
+pub(crate) fn field_text(k: usize, s: &[u8], out: &mut [u8]) -> usize {
     match zvt::field_at(s, k) {
         FieldAnswer::End => add_all(b"end", 0, out),
         FieldAnswer::Field(f) => {
@@ -168,7 +168,7 @@ fn add_receipt(r: ToldReceipt, at: usize, out: &mut [u8]) -> usize {
     }
 }
 
-pub fn status_text(s: &[u8], out: &mut [u8]) -> usize {
+pub(crate) fn status_text(s: &[u8], out: &mut [u8]) -> usize {
     let t = zvt::read_status(s);
     let code = t.code;
     let amount = t.amount;
@@ -181,7 +181,7 @@ pub fn status_text(s: &[u8], out: &mut [u8]) -> usize {
     add_receipt(receipt, to, out)
 }
 
-pub fn name_text<'a>(s: &'a [u8], own: &'a [u8], out: &mut [u8]) -> usize {
+pub(crate) fn name_text<'a>(s: &'a [u8], own: &'a [u8], out: &mut [u8]) -> usize {
     add_bytes(zvt::card_name(s, own), 0, out)
 }
 
@@ -196,7 +196,7 @@ fn add_line_and_stroke(size: usize, line: &[u8], at: usize, out: &mut [u8]) -> u
 }
 
 // The lines of a listing, ` / ` between two of them.
-pub fn list_text(s: &[u8], line: &mut [u8], out: &mut [u8]) -> usize {
+pub(crate) fn list_text(s: &[u8], line: &mut [u8], out: &mut [u8]) -> usize {
     let mut at: usize = 0;
     let mut count: u32 = 0;
     let mut to: usize = 0;
@@ -245,7 +245,7 @@ fn add_item(first: u8, last: u8, number: u8, at: usize, out: &mut [u8]) -> usize
 }
 
 // Reads s with each value in turn for its byte at place, and tells the ranges of values that come to the same.
-pub fn each_text(s: &mut [u8], place: usize, out: &mut [u8]) -> usize
+pub(crate) fn each_text(s: &mut [u8], place: usize, out: &mut [u8]) -> usize
     requires { ⌜ place < length (now s) ⌝ }
 {
     let mut to: usize = 0;
@@ -268,18 +268,18 @@ pub fn each_text(s: &mut [u8], place: usize, out: &mut [u8]) -> usize
 }
 
 // A till's numbers as bytes of digits; one that its type does not hold is told.
-pub fn amount_text(n: usize, out: &mut [u8]) -> usize {
+pub(crate) fn amount_text(n: usize, out: &mut [u8]) -> usize {
     add_bytes(&zvt::amount_bytes(n as u64), 0, out)
 }
 
-pub fn password_text(n: usize, out: &mut [u8]) -> usize {
+pub(crate) fn password_text(n: usize, out: &mut [u8]) -> usize {
     if 4294967295 < n {
         return add_all(b"too large", 0, out);
     }
     add_bytes(&zvt::password_bytes(n as u32), 0, out)
 }
 
-pub fn receipt_text(n: usize, out: &mut [u8]) -> usize {
+pub(crate) fn receipt_text(n: usize, out: &mut [u8]) -> usize {
     if 65535 < n {
         return add_all(b"too large", 0, out);
     }

@@ -9,7 +9,7 @@ use crate::words::upto;
 use check::same;
 use listing::text::add_bytes;
 
-pub enum Kind {
+pub(crate) enum Kind {
     Header,
     Read,
     First,
@@ -27,7 +27,7 @@ pub enum Kind {
 }
 
 // How an example came out; where it differs, how long the answer's text is.
-pub enum Outcome {
+pub(crate) enum Outcome {
     Same,
     Differs(usize),
     Bad,
@@ -214,7 +214,13 @@ fn compared(answer: &[u8], made: Made, b: &mut [u8], got: &[u8], want: &mut [u8]
 }
 
 // Runs the example of a line; a and b, which is blank, take bytes, got and want text.
-pub fn run(line: &[u8], a: &mut [u8], b: &mut [u8], got: &mut [u8], want: &mut [u8]) -> Outcome {
+pub(crate) fn run(
+    line: &[u8],
+    a: &mut [u8],
+    b: &mut [u8],
+    got: &mut [u8],
+    want: &mut [u8],
+) -> Outcome {
     let name = head(line);
     let words = tail(line);
     let v = head(words);

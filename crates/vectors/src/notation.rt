@@ -11,21 +11,21 @@ ghost use Rattle.io.specs.Counts.{Counts};
 const TIMES: usize = 65537;
 
 // A number and how many digits it takes; no digits where it is none or too large.
-pub struct Number {
-    pub value: usize,
-    pub size: usize,
+pub(crate) struct Number {
+    pub(crate) value: usize,
+    pub(crate) size: usize,
 }
 
 // How many bytes of the text were used, none where it is no group, and how many were made of them.
-pub struct Group {
-    pub used: usize,
-    pub made: usize,
+pub(crate) struct Group {
+    pub(crate) used: usize,
+    pub(crate) made: usize,
 }
 
 // Whether the text stands for bytes, and how many.
-pub struct Bytes {
-    pub good: bool,
-    pub size: usize,
+pub(crate) struct Bytes {
+    pub(crate) good: bool,
+    pub(crate) size: usize,
 }
 
 fn wide(b: u8) -> usize
@@ -35,7 +35,7 @@ fn wide(b: u8) -> usize
 }
 
 // The decimal number that s begins with.
-pub fn number_of(s: &[u8]) -> Number
+pub(crate) fn number_of(s: &[u8]) -> Number
     ensures { λ r. ⌜ r .size ≤ length (now (s .entry)) ⌝ }
 {
     let mut v: usize = 0;
@@ -133,7 +133,7 @@ fn group_of(s: &[u8], out: &mut [u8]) -> Group
 }
 
 // The bytes that s stands for, at the start of out.
-pub fn bytes_of(s: &[u8], out: &mut [u8]) -> Bytes
+pub(crate) fn bytes_of(s: &[u8], out: &mut [u8]) -> Bytes
     ensures { λ r. ⌜ Counts (r .size) (now (out .exit)) ⌝ }
 {
     if same(s, b"-") {

@@ -2,14 +2,14 @@
 ghost use Rattle.io.specs.Counts.{Counts};
 
 // n, or the length of s where that is less.
-pub fn upto(n: usize, s: &[u8]) -> usize
+pub(crate) fn upto(n: usize, s: &[u8]) -> usize
     ensures { λ r. ⌜ Counts r (now (s .entry)) ⌝ }
 {
     if s.len() < n { s.len() } else { n }
 }
 
 // Where the first b of s stands, or the end of s.
-pub fn find(s: &[u8], b: u8) -> usize
+pub(crate) fn find(s: &[u8], b: u8) -> usize
     ensures { λ r. ⌜ Counts r (now (s .entry)) ⌝ }
 {
     let mut i: usize = 0;
@@ -23,13 +23,13 @@ pub fn find(s: &[u8], b: u8) -> usize
 }
 
 // The first word of s.
-pub fn head<'a>(s: &'a [u8]) -> &'a [u8] {
+pub(crate) fn head<'a>(s: &'a [u8]) -> &'a [u8] {
     let end = find(s, b' ');
     &s[..end]
 }
 
 // What follows the first word of s and the blank behind it.
-pub fn tail<'a>(s: &'a [u8]) -> &'a [u8] {
+pub(crate) fn tail<'a>(s: &'a [u8]) -> &'a [u8] {
     let end = find(s, b' ');
     if end == s.len() {
         return &s[end..];

@@ -16,7 +16,7 @@ ghost use lib.ListN.{length};
 ghost use Rattle.zvt.specs.Body.{securedAnswer, bodyAnswer, bodyIn, described};
 
 // A password, then a list.
-pub fn read_secured(s: &[u8], at: usize) -> PartRead
+pub(crate) fn read_secured(s: &[u8], at: usize) -> PartRead
     requires { ⌜ at + length (now s) ≤ 4101 ⌝ }
     ensures { λ r. ⌜ r ≡ securedAnswer at (now (s .entry)) ⌝ }
 {
@@ -40,7 +40,7 @@ pub fn read_secured(s: &[u8], at: usize) -> PartRead
     }
 }
 
-pub fn read_body(s: &[u8], at: usize, layout: Layout) -> PartRead
+pub(crate) fn read_body(s: &[u8], at: usize, layout: Layout) -> PartRead
     requires { ⌜ at + length (now s) ≤ 4101 ⌝ }
     ensures { λ r. ⌜ r ≡ bodyAnswer at (now (s .entry)) layout ⌝ }
 {
@@ -56,7 +56,7 @@ pub fn read_body(s: &[u8], at: usize, layout: Layout) -> PartRead
 }
 
 // The body that a header of s announces.
-pub fn body_in(s: &[u8], h: Header) -> PartRead
+pub(crate) fn body_in(s: &[u8], h: Header) -> PartRead
     requires { ⌜ (h .start ≤ 5) × (h .length ≤ 4096) × (h .start + h .length ≤ length (now s)) ⌝ }
     ensures { λ r. ⌜ r ≡ bodyIn h (now (s .entry)) ⌝ }
 {
@@ -67,7 +67,7 @@ pub fn body_in(s: &[u8], h: Header) -> PartRead
 }
 
 // A message by its header and the tally of its body.
-pub fn message_of(h: Header, t: Tally) -> Message
+pub(crate) fn message_of(h: Header, t: Tally) -> Message
     ensures { λ r. ⌜ r ≡ described h t ⌝ }
 {
     let mut shortest = false;

@@ -5,7 +5,7 @@ ghost use lib.ListN.{length};
 ghost use Rattle.messages.specs.Digits.{digitBytesOf, numberOf};
 
 // Fills out with the last digits of n.
-pub fn put_digits(n: u64, out: &mut [u8])
+pub(crate) fn put_digits(n: u64, out: &mut [u8])
     ensures { λ _. ⌜ now (out .exit) ≡ digitBytesOf (length (now (out .entry))) n ⌝ }
 {
     let mut v = n;
@@ -19,7 +19,7 @@ pub fn put_digits(n: u64, out: &mut [u8])
 }
 
 // The number that the digits of s are.
-pub fn number(s: &[u8]) -> u64
+pub(crate) fn number(s: &[u8]) -> u64
     requires { ⌜ length (now s) ≤ 6 ⌝ }
     ensures { λ r. ⌜ r ≡ numberOf (now (s .entry)) ⌝ }
 {

@@ -1,4 +1,5 @@
 // Fields: one id byte, then the value; a list of them.
+use crate::Message;
 use crate::format::format_of;
 use crate::format::holds_digits;
 use crate::objects::Bounds;
@@ -20,19 +21,19 @@ ghost use Rattle.messages.specs.Fields.{formatOf};
 ghost use Rattle.zvt.specs.Fields.{digitsAnswer, decimalsAnswer, fieldBounds, plainAnswer, fieldAnswer, listAnswer};
 
 // A length in digits.
-pub enum DigitsRead {
+pub(crate) enum DigitsRead {
     Number(usize),
     Refused(Fault),
 }
 
 // Whether bytes are decimal digits throughout.
-pub enum Decimals {
+pub(crate) enum Decimals {
     All,
     Refused(Fault),
 }
 
 // The number in the first d bytes, each a length digit.
-pub fn digits_of(s: &[u8], at: usize, d: usize) -> DigitsRead
+pub(crate) fn digits_of(s: &[u8], at: usize, d: usize) -> DigitsRead
     requires { ⌜ (at + length (now s) ≤ 4101) × (d ≤ 3) ⌝ }
     ensures { λ r. ⌜ r ≡ digitsAnswer d at (now (s .entry)) ⌝ }
 {
@@ -61,7 +62,7 @@ pub fn digits_of(s: &[u8], at: usize, d: usize) -> DigitsRead
 }
 
 // Decimal digits in both halves of each byte.
-pub fn all_decimal(s: &[u8], at: usize) -> Decimals
+pub(crate) fn all_decimal(s: &[u8], at: usize) -> Decimals
     requires { ⌜ at + length (now s) ≤ 4101 ⌝ }
     ensures { λ r. ⌜ r ≡ decimalsAnswer at (now (s .entry)) ⌝ }
 {
@@ -80,7 +81,7 @@ pub fn all_decimal(s: &[u8], at: usize) -> Decimals
 }
 
 // The bounds of the field that s begins with, whose id has that format.
-pub fn field_bounds(s: &[u8], at: usize, format: Format) -> BoundsRead
+pub(crate) fn field_bounds(s: &[u8], at: usize, format: Format) -> BoundsRead
     requires { ⌜ (at + length (now s) ≤ 4101) × (0 < length (now s)) × (format ≡ formatOf (getD (now s) 0 0)) ⌝ }
     ensures { λ r. ⌜ r ≡ fieldBounds at (now (s .entry)) ⌝ }
 {
@@ -102,7 +103,7 @@ pub fn field_bounds(s: &[u8], at: usize, format: Format) -> BoundsRead
 }
 
 // The field that s begins with, whose value, plain bytes, lies there: digits where digits must be.
-pub fn read_plain(s: &[u8], at: usize, b: Bounds, n: u8) -> PartRead
+pub(crate) fn read_plain(s: &[u8], at: usize, b: Bounds, n: u8) -> PartRead
     requires { ⌜ (at + length (now s) ≤ 4101) × (0 < length (now s)) × (b .from ≤ b .to) × (b .to ≤ length (now s)) ⌝ }
     ensures { λ r. ⌜ r ≡ plainAnswer n at b (now (s .entry)) ⌝ }
 {
@@ -123,7 +124,7 @@ pub fn read_plain(s: &[u8], at: usize, b: Bounds, n: u8) -> PartRead
 }
 
 // The field that s begins with, after n objects; twice says that its id stood before.
-pub fn read_field(s: &[u8], at: usize, n: u8, twice: bool) -> PartRead
+pub(crate) fn read_field(s: &[u8], at: usize, n: u8, twice: bool) -> PartRead
     requires { ⌜ (at + length (now s) ≤ 4101) × (0 < length (now s)) ⌝ }
     ensures { λ r. ⌜ r ≡ fieldAnswer twice n at (now (s .entry)) ⌝ }
 {
@@ -148,7 +149,7 @@ pub fn read_field(s: &[u8], at: usize, n: u8, twice: bool) -> PartRead
             }
             let from = b.from;
             let to = b.to;
-            match read_run(&s[from..to], at + from, 4, n) {
+            match read_run(&s[from..to], at + from, Message::LEVELS, n) {
                 PartRead::Refused(f) => PartRead::Refused(f),
                 PartRead::Part(r) => PartRead::Part(tally_of(b, r.objects, r.spare)),
             }
@@ -157,7 +158,7 @@ pub fn read_field(s: &[u8], at: usize, n: u8, twice: bool) -> PartRead
 }
 
 // Reads a list of fields. seen marks the ids that came.
-pub fn read_list(s: &[u8], at: usize) -> PartRead
+pub(crate) fn read_list(s: &[u8], at: usize) -> PartRead
     requires { ⌜ at + length (now s) ≤ 4101 ⌝ }
     ensures { λ r. ⌜ r ≡ listAnswer at (now (s .entry)) ⌝ }
 {

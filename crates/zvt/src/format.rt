@@ -5,7 +5,7 @@ ghost use mathlib.Core.Path.{_≡_};
 ghost use Rattle.messages.specs.Fields.{formatOf, holdsDigits};
 ghost use Rattle.messages.specs.Message.{layoutOf};
 
-pub fn format_of(id: u8) -> Format
+pub(crate) fn format_of(id: u8) -> Format
     ensures { λ r. ⌜ r ≡ formatOf id ⌝ }
 {
     match id {
@@ -44,7 +44,7 @@ pub fn format_of(id: u8) -> Format
 }
 
 // Fields whose value must be decimal digits.
-pub fn holds_digits(id: u8) -> bool
+pub(crate) fn holds_digits(id: u8) -> bool
     ensures { λ r. ⌜ r ≡ holdsDigits id ⌝ }
 {
     match id {
@@ -53,7 +53,7 @@ pub fn holds_digits(id: u8) -> bool
     }
 }
 
-pub fn layout_of(class: u8, instruction: u8) -> Layout
+pub(crate) fn layout_of(class: u8, instruction: u8) -> Layout
     ensures { λ r. ⌜ r ≡ layoutOf class instruction ⌝ }
 {
     let pair = class as usize * 256 + instruction as usize;

@@ -1,20 +1,21 @@
 // The header of a message: class byte, instruction byte, length.
 use crate::Header;
+use crate::Message;
 use messages::Fault;
 use messages::Place;
 ghost use mathlib.Core.Path.{_≡_};
 ghost use Rattle.zvt.specs.Header.{fitting, firstHeader, wholeAnswer};
 
-pub enum HeaderRead {
+pub(crate) enum HeaderRead {
     Header(Header),
     Refused(Fault),
 }
 
 // The header, where its body keeps the limit and lies in s.
-pub fn fitted(s: &[u8], h: Header) -> HeaderRead
+pub(crate) fn fitted(s: &[u8], h: Header) -> HeaderRead
     ensures { λ r. ⌜ r ≡ fitting h (now (s .entry)) ⌝ }
 {
-    if 4096 < h.length {
+    if Message::MOST_BODY < h.length {
         return HeaderRead::Refused(Fault {
             number: 2,
             place: Place::Nowhere,
@@ -30,7 +31,7 @@ pub fn fitted(s: &[u8], h: Header) -> HeaderRead
 }
 
 // The header of the message that s begins with.
-pub fn header_of(s: &[u8]) -> HeaderRead
+pub(crate) fn header_of(s: &[u8]) -> HeaderRead
     ensures { λ r. ⌜ r ≡ firstHeader (now (s .entry)) ⌝ }
 {
     let cut = Fault {
@@ -45,15 +46,13 @@ pub fn header_of(s: &[u8]) -> HeaderRead
     let b = s[2];
     if b != 0xFF {
         let length = b as usize;
-        return fitted(
-            s,
-            Header {
-                class,
-                instruction,
-                start: 3,
-                length,
-            },
-        );
+        let short = Header {
+            class,
+            instruction,
+            start: 3,
+            length,
+        };
+        return fitted(s, short);
     }
     if s.len() < 5 {
         return HeaderRead::Refused(cut);
@@ -61,19 +60,17 @@ pub fn header_of(s: &[u8]) -> HeaderRead
     let low = s[3] as usize;
     let high = s[4] as usize;
     let length = high * 256 + low;
-    fitted(
-        s,
-        Header {
-            class,
-            instruction,
-            start: 5,
-            length,
-        },
-    )
+    let long = Header {
+        class,
+        instruction,
+        start: 5,
+        length,
+    };
+    fitted(s, long)
 }
 
 // The header of the message that s is.
-pub fn whole_header(s: &[u8]) -> HeaderRead
+pub(crate) fn whole_header(s: &[u8]) -> HeaderRead
     ensures { λ r. ⌜ r ≡ wholeAnswer (now (s .entry)) ⌝ }
 {
     match header_of(s) {

@@ -46,6 +46,16 @@ pub struct Message {
     pub shortest: bool,
 }
 
+impl Message {
+    pub const MOST_BODY: usize = 4096;
+
+    // Inner ones counted.
+    pub const MOST_OBJECTS: u8 = 64;
+
+    // Objects directly in a container have depth 1.
+    pub const LEVELS: u8 = 4;
+}
+
 pub enum HeaderAnswer {
     Header(Header),
     Refused(Refusal),

@@ -10,7 +10,7 @@ ghost use mathlib.Core.Path.{_≡_};
 ghost use Rattle.zvt.specs.List.{ListIn, statusPlace, firstListed, nthListed, namedListed, listedIn};
 
 // Where the list of a status information lies.
-pub fn status_place(s: &[u8]) -> ListPlace
+pub(crate) fn status_place(s: &[u8]) -> ListPlace
     ensures { λ r. ⌜ r ≡ statusPlace (now (s .entry)) ⌝ }
 {
     match crate::read(s) {
@@ -28,7 +28,7 @@ pub fn status_place(s: &[u8]) -> ListPlace
 }
 
 // The field at place at of a list that goes up to end.
-pub fn field_from(s: &[u8], at: usize, end: usize) -> FieldAnswer
+pub(crate) fn field_from(s: &[u8], at: usize, end: usize) -> FieldAnswer
     requires { ⌜ ListIn at end (now s) ⌝ }
     ensures { λ r. ⌜ r ≡ firstListed (listedIn at end (now (s .entry))) ⌝ }
 {
@@ -47,7 +47,7 @@ pub fn field_from(s: &[u8], at: usize, end: usize) -> FieldAnswer
 }
 
 // The field number k of a list, counted from 0.
-pub fn nth(s: &[u8], from: usize, end: usize, k: usize) -> FieldAnswer
+pub(crate) fn nth(s: &[u8], from: usize, end: usize, k: usize) -> FieldAnswer
     requires { ⌜ ListIn from end (now s) ⌝ }
     ensures { λ r. ⌜ r ≡ nthListed k (listedIn from end (now (s .entry))) ⌝ }
 {
@@ -68,7 +68,7 @@ pub fn nth(s: &[u8], from: usize, end: usize, k: usize) -> FieldAnswer
 }
 
 // The field of a list that has that id.
-pub fn named(s: &[u8], from: usize, end: usize, id: u8) -> FieldAnswer
+pub(crate) fn named(s: &[u8], from: usize, end: usize, id: u8) -> FieldAnswer
     requires { ⌜ ListIn from end (now s) ⌝ }
     ensures { λ r. ⌜ r ≡ namedListed id (listedIn from end (now (s .entry))) ⌝ }
 {

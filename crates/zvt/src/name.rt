@@ -4,7 +4,7 @@ ghost use lib.ListN.{length};
 ghost use Rattle.zvt.specs.Name.{upToZero};
 
 // How many bytes stand before the first zero byte.
-pub fn name_size(s: &[u8]) -> usize
+pub(crate) fn name_size(s: &[u8]) -> usize
     ensures { λ r. ⌜ r ≡ length (upToZero (now (s .entry))) ⌝ }
 {
     let mut i: usize = 0;

@@ -1,4 +1,5 @@
 // Data objects: a run of objects, each tag, length, value; the value of some is again a run.
+use crate::Message;
 use messages::Fault;
 use messages::Place;
 ghost use mathlib.Core.Path.{_≡_};
@@ -9,45 +10,45 @@ ghost use Rattle.messages.specs.Shortest.{formFor};
 ghost use Rattle.zvt.specs.Objects.{tagAnswer, lenAnswer, within, headAnswer, tallyOf, oneAnswer, runAnswer};
 
 // How many bytes a tag takes.
-pub enum TagRead {
+pub(crate) enum TagRead {
     Size(usize),
     Refused(Fault),
 }
 
 // How many bytes a length takes, and the length.
-pub enum LenRead {
+pub(crate) enum LenRead {
     Len(usize, usize),
     Refused(Fault),
 }
 
 // Where the parts of an object or a field lie: the tag or id ends at tag, the value goes from from up to to. A nested value is a
 // run of objects.
-pub struct Bounds {
-    pub tag: usize,
-    pub from: usize,
-    pub to: usize,
-    pub nested: bool,
+pub(crate) struct Bounds {
+    pub(crate) tag: usize,
+    pub(crate) from: usize,
+    pub(crate) to: usize,
+    pub(crate) nested: bool,
 }
 
-pub enum BoundsRead {
+pub(crate) enum BoundsRead {
     Bounds(Bounds),
     Refused(Fault),
 }
 
 // What is known of bytes that were read: how many, the objects begun by their end, and how many bytes fewer they take when
 // every length is shortest.
-pub struct Tally {
-    pub size: usize,
-    pub objects: u8,
-    pub spare: usize,
+pub(crate) struct Tally {
+    pub(crate) size: usize,
+    pub(crate) objects: u8,
+    pub(crate) spare: usize,
 }
 
-pub enum PartRead {
+pub(crate) enum PartRead {
     Part(Tally),
     Refused(Fault),
 }
 
-pub fn tag_size(s: &[u8], at: usize) -> TagRead
+pub(crate) fn tag_size(s: &[u8], at: usize) -> TagRead
     requires { ⌜ at + length (now s) ≤ 4101 ⌝ }
     ensures { λ r. ⌜ r ≡ tagAnswer at (now (s .entry)) ⌝ }
 {
@@ -77,16 +78,17 @@ pub fn tag_size(s: &[u8], at: usize) -> TagRead
     }
 }
 
-pub fn len_of(s: &[u8], at: usize) -> LenRead
+pub(crate) fn len_of(s: &[u8], at: usize) -> LenRead
     requires { ⌜ at + length (now s) ≤ 4101 ⌝ }
     ensures { λ r. ⌜ r ≡ lenAnswer at (now (s .entry)) ⌝ }
 {
     let end = at + s.len();
+    let cut = Fault {
+        number: 1,
+        place: Place::At(end),
+    };
     if s.len() == 0 {
-        return LenRead::Refused(Fault {
-            number: 1,
-            place: Place::At(end),
-        });
+        return LenRead::Refused(cut);
     }
     let b = s[0];
     if b < 0x80 {
@@ -95,20 +97,14 @@ pub fn len_of(s: &[u8], at: usize) -> LenRead
     }
     if b == 0x81 {
         if s.len() < 2 {
-            return LenRead::Refused(Fault {
-                number: 1,
-                place: Place::At(end),
-            });
+            return LenRead::Refused(cut);
         }
         let one = s[1] as usize;
         return LenRead::Len(2, one);
     }
     if b == 0x82 {
         if s.len() < 3 {
-            return LenRead::Refused(Fault {
-                number: 1,
-                place: Place::At(end),
-            });
+            return LenRead::Refused(cut);
         }
         let high = s[1] as usize;
         let low = s[2] as usize;
@@ -122,7 +118,14 @@ pub fn len_of(s: &[u8], at: usize) -> LenRead
 }
 
 // A value of v bytes that begins at from: it ends within s.
-pub fn bounds_in(s: &[u8], at: usize, tag: usize, from: usize, v: usize, nested: bool) -> BoundsRead
+pub(crate) fn bounds_in(
+    s: &[u8],
+    at: usize,
+    tag: usize,
+    from: usize,
+    v: usize,
+    nested: bool,
+) -> BoundsRead
     requires { ⌜ (at + length (now s) ≤ 4101) × (from ≤ length (now s)) ⌝ }
     ensures { λ r. ⌜ r ≡ within at tag from v nested (now (s .entry)) ⌝ }
 {
@@ -143,7 +146,7 @@ pub fn bounds_in(s: &[u8], at: usize, tag: usize, from: usize, v: usize, nested:
 }
 
 // The bounds of the object that s begins with.
-pub fn head_of(s: &[u8], at: usize) -> BoundsRead
+pub(crate) fn head_of(s: &[u8], at: usize) -> BoundsRead
     requires { ⌜ at + length (now s) ≤ 4101 ⌝ }
     ensures { λ r. ⌜ r ≡ headAnswer at (now (s .entry)) ⌝ }
 {
@@ -164,7 +167,7 @@ pub fn head_of(s: &[u8], at: usize) -> BoundsRead
 }
 
 // How many bytes the shortest length of v bytes takes.
-pub fn form_size(v: usize) -> usize
+pub(crate) fn form_size(v: usize) -> usize
     ensures { λ r. ⌜ r ≡ formSize (formFor v) ⌝ }
 {
     if v < 128 {
@@ -177,7 +180,7 @@ pub fn form_size(v: usize) -> usize
 }
 
 // The tally of an object or a container whose value takes saved bytes fewer when it is shortest.
-pub fn tally_of(b: Bounds, objects: u8, saved: usize) -> Tally
+pub(crate) fn tally_of(b: Bounds, objects: u8, saved: usize) -> Tally
     requires { ⌜ (b .tag + formSize (formFor (b .to - b .from - saved)) ≤ b .from) × (b .from + saved ≤ b .to) ⌝ }
     ensures { λ r. ⌜ r ≡ tallyOf b objects saved ⌝ }
 {
@@ -191,7 +194,7 @@ pub fn tally_of(b: Bounds, objects: u8, saved: usize) -> Tally
 }
 
 // Reads a run, with left levels left and after n objects.
-pub fn read_run(s: &[u8], at: usize, left: u8, n: u8) -> PartRead
+pub(crate) fn read_run(s: &[u8], at: usize, left: u8, n: u8) -> PartRead
     requires { ⌜ at + length (now s) ≤ 4101 ⌝ }
     ensures { λ r. ⌜ r ≡ runAnswer left n at (now (s .entry)) ⌝ }
 {
@@ -222,11 +225,11 @@ pub fn read_run(s: &[u8], at: usize, left: u8, n: u8) -> PartRead
 }
 
 // Reads the object that s begins with.
-pub fn read_one(s: &[u8], at: usize, left: u8, n: u8) -> PartRead
+pub(crate) fn read_one(s: &[u8], at: usize, left: u8, n: u8) -> PartRead
     requires { ⌜ at + length (now s) ≤ 4101 ⌝ }
     ensures { λ r. ⌜ r ≡ oneAnswer left n at (now (s .entry)) ⌝ }
 {
-    if 64 <= n {
+    if Message::MOST_OBJECTS <= n {
         return PartRead::Refused(Fault {
             number: 10,
             place: Place::At(at),

@@ -10,7 +10,7 @@ ghost use Rattle.zvt.specs.List.{ListIn, fieldsBetween};
 ghost use Rattle.zvt.specs.Numbers.{numberFound, Few};
 ghost use Rattle.messages.specs.Values.{valueIn, codeIn, amountIn, receiptIn};
 
-pub fn code_in(s: &[u8], from: usize, end: usize) -> ToldCode
+pub(crate) fn code_in(s: &[u8], from: usize, end: usize) -> ToldCode
     requires { ⌜ ListIn from end (now s) ⌝ }
     ensures { λ r. ⌜ r ≡ codeIn (fieldsBetween from end (now (s .entry))) ⌝ }
 {
@@ -24,12 +24,12 @@ pub fn code_in(s: &[u8], from: usize, end: usize) -> ToldCode
 }
 
 // The number that a field's digits are, if the list has the field.
-pub enum NumberFound {
+pub(crate) enum NumberFound {
     Missing,
     Number(u64),
 }
 
-pub fn number_in(s: &[u8], from: usize, end: usize, id: u8) -> NumberFound
+pub(crate) fn number_in(s: &[u8], from: usize, end: usize, id: u8) -> NumberFound
     requires { ⌜ ListIn from end (now s) × Few id ⌝ }
     ensures { λ r. ⌜ r ≡ numberFound (valueIn id (fieldsBetween from end (now (s .entry)))) ⌝ }
 {
@@ -43,7 +43,7 @@ pub fn number_in(s: &[u8], from: usize, end: usize, id: u8) -> NumberFound
     }
 }
 
-pub fn amount_in(s: &[u8], from: usize, end: usize) -> ToldAmount
+pub(crate) fn amount_in(s: &[u8], from: usize, end: usize) -> ToldAmount
     requires { ⌜ ListIn from end (now s) ⌝ }
     ensures { λ r. ⌜ r ≡ amountIn (fieldsBetween from end (now (s .entry))) ⌝ }
 {
@@ -53,7 +53,7 @@ pub fn amount_in(s: &[u8], from: usize, end: usize) -> ToldAmount
     }
 }
 
-pub fn receipt_in(s: &[u8], from: usize, end: usize) -> ToldReceipt
+pub(crate) fn receipt_in(s: &[u8], from: usize, end: usize) -> ToldReceipt
     requires { ⌜ ListIn from end (now s) ⌝ }
     ensures { λ r. ⌜ r ≡ receiptIn (fieldsBetween from end (now (s .entry))) ⌝ }
 {

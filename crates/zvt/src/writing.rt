@@ -18,7 +18,7 @@ ghost use Rattle.messages.specs.Shortest.{formFor};
 ghost use Rattle.zvt.specs.Writing.{Put, headBytes, valueBytes, RunReads, shortRunOf, shortFieldOf, ListReads, shortListOf, BodyReads, shortBodyOf, headerBytes, bodyPart, headerLayout, shortMessageOf};
 
 // Puts v at the end of out. Here and below, the answer is how many bytes of out are left before what was put.
-pub fn put(v: &[u8], out: &mut [u8]) -> usize
+pub(crate) fn put(v: &[u8], out: &mut [u8]) -> usize
     requires { ⌜ length (now v) ≤ length (now out) ⌝ }
     ensures { λ r. ⌜ Put (now (v .entry)) (now (out .entry)) r (now (out .exit)) ⌝ }
 {
@@ -28,7 +28,7 @@ pub fn put(v: &[u8], out: &mut [u8]) -> usize
 }
 
 // The shortest length of v bytes.
-pub fn put_len(v: usize, out: &mut [u8]) -> usize
+pub(crate) fn put_len(v: usize, out: &mut [u8]) -> usize
     requires { ⌜ (v < 65536) × (length (lenBytes (formFor v) v) ≤ length (now out)) ⌝ }
     ensures { λ r. ⌜ Put (lenBytes (formFor v) v) (now (out .entry)) r (now (out .exit)) ⌝ }
 {
@@ -44,7 +44,7 @@ pub fn put_len(v: usize, out: &mut [u8]) -> usize
 }
 
 // A tag, or a container's id, and the shortest length of v bytes.
-pub fn put_head(tag: &[u8], v: usize, out: &mut [u8]) -> usize
+pub(crate) fn put_head(tag: &[u8], v: usize, out: &mut [u8]) -> usize
     requires { ⌜ (v < 65536) × (length (headBytes (now tag) v) ≤ length (now out)) ⌝ }
     ensures { λ r. ⌜ Put (headBytes (now (tag .entry)) v) (now (out .entry)) r (now (out .exit)) ⌝ }
 {
@@ -53,7 +53,7 @@ pub fn put_head(tag: &[u8], v: usize, out: &mut [u8]) -> usize
 }
 
 // An object of plain bytes.
-pub fn put_leaf(tag: &[u8], value: &[u8], out: &mut [u8]) -> usize
+pub(crate) fn put_leaf(tag: &[u8], value: &[u8], out: &mut [u8]) -> usize
     requires { ⌜ (length (now value) < 65536) × (length (valueBytes (now tag) (now value)) ≤ length (now out)) ⌝ }
     ensures { λ r. ⌜ Put (valueBytes (now (tag .entry)) (now (value .entry))) (now (out .entry)) r (now (out .exit)) ⌝ }
 {
@@ -62,7 +62,7 @@ pub fn put_leaf(tag: &[u8], value: &[u8], out: &mut [u8]) -> usize
 }
 
 // An object or a container whose value is a run.
-pub fn put_branch(tag: &[u8], run: &[u8], out: &mut [u8]) -> usize
+pub(crate) fn put_branch(tag: &[u8], run: &[u8], out: &mut [u8]) -> usize
     requires { ⌜ (length (now run) ≤ 4096) × RunReads (now run) × (length (valueBytes (now tag) (shortRunOf (now run))) ≤ length (now out)) ⌝ }
     ensures { λ r. ⌜ Put (valueBytes (now (tag .entry)) (shortRunOf (now (run .entry)))) (now (out .entry)) r (now (out .exit)) ⌝ }
 {
@@ -72,7 +72,7 @@ pub fn put_branch(tag: &[u8], run: &[u8], out: &mut [u8]) -> usize
 }
 
 // A run of objects, the last one first.
-pub fn put_run(s: &[u8], out: &mut [u8]) -> usize
+pub(crate) fn put_run(s: &[u8], out: &mut [u8]) -> usize
     requires { ⌜ (length (now s) ≤ 4096) × RunReads (now s) × (length (shortRunOf (now s)) ≤ length (now out)) ⌝ }
     ensures { λ r. ⌜ Put (shortRunOf (now (s .entry))) (now (out .entry)) r (now (out .exit)) ⌝ }
 {
@@ -96,7 +96,7 @@ pub fn put_run(s: &[u8], out: &mut [u8]) -> usize
 }
 
 // The field that s begins with: its length digits have one form only.
-pub fn put_field(s: &[u8], b: Bounds, out: &mut [u8]) -> usize
+pub(crate) fn put_field(s: &[u8], b: Bounds, out: &mut [u8]) -> usize
     requires { ⌜ (length (now s) ≤ 4096) × (1 ≤ b .from) × (b .from ≤ b .to) × (b .to ≤ length (now s)) × (b .nested ≡ true → RunReads (part (b .from) (b .to) (now s))) × (length (shortFieldOf b (now s)) ≤ length (now out)) ⌝ }
     ensures { λ r. ⌜ Put (shortFieldOf b (now (s .entry))) (now (out .entry)) r (now (out .exit)) ⌝ }
 {
@@ -110,7 +110,7 @@ pub fn put_field(s: &[u8], b: Bounds, out: &mut [u8]) -> usize
 }
 
 // A list of fields, the last one first.
-pub fn put_list(s: &[u8], out: &mut [u8]) -> usize
+pub(crate) fn put_list(s: &[u8], out: &mut [u8]) -> usize
     requires { ⌜ (length (now s) ≤ 4096) × ListReads (now s) × (length (shortListOf (now s)) ≤ length (now out)) ⌝ }
     ensures { λ r. ⌜ Put (shortListOf (now (s .entry))) (now (out .entry)) r (now (out .exit)) ⌝ }
 {
@@ -127,7 +127,7 @@ pub fn put_list(s: &[u8], out: &mut [u8]) -> usize
     }
 }
 
-pub fn put_body(s: &[u8], layout: Layout, out: &mut [u8]) -> usize
+pub(crate) fn put_body(s: &[u8], layout: Layout, out: &mut [u8]) -> usize
     requires { ⌜ (length (now s) ≤ 4096) × BodyReads layout (now s) × (length (shortBodyOf layout (now s)) ≤ length (now out)) ⌝ }
     ensures { λ r. ⌜ Put (shortBodyOf layout (now (s .entry))) (now (out .entry)) r (now (out .exit)) ⌝ }
 {
@@ -142,7 +142,7 @@ pub fn put_body(s: &[u8], layout: Layout, out: &mut [u8]) -> usize
 }
 
 // Class, instruction and the shortest length of a body of v bytes.
-pub fn put_header(class: u8, instruction: u8, v: usize, out: &mut [u8]) -> usize
+pub(crate) fn put_header(class: u8, instruction: u8, v: usize, out: &mut [u8]) -> usize
     requires { ⌜ (v < 65536) × (length (headerBytes class instruction v) ≤ length (now out)) ⌝ }
     ensures { λ r. ⌜ Put (headerBytes class instruction v) (now (out .entry)) r (now (out .exit)) ⌝ }
 {
@@ -155,7 +155,7 @@ pub fn put_header(class: u8, instruction: u8, v: usize, out: &mut [u8]) -> usize
 }
 
 // The message whose header is h.
-pub fn put_message(s: &[u8], h: Header, out: &mut [u8]) -> usize
+pub(crate) fn put_message(s: &[u8], h: Header, out: &mut [u8]) -> usize
     requires { ⌜ (h .start + h .length ≤ length (now s)) × (h .length ≤ 4096) × BodyReads (headerLayout h) (bodyPart h (now s)) × (length (shortMessageOf h (now s)) ≤ length (now out)) ⌝ }
     ensures { λ r. ⌜ Put (shortMessageOf h (now (s .entry))) (now (out .entry)) r (now (out .exit)) ⌝ }
 {
@@ -168,7 +168,7 @@ pub fn put_message(s: &[u8], h: Header, out: &mut [u8]) -> usize
 }
 
 // How many bytes a message with a body of v bytes takes.
-pub fn message_size(v: usize) -> usize
+pub(crate) fn message_size(v: usize) -> usize
     requires { ⌜ v ≤ 4096 ⌝ }
     ensures { λ r. ⌜ r ≡ length (headerBytes 0 0 v) + v ⌝ }
 {

@@ -28,8 +28,8 @@ mul-l-2 c = search needs
 element-copy-out-l : tie.Need-element-copy-out-l
 element-copy-out-l c = search needs
 
-line-at-requires : tie.Need-line-at-requires
-line-at-requires c κs = search needs
+ending-line-requires : tie.Need-ending-line-requires
+ending-line-requires c κs = search needs
 
 ended-requires : tie.Need-ended-requires
 ended-requires c κs = search needs
@@ -48,7 +48,7 @@ returns-3 c = rw (c .before .m .given .1)
 
 returns-4 : tie.Need-returns-4
 unfolding movedDesk
-returns-4 c = rw (c .before .before .before .before .m2 .given .1, c .ended .ensures, c .before .line-at .ensures)
+returns-4 c = rw (c .before .before .before .before .m2 .given .1, c .ended .ensures, c .before .ending-line .ensures)
 
 pub moved-spec : {M : Type 1} → statement M
 moved-spec =
@@ -62,7 +62,7 @@ moved-spec =
     enum-known-m-2
     mul-l-2
     element-copy-out-l
-    line-at-requires
+    ending-line-requires
     ended-requires
     returns
     returns-2
