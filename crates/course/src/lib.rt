@@ -16,7 +16,8 @@ pub enum Kind {
     Reversal,
 }
 
-// The first variant of each enum, with zeros, is the idle lane and the blank line.
+// Unclear comes first: an element past the end of a list is read as the first variant with zeros, and so is a blank line. The same
+// holds of a phase and an idle lane.
 pub enum Outcome {
     Unclear,
     Declined,

@@ -1,4 +1,4 @@
--- What the readers of tags, lengths, heads, objects and runs answer, case by case. Assumes nothing.
+-- What the readers of tags, lengths and heads answer, case by case. Assumes nothing.
 use mathlib.Core.Path.{_≡_, refl, sym, ap, _∙_}
 use mathlib.Core.Bool.{Bool, true, false}
 use mathlib.Core.List.{List, [], _∷_}
