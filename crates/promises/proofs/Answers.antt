@@ -26,9 +26,9 @@ use Rattle.course.specs.declared.Answer.{Answer}
 use Rattle.course.specs.declared.Reply.the-variants.{Written, Refused}
 use Rattle.course.specs.Course.{isIdle, Call, writes}
 use Rattle.course.specs.Desk.{laneAt, place, places, Decision, refuse, accept, decide}
-use Rattle.course.specs.Memory.{freshDesk, view, Valid, refusedAnswer, answerOf, leavesOf, closeAnswer}
-use Rattle.course.proofs.Rows.{phaseAt}
-use Rattle.course.proofs.Memory.{place-idle, place-in, refused-same, accepted-answer, laneFor, refused-leaves, accepted-leaves}
+use Rattle.course.specs.Table.{phaseAt}
+use Rattle.course.specs.Memory.{freshDesk, view, laneFor, Valid, refusedAnswer, answerOf, leavesOf, closeAnswer}
+use Rattle.course.proofs.Memory.{place-idle, place-in, refused-same, accepted-answer, refused-leaves, accepted-leaves}
 use Rattle.promises.proofs.ReadTable.{No}
 
 -- "Each refusal returns its number only"

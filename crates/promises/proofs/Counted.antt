@@ -20,8 +20,7 @@ use Rattle.course.specs.declared.Line.{Line}
 use Rattle.course.specs.declared.Moved.{Moved}
 use Rattle.course.specs.Lanes.{noStatus, lineAt}
 use Rattle.course.specs.Course.{pairIs, amountBy, isReversal, settledAs, completedBy, abortedBy, Ask, Call, sale, refund, reversal, message, lost, laneOf}
-use Rattle.course.specs.Payments.{askOf, orElse, remembered, verdictOf, verdict, askedLane, lineBy, judged, lineOf}
-use Rattle.course.proofs.Payment.{recalled}
+use Rattle.course.specs.Payments.{askOf, orElse, remembered, recalled, verdictOf, verdict, askedLane, lineBy, judged, lineOf}
 
 -- ---- the last call: 06 0F
 pub record Completes (s : List ℕ) : Type 0 where

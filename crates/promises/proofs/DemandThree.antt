@@ -12,12 +12,10 @@ use Rattle.course.specs.declared.Desk.{Desk}
 use Rattle.course.specs.Course.{Call, laneOf}
 use Rattle.course.specs.Desk.{State, fresh, places, run}
 use Rattle.course.specs.Memory.{freshDesk, linesOfDesk, view}
-use Rattle.course.specs.Payments.{paymentsOf, oneByOne, linesOf}
+use Rattle.course.specs.Runs.{having, callsOf, own, openings, Exchange, replies, repliesTo}
+use Rattle.course.specs.Payments.{paymentsOf, oneByOne, linesOf, Says}
 use Rattle.course.specs.Turnover.{gains, losses, netOf}
-use Rattle.course.proofs.Lanes.{having, callsOf, own}
-use Rattle.course.proofs.Runs.{openings, Reply, replies, repliesTo}
 use Rattle.course.proofs.Runs as runs
-use Rattle.course.proofs.Payment.{Says}
 use Rattle.course.proofs.DayBook as book
 use Rattle.course.proofs.Order as law
 use Rattle.course.proofs.Net as net
@@ -28,7 +26,7 @@ use Rattle.promises.proofs.Turns.{calls-roomy, bytes-one-by-one, Day, a
 abbrev pub atEnd : List Turn → Desk
 atEnd day = deskAfter freshDesk day
 
-abbrev pub repliesAt : ℕ → List Turn → List Reply
+abbrev pub repliesAt : ℕ → List Turn → List Exchange
 repliesAt k day = having (λ r. laneOf (r .call)) k (replies (callsIn day) (written freshDesk day))
 
 replies-same : (k : ℕ) (day : List Turn) → Day day → repliesAt k day ≡ repliesTo k fresh (callsIn day)

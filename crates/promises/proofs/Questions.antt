@@ -12,15 +12,16 @@ use Rattle.course.specs.Lanes.{blankLine}
 use Rattle.course.specs.Course.{Call, laneOf}
 use Rattle.course.specs.Desk.{State, laneAt, Decision, refuse, accept, decide}
 use Rattle.course.specs.Memory.{freshDesk, linesOfDesk, view, Valid, refusedAnswer, answerOf}
-use Rattle.course.specs.Payments.{paymentsOf, lineOf}
-use Rattle.course.proofs.Lanes.{ofLane, callsOf, isolation}
-use Rattle.course.proofs.DayBook.{Whole, line-of}
+use Rattle.course.specs.Runs.{ofLane, callsOf}
+use Rattle.course.specs.Payments.{paymentsOf, Whole, lineOf}
+use Rattle.course.proofs.Lanes.{isolation}
+use Rattle.course.proofs.DayBook.{lines-length, line-of}
 use Rattle.course.proofs.DayBook as book
 use Rattle.course.proofs.Memory.{refused-same, follows}
 use Rattle.promises.specs.Days.{Turn, callsIn, OfBytes, Taken, openingsIn, firsts}
 use Rattle.promises.proofs.Turns.{Day, a-day, of-desk}
 use Rattle.promises.proofs.Counted.{Counted, counted}
-use Rattle.promises.proofs.Openings.{lines-length, ended-firsts, one-by-one}
+use Rattle.promises.proofs.Openings.{ended-firsts, one-by-one}
 use Rattle.promises.proofs.DemandThree.{atEnd, every-line}
 
 module _ (day : List Turn) (b : OfBytes (callsIn day)) (t : Taken freshDesk day) where

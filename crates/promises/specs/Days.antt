@@ -9,9 +9,8 @@ use Rattle.course.specs.declared.Reply.{Reply}
 use Rattle.course.specs.declared.Reply.the-variants.{Written, Refused}
 use Rattle.course.specs.declared.Answer.{Answer}
 use Rattle.messages.specs.Reading.{pick}
-use Rattle.course.specs.Course.{Call, opens}
+use Rattle.course.specs.Course.{Call, opens, NumbersFit}
 use Rattle.course.specs.Memory.{answerOf, leavesOf}
-use Rattle.course.proofs.Amounts.{NumbersFit}
 
 -- a call, and what it is lent for its command or reply; a lost link needs none
 pub record Turn : Type 0 where
