@@ -25,9 +25,10 @@ use Rattle.course.specs.Memory.{freshDesk, view, Valid, answerOf, leavesOf, clo
 use Rattle.course.proofs.Refusals as table
 use Rattle.course.proofs.Memory as memory
 use Rattle.promises.specs.ReadRows.{WholeNo, ReadNo, FirstNo, ShortNo}
+use Rattle.promises.specs.Answers.{number, Refuses, Takes, Open}
 use Rattle.promises.proofs.ReadTable.{whole-no, read-no, first-no, short-no}
-use Rattle.promises.proofs.Answers.{number, header-says, read-says, first-says, short-says, short-leaves, short-beyond}
-use Rattle.promises.proofs.Answers.{Refuses, Takes, decided-no, decided-yes, call-same, call-beyond, Open, closing-no, closing-yes, closing-same}
+use Rattle.promises.proofs.Answers.{header-says, read-says, first-says, short-says, short-leaves, short-beyond}
+use Rattle.promises.proofs.Answers.{decided-no, decided-yes, call-same, call-beyond, closing-no, closing-yes, closing-same}
 
 -- ---- reading and shortening: "header, body, 11"
 

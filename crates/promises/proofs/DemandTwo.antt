@@ -30,9 +30,9 @@ use Rattle.course.specs.Commands.{FieldIs, MoneyIs, saleCommand, refundCommand,
 use Rattle.course.specs.Course.{Call, writes}
 use Rattle.course.specs.Memory.{laneFor, answerOf, leavesOf}
 use Rattle.course.proofs.Commands as commands
-use Rattle.promises.specs.Names.{shownName}
+use Rattle.promises.specs.Names.{shownName, InMessage}
 use Rattle.promises.proofs.Answers.{call-wrote}
-use Rattle.promises.proofs.NameTable.{InMessage, shown, name-lies}
+use Rattle.promises.proofs.NameTable.{shown, name-lies}
 
 -- ---- "read .. as PA00P015 13.11 lays them out"
 
