@@ -15,9 +15,17 @@ use Rattle.course.specs.declared.Lane.{Lane}
 use Rattle.course.specs.declared.Moved.the-variants.{Refused}
 use Rattle.course.specs.Course.{Call, sale, refund, reversal, message, lost, laneOf, opens}
 use Rattle.course.specs.Desk.{State, load, Decision, refuse, accept, decide, laneAfter, linesFrom}
-use Rattle.course.specs.Table.{phaseAt, phaseOf, Within, ToReverse, LastIsSale, commandSize, Ready, Opening, no-lane, not-idle, outside, no-sale, full, tight, opened}
-use Rattle.course.specs.Table.{Allowed, GoodHeader, GoodBody, BodyNo, Unread, Heard, Hearing, is-idle, bad-header, not-allowed, bad-body, no-code, heard-waiting, heard-running, Losing, ended, Table}
-use Rattle.course.proofs.Rows.{opening-table, hearing-table, losing-table}
+use Rattle.course.specs.Table.{phaseAt, phaseOf, Within, ToReverse, LastIsSale, commandSize, Ready, Allowed, GoodHeader, GoodBody, BodyNo, Unread, Heard}
+use Rattle.course.proofs.Rows.{Opening, no-lane, not-idle, outside, no-sale, full, tight, opened, opening-table}
+use Rattle.course.proofs.Rows.{Hearing, is-idle, bad-header, not-allowed, bad-body, no-code, heard-waiting, heard-running, hearing-table, Losing, ended, losing-table}
+
+-- the rows of a call
+abbrev pub Table : State → Call → ℕ → Decision → Type 0
+Table s (sale i amount) room = Opening s (sale i amount) room
+Table s (refund i password amount) room = Opening s (refund i password amount) room
+Table s (reversal i password receipt) room = Opening s (reversal i password receipt) room
+Table s (message i b) room = Hearing s i b room
+Table s (lost i) room = Losing s i room
 
 -- "A number is given exactly when its row and the order below say so."
 pub table : (s : State) (c : Call) (room : ℕ) (d : Decision) → (decide s c room ≡ d) ↔ Table s c room d

@@ -9,6 +9,7 @@ use native.Mathlib.Omega.{arith}
 use lib.ListN.{length}
 use lib.Dec.{ltb, leb, eqb}
 use borrow.Author.Tests.{leb-true, lt-ltb, le-ltb, le-leb, lt-leb, eqb-true, eq-eqb}
+use Rattle.messages.specs.declared.Fault.{Fault}
 use Rattle.messages.specs.declared.Status.{Status}
 use Rattle.messages.specs.declared.ToldCode.{ToldCode}
 use Rattle.messages.specs.declared.ToldCode.the-variants.{Missing, Code}
@@ -23,8 +24,7 @@ use Rattle.course.specs.declared.Moved.{Moved}
 use Rattle.course.specs.Course.{runningPairs, pairIs, isReversal, heardWaiting, completedBy, settledAs, abortedBy, reportedBy, movedBy, afterBody, heardRunning, heardBy, afterHeader, isIdle, heard, lostBy, answered, Ask, openedBy, Call, sale, refund, reversal, message, lost, laneOf, opens, moves, writes}
 use Rattle.course.specs.Desk.{State, laneAt, load, Decision, refuse, accept, unlessRefused, decide}
 use Rattle.course.specs.Payments.{askOf}
-use Rattle.course.specs.Table.{phaseAt, phaseOf, Within, ToReverse, commandSize, Ready, Opening, no-lane, not-idle, outside, no-sale, full, tight, opened}
-use Rattle.course.specs.Table.{OneOf, Allowed, EmptyAbort, Hearing, is-idle, bad-header, not-allowed, bad-body, no-code, heard-waiting, heard-running, Losing, ended}
+use Rattle.course.specs.Table.{phaseAt, phaseOf, Within, ToReverse, commandSize, Ready, OneOf, Allowed, EmptyAbort}
 use Rattle.course.proofs.Commands.{sale-size, refund-size, reversal-size}
 use Rattle.course.proofs.LastSale.{last-sale}
 
@@ -62,6 +62,16 @@ unless-pick true m n x = refl
 unless-pick false m n x = refl
 
 -- ---- opening
+
+-- "opening 12, 13, 16, 17, 18, 11"
+pub data Opening (s : State) (c : Call) (room : ℕ) : Decision → Type 0 where
+  no-lane : 8 ≤ laneOf c → Opening s c room (refuse 12)
+  not-idle : laneOf c < 8 → (phaseOf s c ≡ Idle → ⊥) → Opening s c room (refuse 13)
+  outside : laneOf c < 8 → phaseOf s c ≡ Idle → (Within c → ⊥) → Opening s c room (refuse 16)
+  no-sale : laneOf c < 8 → phaseOf s c ≡ Idle → Within c → (ToReverse s c → ⊥) → Opening s c room (refuse 17)
+  full : laneOf c < 8 → phaseOf s c ≡ Idle → Within c → ToReverse s c → 64 ≤ load s → Opening s c room (refuse 18)
+  tight : Ready s c → room < commandSize c → Opening s c room (refuse 11)
+  opened : Ready s c → commandSize c ≤ room → Opening s c room accept
 
 -- its tests, one after the other
 abbrev openingBy : Bool → Bool → Bool → Bool → Bool → Bool → Decision
@@ -146,6 +156,23 @@ module _ (s : State) (room : ℕ) where
     opening-table d = (λ e. rw e at opening-found, opening-given)
 
 -- ---- a terminal message
+
+-- "Terminal message 12, 14, header, 15, body, 11"
+pub data Hearing (s : State) (i : ℕ) (b : List ℕ) (room : ℕ) : Decision → Type 0 where
+  no-lane : 8 ≤ i → Hearing s i b room (refuse 12)
+  is-idle : i < 8 → phaseAt s i ≡ Idle → Hearing s i b room (refuse 14)
+  bad-header : (n : ℕ) (f : Fault) → i < 8 → (phaseAt s i ≡ Idle → ⊥) → wholeHeader b ≡ refused f → f .number ≡ n → Hearing s i b room (refuse n)
+  not-allowed : (h : Header) → i < 8 → (phaseAt s i ≡ Idle → ⊥) → wholeHeader b ≡ got h → (Allowed (phaseAt s i) h → ⊥)
+      → Hearing s i b room (refuse 15)
+  bad-body : (n : ℕ) (h : Header) (f : Fault) → i < 8 → phaseAt s i ≡ Running → wholeHeader b ≡ got h → Allowed Running h
+      → readOf b ≡ refused f → f .number ≡ n → Hearing s i b room (refuse n)
+  no-code : (h : Header) (m : Message) → i < 8 → phaseAt s i ≡ Running → wholeHeader b ≡ got h → Allowed Running h
+      → readOf b ≡ got m → EmptyAbort m → Hearing s i b room (refuse 1)
+  tight : (h : Header) (m : Message) → i < 8 → phaseAt s i ≡ Running → wholeHeader b ≡ got h → Allowed Running h
+      → readOf b ≡ got m → (EmptyAbort m → ⊥) → room < 3 → Hearing s i b room (refuse 11)
+  heard-waiting : (h : Header) → i < 8 → phaseAt s i ≡ Waiting → wholeHeader b ≡ got h → Allowed Waiting h → Hearing s i b room accept
+  heard-running : (h : Header) (m : Message) → i < 8 → phaseAt s i ≡ Running → wholeHeader b ≡ got h → Allowed Running h
+      → readOf b ≡ got m → (EmptyAbort m → ⊥) → 3 ≤ room → Hearing s i b room accept
 
 among-test : (ks : List ℕ) (x : ℕ) → (among ks x ≡ true) ↔ OneOf ks x
 unfolding among
@@ -339,6 +366,12 @@ module _ (s : State) (i : ℕ) (b : List ℕ) (room : ℕ) where
   hearing-table d = (λ e. rw e at hearing-found, hearing-given)
 
 -- ---- link lost
+
+-- "Link lost 12, 14."
+pub data Losing (s : State) (i room : ℕ) : Decision → Type 0 where
+  no-lane : 8 ≤ i → Losing s i room (refuse 12)
+  is-idle : i < 8 → phaseAt s i ≡ Idle → Losing s i room (refuse 14)
+  ended : i < 8 → (phaseAt s i ≡ Idle → ⊥) → Losing s i room accept
 
 module _ (s : State) (i room : ℕ) where
   losing-given : {d : Decision} → Losing s i room d → decide s (lost i) room ≡ d

@@ -9,7 +9,7 @@ use borrow.Author.Tests.{eq-eqb}
 use Rattle.messages.specs.Reading.{pick}
 use Rattle.course.specs.Course.{isIdle, Call, laneOf, opens, moves, writes}
 use Rattle.course.specs.Desk.{State, fresh, laneAt, place, places, load, step, Accepted, run, wrote}
-use Rattle.course.specs.Runs.{having, callsOf, Own, own, total, opening, openings, Exchange, replies, repliesTo}
+use Rattle.course.specs.Runs.{having, callsOf, Own, own, total, opening, openings, Exchange, replies}
 use Rattle.course.proofs.Calls.{Passes}
 use Rattle.course.proofs.Lanes.{moves-local, after, by-lane, Told, told, tell, opening-is, lanes-step, load-step}
 
@@ -61,6 +61,10 @@ alone o (c ∷ cs) = alone (after o c) cs
 unfoldable pub AcceptedAlone : Own → List Call → Type 0
 AcceptedAlone o [] = Unit {0}
 AcceptedAlone o (c ∷ cs) = (laneOf c < 8) × Passes (moves (o .lane) (o .lines) c) × AcceptedAlone (after o c) cs
+
+-- the calls of lane k in their order, each with what it wrote
+unfoldable pub repliesTo : ℕ → State → List Call → List Exchange
+repliesTo k s cs = having (λ r. laneOf (r .call)) k (replies cs (wrote s cs))
 
 unfoldable pub repliesAlone : Own → List Call → List Exchange
 repliesAlone o [] = []

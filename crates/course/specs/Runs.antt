@@ -56,7 +56,3 @@ unfoldable pub replies : List Call → List (List ℕ) → List Exchange
 replies [] ws = []
 replies (c ∷ cs) [] = []
 replies (c ∷ cs) (w ∷ ws) = record { call = c; wrote = w } ∷ replies cs ws
-
--- the calls of lane k in their order, each with what it wrote
-unfoldable pub repliesTo : ℕ → State → List Call → List Exchange
-repliesTo k s cs = having (λ r. laneOf (r .call)) k (replies cs (wrote s cs))

@@ -1,5 +1,5 @@
--- Document 01, 'Numbers of refusal', for the desk's calls: "A number is given exactly when its row and the order below say so." The
--- rows of each kind of call stand in that order: each says that none before it holds. Definitions only.
+-- Document 01, 'Numbers of refusal': what the rows of its table say of a call of the desk, in the order of "opening 12, 13, 16, 17, 18,
+-- 11" and "Terminal message 12, 14, header, 15, body, 11". Definitions only.
 use mathlib.Core.Path.{_≡_}
 use mathlib.Core.Bool.{true, false}
 use mathlib.Core.Logic.{_⊎_}
@@ -13,7 +13,7 @@ use Rattle.course.specs.declared.Phase.{Phase}
 use Rattle.course.specs.declared.Phase.the-variants.{Idle, Waiting, Running}
 use Rattle.course.specs.declared.Line.{Line}
 use Rattle.course.specs.Course.{runningPairs, concerns, Call, sale, refund, reversal, message, lost, laneOf}
-use Rattle.course.specs.Desk.{State, laneAt, load, Decision, refuse, accept}
+use Rattle.course.specs.Desk.{State, laneAt, load}
 
 -- "A lane is idle, waiting or running.": the phase of a lane, and of the lane that a call names
 abbrev pub phaseAt : State → ℕ → Phase
@@ -75,16 +75,6 @@ pub record Ready (s : State) (c : Call) : Type 0 where
   pub sold : ToReverse s c
   pub place : load s < 64
 
--- "opening 12, 13, 16, 17, 18, 11"
-pub data Opening (s : State) (c : Call) (room : ℕ) : Decision → Type 0 where
-  no-lane : 8 ≤ laneOf c → Opening s c room (refuse 12)
-  not-idle : laneOf c < 8 → (phaseOf s c ≡ Idle → ⊥) → Opening s c room (refuse 13)
-  outside : laneOf c < 8 → phaseOf s c ≡ Idle → (Within c → ⊥) → Opening s c room (refuse 16)
-  no-sale : laneOf c < 8 → phaseOf s c ≡ Idle → Within c → (ToReverse s c → ⊥) → Opening s c room (refuse 17)
-  full : laneOf c < 8 → phaseOf s c ≡ Idle → Within c → ToReverse s c → 64 ≤ load s → Opening s c room (refuse 18)
-  tight : Ready s c → room < commandSize c → Opening s c room (refuse 11)
-  opened : Ready s c → commandSize c ≤ room → Opening s c room accept
-
 -- ---- a terminal message
 
 -- a number is one of them
@@ -127,36 +117,3 @@ Unread s i b n = ((phaseAt s i ≡ Idle → ⊥) × HeaderNo b n) ⊎ ((phaseAt 
 abbrev pub Heard : State → ℕ → List ℕ → ℕ → Type 0
 Heard s i b room =
     ((phaseAt s i ≡ Waiting) × GoodHeader Waiting b) ⊎ ((phaseAt s i ≡ Running) × GoodHeader Running b × GoodBody b × (3 ≤ room))
-
--- "Terminal message 12, 14, header, 15, body, 11"
-pub data Hearing (s : State) (i : ℕ) (b : List ℕ) (room : ℕ) : Decision → Type 0 where
-  no-lane : 8 ≤ i → Hearing s i b room (refuse 12)
-  is-idle : i < 8 → phaseAt s i ≡ Idle → Hearing s i b room (refuse 14)
-  bad-header : (n : ℕ) (f : Fault) → i < 8 → (phaseAt s i ≡ Idle → ⊥) → wholeHeader b ≡ refused f → f .number ≡ n → Hearing s i b room (refuse n)
-  not-allowed : (h : Header) → i < 8 → (phaseAt s i ≡ Idle → ⊥) → wholeHeader b ≡ got h → (Allowed (phaseAt s i) h → ⊥)
-      → Hearing s i b room (refuse 15)
-  bad-body : (n : ℕ) (h : Header) (f : Fault) → i < 8 → phaseAt s i ≡ Running → wholeHeader b ≡ got h → Allowed Running h
-      → readOf b ≡ refused f → f .number ≡ n → Hearing s i b room (refuse n)
-  no-code : (h : Header) (m : Message) → i < 8 → phaseAt s i ≡ Running → wholeHeader b ≡ got h → Allowed Running h
-      → readOf b ≡ got m → EmptyAbort m → Hearing s i b room (refuse 1)
-  tight : (h : Header) (m : Message) → i < 8 → phaseAt s i ≡ Running → wholeHeader b ≡ got h → Allowed Running h
-      → readOf b ≡ got m → (EmptyAbort m → ⊥) → room < 3 → Hearing s i b room (refuse 11)
-  heard-waiting : (h : Header) → i < 8 → phaseAt s i ≡ Waiting → wholeHeader b ≡ got h → Allowed Waiting h → Hearing s i b room accept
-  heard-running : (h : Header) (m : Message) → i < 8 → phaseAt s i ≡ Running → wholeHeader b ≡ got h → Allowed Running h
-      → readOf b ≡ got m → (EmptyAbort m → ⊥) → 3 ≤ room → Hearing s i b room accept
-
--- ---- link lost
-
--- "Link lost 12, 14."
-pub data Losing (s : State) (i room : ℕ) : Decision → Type 0 where
-  no-lane : 8 ≤ i → Losing s i room (refuse 12)
-  is-idle : i < 8 → phaseAt s i ≡ Idle → Losing s i room (refuse 14)
-  ended : i < 8 → (phaseAt s i ≡ Idle → ⊥) → Losing s i room accept
-
--- ---- the rows of a call
-abbrev pub Table : State → Call → ℕ → Decision → Type 0
-Table s (sale i amount) room = Opening s (sale i amount) room
-Table s (refund i password amount) room = Opening s (refund i password amount) room
-Table s (reversal i password receipt) room = Opening s (reversal i password receipt) room
-Table s (message i b) room = Hearing s i b room
-Table s (lost i) room = Losing s i room

@@ -10,9 +10,10 @@ use lib.IntN.{pos, _-ℤ_}
 use lib.ListN.{length, getD}
 use Rattle.course.specs.Desk.{State, fresh, places, run}
 use Rattle.course.specs.Memory.{freshDesk, view}
-use Rattle.course.specs.Runs.{callsOf, own, openings, repliesTo}
+use Rattle.course.specs.Runs.{callsOf, own, openings}
 use Rattle.course.specs.Payments.{paymentsOf, oneByOne, linesOf, Says}
 use Rattle.course.specs.Turnover.{gains, losses, netOf}
+use Rattle.course.proofs.Runs.{repliesTo}
 use Rattle.course.proofs.Runs as runs
 use Rattle.course.proofs.DayBook as book
 use Rattle.course.proofs.Order as law

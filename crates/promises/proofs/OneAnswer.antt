@@ -4,7 +4,7 @@
 use mathlib.Core.Path.{_≡_, refl, sym, ap, ap₂, _∙_}
 use Prim.Native.Nat.{ℕ}
 use mathlib.Core.List.{List}
-use denote.Ref.{now}
+use denote.Ref.{RefT, now}
 use Rattle.zvt.proofs as zvt
 use Rattle.desk.proofs as desk
 use Rattle.course.proofs as course

@@ -16,10 +16,11 @@ use Rattle.course.specs.declared.Reply.{Reply}
 use Rattle.course.specs.Course.{Call, sale, refund, reversal, message, lost, laneOf, opens, moves, answered, writes}
 use Rattle.course.specs.Desk.{State, fresh, laneAt, load, accept, decide, Accepts, Accepted, run, wrote}
 use Rattle.course.specs.Memory.{freshDesk, view, Valid, answerOf, leavesOf}
-use Rattle.course.specs.Runs.{having, replies, repliesTo}
+use Rattle.course.specs.Runs.{having, replies}
 use Rattle.course.specs.Payments.{Payments, ends, withCall, paymentsFrom, paymentsOf, joined, oneByOne}
 use Rattle.course.proofs.Commands.{sale-size, refund-size, reversal-size}
 use Rattle.course.proofs.Lanes.{told, tell, passing}
+use Rattle.course.proofs.Runs.{repliesTo}
 use Rattle.course.proofs.Memory.{taken, follows, fresh-valid, answer-valid, view-fresh}
 use Rattle.promises.specs.Days.{Turn, callsIn, buffer, roomy, OfBytes, answerIn, Taken, deskAfter, bytesBy, written, repliesAt}
 use Rattle.promises.proofs.Answers.{decided-yes, call-wrote}
