@@ -6,7 +6,7 @@ use Rattle.messages.specs.Reading.{pick}
 use Rattle.course.specs.declared.Lane.{Lane}
 use Rattle.course.specs.declared.Line.{Line}
 use Rattle.course.specs.Course.{Call, laneOf, opens}
-use Rattle.course.specs.Desk.{State, laneAt, wrote}
+use Rattle.course.specs.Desk.{State, laneAt}
 
 -- ---- "A call for one lane changes no other lane."
 

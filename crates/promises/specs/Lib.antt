@@ -1,11 +1,11 @@
--- What the promises speak of, beside the definitions of the crates below: document 01's cases and how they are judged; its rows of
--- refusals for reading, and the answers of the desk; the name on a receipt; a day at the desk, and what counts a line as approved; one
--- answer of a function. A reader has to believe these files.
+-- What the promises speak of, beside the definitions of the crates below: document 01's cases and how they are judged, its rows of
+-- refusals for reading, the name on a receipt, and a day at the desk. A reader has to believe these files.
 pub mod Cases
 pub mod Asking
-pub mod ReadRows
+-- what the desk answers, what an approved line is counted by, and what one answer of a function is
 pub mod Answers
-pub mod Names
-pub mod Days
 pub mod Counted
 pub mod OneAnswer
+pub mod ReadRows
+pub mod Names
+pub mod Days
