@@ -26,7 +26,7 @@ use Rattle.course.specs.declared.Moved.{Moved}
 use Rattle.course.specs.declared.Moved.the-variants.{Refused, Stays, Becomes, Ends}
 use Rattle.course.specs.Numbers.{amountOk, passwordOk}
 use Rattle.course.specs.Lanes.{blankLine}
-use Rattle.course.specs.Course.{runningPairs, pairIs, heardWaiting, amountBy, isReversal, settledAs, completedBy, abortedBy, reportedBy, movedBy, afterBody, heardRunning, heardBy, afterHeader, isIdle, heard, lostBy, concerns, lastFrom, lastLine, Ask, askSale, askRefund, askReversal, openedBy, Call, sale, refund, reversal, message, lost, moves}
+use Rattle.course.specs.Course.{runningPairs, pairIs, heardWaiting, amountBy, isReversal, settledAs, completedBy, abortedBy, reportedBy, movedBy, afterBody, heardRunning, heardBy, afterHeader, isIdle, heard, lostBy, concerns, lastFrom, lastLine, Ask, askSale, askRefund, askReversal, openedBy, Call, sale, refund, reversal, message, lost, NumbersFit, moves}
 use Rattle.course.specs.Memory.{toldSmall}
 
 abbrev pub Small : ℕ → Type 0
@@ -43,14 +43,6 @@ Fits (Refused r) = Unit {0}
 Fits Stays = Unit {0}
 Fits (Becomes l) = LaneFits l
 Fits (Ends outcome settled code) = Small settled
-
--- what a function's parameters are: a message is of bytes
-unfoldable pub NumbersFit : Call → Type 0
-NumbersFit (sale i amount) = Unit {0}
-NumbersFit (refund i password amount) = Unit {0}
-NumbersFit (reversal i password receipt) = Unit {0}
-NumbersFit (message i s) = Bytes s
-NumbersFit (lost i) = Unit {0}
 
 told-fits : (f : Found) → Twelve f → toldSmall (amountOf f)
 unfolding Twelve toldSmall amountOf

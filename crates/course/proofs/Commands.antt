@@ -13,12 +13,12 @@ use Rattle.messages.specs.Message.{listed, layoutOf, readOf}
 use Rattle.messages.specs.Writing.{fieldBytes, lengthIn, listBytes, bodyBytes, lengthBytes, messageBytes}
 use Rattle.messages.specs.Grammar.{Decimals, SizeOk, FieldOk, ListOk, FieldsOk, LayoutOk, LengthOk, MessageOk}
 use Rattle.messages.specs.Digits.{digitBytesOf, numberOf}
-use Rattle.messages.specs.Values.{found, valueIn, fieldValue}
+use Rattle.messages.specs.Values.{valueIn, fieldValue}
 use Rattle.messages.proofs.DigitLaws.{digits-size, digits-decimal, number-same}
 use Rattle.messages.proofs.Numbers.{between}
 use Rattle.messages.proofs.MessageBytes.{read-complete}
 use Rattle.course.specs.Numbers.{amountOk, receiptOk, passwordOk}
-use Rattle.course.specs.Commands.{money, saleCommand, refundCommand, reversalCommand, saleBytes, refundBytes, reversalBytes}
+use Rattle.course.specs.Commands.{FieldIs, MoneyIs, money, saleCommand, refundCommand, reversalCommand, saleBytes, refundBytes, reversalBytes}
 
 -- ---- the bytes
 pub sale-bytes : (amount : ℕ)
@@ -88,13 +88,6 @@ unfolding reversalBytes
 reversal-reads password receipt = read-complete (reversalCommand password receipt) (reversal-ok password receipt)
 
 -- ---- with the numbers that were given
-abbrev pub FieldIs : List Field → ℕ → ℕ → Type 0
-FieldIs fs id n = (value : List ℕ) × (valueIn id fs ≡ found value) × (numberOf value ≡ n)
-
--- "fields 04, 49", "Currency written is always 0978"
-abbrev pub MoneyIs : List Field → ℕ → Type 0
-MoneyIs fs amount = FieldIs fs 0x04 amount × (valueIn 0x49 fs ≡ found (0x09 ∷ (0x78 ∷ [])))
-
 password-same : (password : ℕ) → passwordOk password ≡ true → numberOf (digitBytesOf 3 password) ≡ password
 password-same password h = number-same 3 password (omega (arith, leb-true password 999_999 h))
 

@@ -12,10 +12,10 @@ use Rattle.course.specs.declared.Line.{Line}
 use Rattle.course.specs.Lanes.{blankLine, idleLane}
 use Rattle.course.specs.Course.{isIdle, Call}
 use Rattle.course.specs.Desk.{fresh, place, Accepted, run}
-use Rattle.course.specs.Payments.{paymentsOf, joined, oneByOne, lineOf, linesOf}
-use Rattle.course.proofs.Lanes.{total, total-append, callsOf, Own, own, opening-is, places-total}
-use Rattle.course.proofs.Runs.{openings, count}
-use Rattle.course.proofs.Payment.{Begins, Says}
+use Rattle.course.specs.Runs.{callsOf, Own, own, total, openings}
+use Rattle.course.specs.Payments.{paymentsOf, joined, oneByOne, Begins, Whole, lineOf, linesOf, Says}
+use Rattle.course.proofs.Lanes.{total-append, opening-is, places-total}
+use Rattle.course.proofs.Runs.{count}
 use Rattle.course.proofs.Kept.{Blocks, Kept, kept}
 
 pub book : (cs : List Call) → Accepted fresh cs → run fresh cs .lines ≡ linesOf [] (paymentsOf cs .ended)
@@ -27,7 +27,7 @@ lane-of-open cs h k = kept cs h .each k .says
 
 -- ---- line j is made by payment j
 
-lines-length : (ls : List Line) (ps : List (List Call)) → length (linesOf ls ps) ≡ length ls + length ps
+pub lines-length : (ls : List Line) (ps : List (List Call)) → length (linesOf ls ps) ≡ length ls + length ps
 unfolding linesOf
 lines-length ls [] = omega arith
 lines-length ls (p ∷ ps) = omega (arith, lines-length (ls ++ (lineOf ls p ∷ [])) ps, length-append ls (lineOf ls p ∷ []))
@@ -89,10 +89,6 @@ blocks-count : (ls : List Line) (ps : List (List Call)) → Blocks ls ps → tot
 unfolding Blocks total
 blocks-count ls [] b = refl
 blocks-count ls (p ∷ ps) b = let o = begins-one p (b .0 .begins) in omega (arith, blocks-count _ ps (b .1))
-
--- the calls of one lane, an opening and then none
-abbrev pub Whole : List Call → Type 0
-Whole p = (k : ℕ) × (k < 8) × (callsOf k p ≡ p) × Begins p
 
 blocks-whole : (ls : List Line) (ps : List (List Call)) → Blocks ls ps → (j : ℕ) → j < length ps → Whole (getD ps j [])
 unfolding Blocks

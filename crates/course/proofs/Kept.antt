@@ -16,10 +16,11 @@ use Rattle.course.specs.declared.Moved.the-variants.{Refused, Stays, Bec
 use Rattle.course.specs.Lanes.{idleLane, lineAt}
 use Rattle.course.specs.Course.{Call, laneOf, moves}
 use Rattle.course.specs.Desk.{State, fresh, laneAfter, linesFrom, step, Accepts, Accepted, run}
-use Rattle.course.specs.Payments.{Payments, withCall, paymentsFrom, paymentsOf, joined, lineOf, linesOf}
+use Rattle.course.specs.Runs.{having, ofLane, callsOf, Own, own}
+use Rattle.course.specs.Payments.{Payments, withCall, paymentsFrom, paymentsOf, joined, lineOf, linesOf, Begins, Says}
 use Rattle.course.proofs.Calls.{endsIn, ends-same}
-use Rattle.course.proofs.Lanes.{having, having-append, ofLane, callsOf, moves-local, Own, own, after, by-lane, told, lanes-step}
-use Rattle.course.proofs.Payment.{Begins, Says, Goes, goes, Brings, brings-more, Open, open-none, its-more}
+use Rattle.course.proofs.Lanes.{having-append, moves-local, after, by-lane, told, lanes-step}
+use Rattle.course.proofs.Payment.{Goes, goes, Brings, brings-more, Open, open-none, its-more}
 
 -- ---- the ended payments, one after the other
 

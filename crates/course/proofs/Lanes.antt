@@ -17,15 +17,11 @@ use Rattle.course.specs.declared.Moved.the-variants.{Refused, Stays, Bec
 use Rattle.course.specs.Lanes.{idleLane, lineAt}
 use Rattle.course.specs.Course.{isIdle, concerns, lastFrom, lastLine, openedBy, askReversal, Call, sale, refund, reversal, message, lost, laneOf, opens, moves, writes}
 use Rattle.course.specs.Desk.{State, laneAt, place, places, load, Decision, refuse, accept, unlessRefused, decide, laneAfter, linesFrom, step, Accepts}
+use Rattle.course.specs.Runs.{having, ofLane, Own, own, total, opening}
 use Rattle.course.specs.Payments.{askOf}
 use Rattle.course.proofs.Calls.{Passes, opened, Later, later}
 
 -- ---- lists: the elements with a number, and sums
-
--- those elements whose number is k
-unfoldable pub having : {A : Type 0} → (A → ℕ) → ℕ → List A → List A
-having f k [] = []
-having f k (x ∷ xs) = pick (eqb (f x) k) (x ∷ having f k xs) (having f k xs)
 
 pub having-append : {A : Type 0} (f : A → ℕ) (k : ℕ) (xs ys : List A) → having f k (xs ++ ys) ≡ having f k xs ++ having f k ys
 unfolding having
@@ -42,10 +38,6 @@ pub none : {A : Type 0} (b : Bool) → _≡_ {A = List A} [] (pick b [] [])
 none true = refl
 none false = refl
 
-unfoldable pub total : {A : Type 0} → (A → ℕ) → List A → ℕ
-total f [] = 0
-total f (x ∷ xs) = f x + total f xs
-
 pub total-append : {A : Type 0} (f : A → ℕ) (xs ys : List A) → total f (xs ++ ys) ≡ total f xs + total f ys
 unfolding total
 total-append f [] ys = omega arith
@@ -58,12 +50,6 @@ total-set f (y ∷ xs) zero x d h = omega arith
 total-set f (y ∷ xs) (suc i) x d h = omega (arith, total-set f xs i x d (omega arith))
 
 -- ---- a call depends on its lane's own lines
-
-abbrev pub ofLane : ℕ → List Line → List Line
-ofLane k ls = having (λ l. l .lane) k ls
-
-abbrev pub callsOf : ℕ → List Call → List Call
-callsOf k cs = having laneOf k cs
 
 last-local : (i receipt : ℕ) (last : Line) (ls : List Line) → lastFrom i receipt last ls ≡ lastFrom i receipt last (ofLane i ls)
 unfolding lastFrom having concerns
@@ -93,14 +79,7 @@ moves-local l ls (lost i) = refl
 
 -- ---- a call changes its lane and that lane's lines
 
--- all that a lane's calls can see and change
-pub record Own : Type 0 where
-  pub lane : Lane
-  pub lines : List Line
-
-abbrev pub own : ℕ → State → Own
-own k s = record { lane = laneAt (s .lanes) k; lines = ofLane k (s .lines) }
-
+-- what a call makes of its own
 unfoldable pub after : Own → Call → Own
 after o c =
     let m = moves (o .lane) (o .lines) c in
@@ -211,10 +190,6 @@ tell s c t =
     let l = laneAt (s .lanes) (laneOf c) in
     let n = length (writes l c) in
     rw (lt-leb 8 (laneOf c) (t .lane), passing (moves l (s .lines) c) _ (t .moved), room-tell (opens c) (load s) (t .room), le-ltb n n (omega arith))
-
--- 1 for an opening
-unfoldable pub opening : Call → ℕ
-opening c = pick (opens c) 1 0
 
 pub opening-is : (c : Call) (b : Bool) → opens c ≡ b → opening c ≡ pick b 1 0
 unfolding opening

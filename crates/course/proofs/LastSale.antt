@@ -12,25 +12,7 @@ use Rattle.course.specs.declared.Kind.the-variants.{Sale, Refund, Revers
 use Rattle.course.specs.declared.Line.{Line}
 use Rattle.course.specs.Lanes.{blankLine}
 use Rattle.course.specs.Course.{isReversal, isApproved, isSale, concerns, lastFrom, lastLine}
-
--- none of them is an approved sale or reversal line of that lane with that receipt
-unfoldable pub NoneOf : ℕ → ℕ → List Line → Type 0
-NoneOf i receipt [] = Unit {0}
-NoneOf i receipt (l ∷ ls) = (concerns i receipt l ≡ false) × NoneOf i receipt ls
-
--- one of the lines is the last such
-pub record Last (i receipt : ℕ) (ls : List Line) (line : Line) : Type 0 where
-  pub before : List Line
-  pub after : List Line
-  pub lines : ls ≡ before ++ (line ∷ after)
-  pub concerned : concerns i receipt line ≡ true
-  pub later : NoneOf i receipt after
-
--- and is a sale
-pub record LastIsSale (i receipt : ℕ) (ls : List Line) : Type 0 where
-  pub line : Line
-  pub last : Last i receipt ls line
-  pub sold : line .kind ≡ Sale
+use Rattle.course.specs.Table.{NoneOf, Last, LastIsSale}
 
 module _ (i receipt : ℕ) where
   none-last : (last : Line) (ls : List Line) → NoneOf i receipt ls → lastFrom i receipt last ls ≡ last

@@ -1,10 +1,9 @@
--- The laws of the course, by subject: what opening writes, the table of refusals, document 01's case of two lanes; then runs,
--- payments, the day book, order and turnover; then what every desk is, and the laws that the desk's functions are proved by.
+-- The laws of the course, by subject: what opening writes and the table of refusals; then runs, payments, the day book, order and
+-- turnover; then what every desk is, and the laws that the desk's functions are proved by.
 pub mod Commands
 pub mod LastSale
 pub mod Rows
 pub mod Refusals
-pub mod Cases
 pub mod Calls
 pub mod Lanes
 pub mod Runs

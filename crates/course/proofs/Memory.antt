@@ -21,12 +21,12 @@ use Rattle.course.specs.declared.Desk.{Desk}
 use Rattle.course.specs.declared.Answer.{Answer}
 use Rattle.course.specs.declared.Reply.the-variants.{Written}
 use Rattle.course.specs.Lanes.{blankLine, idleLane, lineAt}
-use Rattle.course.specs.Course.{isIdle, Call, laneOf, opens, moves, writes}
+use Rattle.course.specs.Course.{isIdle, Call, laneOf, opens, NumbersFit, moves, writes}
 use Rattle.course.specs.Desk.{fresh, laneAt, place, places, load, Decision, refuse, accept, decide, laneAfter, linesFrom, step}
-use Rattle.course.specs.Memory.{freshDesk, linesOfDesk, view, toldSmall, Valid, withLine, endedDesk, movedDesk, refusedAnswer, answerBy, answerOf, leavesBy, leavesOf, closeAnswer}
+use Rattle.course.specs.Memory.{freshDesk, linesOfDesk, view, laneFor, toldSmall, Valid, withLine, endedDesk, movedDesk, refusedAnswer, answerBy, answerOf, leavesBy, leavesOf, closeAnswer}
 use Rattle.course.proofs.Calls.{Passes, later}
 use Rattle.course.proofs.Lanes.{total-set, places-total, not-refused, passed}
-use Rattle.course.proofs.Amounts.{Small, LaneFits, LinesFit, Fits, NumbersFit, moves-fit}
+use Rattle.course.proofs.Amounts.{Small, LaneFits, LinesFit, Fits, moves-fit}
 
 -- ---- lists
 
@@ -141,10 +141,7 @@ module _ (d : Desk) (v : Valid d) where
         let line = lineAt i (laneAt (d .lanes) i) outcome settled code in
         rw (add-one, take-suc-set (d .book .lines) (d .book .count) line (omega (arith, roomy-count, v .lines)))
 
--- the lane that a call names, and what the call does to it
-abbrev pub laneFor : Desk → Call → Lane
-laneFor d c = laneAt (d .lanes) (laneOf c)
-
+-- what a call does to the lane that it names
 abbrev pub moveOf : Desk → Call → Moved
 moveOf d c = moves (laneFor d c) (linesOfDesk d) c
 

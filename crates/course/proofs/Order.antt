@@ -12,8 +12,9 @@ use Rattle.course.specs.declared.Line.{Line}
 use Rattle.course.specs.Lanes.{idleLane}
 use Rattle.course.specs.Course.{isIdle, Call, laneOf}
 use Rattle.course.specs.Desk.{State, fresh, laneAt, place, places, load, step, Accepted, run}
+use Rattle.course.specs.Runs.{having, callsOf, Own, own}
 use Rattle.course.specs.Payments.{paymentsOf, joined, oneByOne, lineOf, linesOf}
-use Rattle.course.proofs.Lanes.{having, having-append, callsOf, Own, own}
+use Rattle.course.proofs.Lanes.{having-append}
 use Rattle.course.proofs.Runs.{run-append, lanes-run, count, alone, AcceptedAlone, repliesTo, repliesAlone, run-alone, replies-alone, accepted-alone, accepted-from}
 use Rattle.course.proofs.Payment.{Brings, idle-again}
 use Rattle.course.proofs.Kept.{Blocks, all-same, kept}

@@ -13,20 +13,16 @@ use Rattle.course.specs.declared.Lane.{Lane}
 use Rattle.course.specs.declared.Line.{Line}
 use Rattle.course.specs.declared.Moved.{Moved}
 use Rattle.course.specs.declared.Moved.the-variants.{Refused, Stays, Becomes, Ends}
-use Rattle.course.specs.Lanes.{noStatus, idleLane, runningLane, lineAt}
+use Rattle.course.specs.Lanes.{noStatus, idleLane, lineAt}
 use Rattle.course.specs.Course.{isIdle, Ask, Call, laneOf, opens, moves}
 use Rattle.course.specs.Desk.{State, laneAt, laneAfter, linesFrom, step, run}
-use Rattle.course.specs.Payments.{askOf, remembered, verdict, askedLane, lineBy, judged, lineOf}
+use Rattle.course.specs.Runs.{having, ofLane, callsOf, Own, total, openings}
+use Rattle.course.specs.Payments.{askOf, remembered, verdict, askedLane, lineBy, judged, lineOf, recalled, Begins, Says}
 use Rattle.course.proofs.Calls.{Passes, opened, retold, Later, later}
-use Rattle.course.proofs.Lanes.{having, having-append, none, total, total-append, ofLane, callsOf, ask-local, moves-local, Own, opening-is}
-use Rattle.course.proofs.Runs.{run-append, openings}
+use Rattle.course.proofs.Lanes.{having-append, none, total-append, ask-local, moves-local, opening-is}
+use Rattle.course.proofs.Runs.{run-append}
 
 -- ---- what its calls say of its lane, and of the line at its end
-
--- what is remembered of its calls
-unfoldable pub recalled : Status → List Call → Status
-recalled st [] = st
-recalled st (c ∷ cs) = recalled (remembered st c) cs
 
 recalled-snoc : (st : Status) (cs : List Call) (c : Call) → recalled st (cs ++ (c ∷ [])) ≡ remembered (recalled st cs) c
 unfolding recalled
@@ -39,18 +35,6 @@ unfolding judged recalled
 judged-snoc i a st [] c = refl
 judged-snoc i a st (d ∷ []) c = refl
 judged-snoc i a st (d ∷ (e ∷ cs)) c = judged-snoc i a (remembered st d) (e ∷ cs) c
-
--- an opening, and then none
-unfoldable pub Begins : List Call → Type 0
-Begins [] = ⊥
-Begins (o ∷ ds) = (opens o ≡ true) × (openings ds ≡ 0)
-
--- lane k with its lines, as the calls of its open payment say: idle if there are none; else open, with what its opening asked and
--- what is remembered of the calls since
-unfoldable pub Says : ℕ → Own → List Call → Type 0
-Says k w [] = w .lane ≡ idleLane
-Says k w (o ∷ ds) =
-    (laneOf o ≡ k) × Begins (o ∷ ds) × (isIdle (w .lane .phase) ≡ false) × (runningLane (w .lane) ≡ askedLane (askOf (w .lines) o) (recalled noStatus ds))
 
 -- what a call makes of a payment
 unfoldable pub Goes : ℕ → Own → List Call → Moved → Type 0

@@ -1,24 +1,23 @@
 -- When a call is accepted, and when it is refused with each number: document 01's table of refusals, read both ways. Assumes nothing.
 use mathlib.Core.Path.{_≡_, refl, sym}
 use mathlib.Core.Bool.{true, false, false≢true}
-use mathlib.Core.Logic.{_↔_, _⊎_, inl, inr}
+use mathlib.Core.Logic.{_↔_, inl, inr}
 use mathlib.Core.List.{List, []}
 use Prim.Native.Nat.{ℕ, _≤_, _<_}
 use native.Mathlib.Omega.{arith}
 use Rattle.messages.specs.declared.Fault.{Fault}
 use Rattle.messages.specs.declared.Refusal.{Refusal}
 use Rattle.messages.specs.Reading.{got, refused}
-use Rattle.messages.specs.Message.{Header, wholeHeader, Message, readOf}
+use Rattle.messages.specs.Message.{Header, wholeHeader, readOf}
 use Rattle.messages.proofs.Numbers.{header-numbers, read-numbers}
-use Rattle.course.specs.declared.Phase.{Phase}
-use Rattle.course.specs.declared.Phase.the-variants.{Idle, Waiting, Running}
+use Rattle.course.specs.declared.Phase.the-variants.{Idle, Running}
 use Rattle.course.specs.declared.Lane.{Lane}
 use Rattle.course.specs.declared.Moved.the-variants.{Refused}
 use Rattle.course.specs.Course.{Call, sale, refund, reversal, message, lost, laneOf, opens}
 use Rattle.course.specs.Desk.{State, load, Decision, refuse, accept, decide, laneAfter, linesFrom}
-use Rattle.course.proofs.LastSale.{LastIsSale}
-use Rattle.course.proofs.Rows.{phaseAt, phaseOf, Within, ToReverse, commandSize, Ready, Opening, no-lane, not-idle, outside, no-sale, full, tight, opened, opening-table}
-use Rattle.course.proofs.Rows.{Allowed, EmptyAbort, Hearing, is-idle, bad-header, not-allowed, bad-body, no-code, heard-waiting, heard-running, hearing-table, Losing, ended, losing-table}
+use Rattle.course.specs.Table.{phaseAt, phaseOf, Within, ToReverse, LastIsSale, commandSize, Ready, Allowed, GoodHeader, GoodBody, BodyNo, Unread, Heard}
+use Rattle.course.proofs.Rows.{Opening, no-lane, not-idle, outside, no-sale, full, tight, opened, opening-table}
+use Rattle.course.proofs.Rows.{Hearing, is-idle, bad-header, not-allowed, bad-body, no-code, heard-waiting, heard-running, hearing-table, Losing, ended, losing-table}
 
 -- the rows of a call
 abbrev pub Table : State → Call → ℕ → Decision → Type 0
@@ -157,28 +156,6 @@ module _ (s : State) (c : Call) (room : ℕ) where
         inv (opened y r) = (y, r)
 
 -- ---- a terminal message
-
--- "the header, and a pair that the phase allows"
-abbrev pub GoodHeader : Phase → List ℕ → Type 0
-GoodHeader p b = (h : Header) × (wholeHeader b ≡ got h) × Allowed p h
-
-abbrev pub GoodBody : List ℕ → Type 0
-GoodBody b = (m : Message) × (readOf b ≡ got m) × (EmptyAbort m → ⊥)
-
--- the header is refused with that number; the body is, or "an empty body" of 06 1E "with 1"
-abbrev pub HeaderNo : List ℕ → ℕ → Type 0
-HeaderNo b n = (f : Fault) × (wholeHeader b ≡ refused f) × (f .number ≡ n)
-
-abbrev pub BodyNo : List ℕ → ℕ → Type 0
-BodyNo b n = ((f : Fault) × (readOf b ≡ refused f) × (f .number ≡ n)) ⊎ ((m : Message) × (readOf b ≡ got m) × EmptyAbort m × (1 ≡ n))
-
-abbrev pub Unread : State → ℕ → List ℕ → ℕ → Type 0
-Unread s i b n = ((phaseAt s i ≡ Idle → ⊥) × HeaderNo b n) ⊎ ((phaseAt s i ≡ Running) × GoodHeader Running b × BodyNo b n)
-
--- waiting no room is needed: "Neither gets a reply." "Running, each answered with 80 00 00"
-abbrev pub Heard : State → ℕ → List ℕ → ℕ → Type 0
-Heard s i b room =
-    ((phaseAt s i ≡ Waiting) × GoodHeader Waiting b) ⊎ ((phaseAt s i ≡ Running) × GoodHeader Running b × GoodBody b × (3 ≤ room))
 
 module _ (s : State) (i : ℕ) (b : List ℕ) (room : ℕ) where
   row : (d : Decision) → (decide s (message i b) room ≡ d) ↔ Hearing s i b room d

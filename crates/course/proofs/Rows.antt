@@ -24,59 +24,9 @@ use Rattle.course.specs.declared.Moved.{Moved}
 use Rattle.course.specs.Course.{runningPairs, pairIs, isReversal, heardWaiting, completedBy, settledAs, abortedBy, reportedBy, movedBy, afterBody, heardRunning, heardBy, afterHeader, isIdle, heard, lostBy, answered, Ask, openedBy, Call, sale, refund, reversal, message, lost, laneOf, opens, moves, writes}
 use Rattle.course.specs.Desk.{State, laneAt, load, Decision, refuse, accept, unlessRefused, decide}
 use Rattle.course.specs.Payments.{askOf}
+use Rattle.course.specs.Table.{phaseAt, phaseOf, Within, ToReverse, commandSize, Ready, OneOf, Allowed, EmptyAbort}
 use Rattle.course.proofs.Commands.{sale-size, refund-size, reversal-size}
-use Rattle.course.proofs.LastSale.{LastIsSale, last-sale}
-
--- the phase of a lane, and of the lane that a call names
-abbrev pub phaseAt : State → ℕ → Phase
-phaseAt s i = laneAt (s .lanes) i .phase
-
-abbrev pub phaseOf : State → Call → Phase
-phaseOf s c = phaseAt s (laneOf c)
-
--- ---- opening
-
--- "number outside its limits": "Amount asked 1 to 999,999,999,999", "Password 0 to 999,999", "Receipt .. 1 to 9,999"
-abbrev pub Within : Call → Type 0
-Within (sale i amount) = (1 ≤ amount) × (amount ≤ 999_999_999_999)
-Within (refund i password amount) = (password ≤ 999_999) × ((1 ≤ amount) × (amount ≤ 999_999_999_999))
-Within (reversal i password receipt) = (password ≤ 999_999) × ((1 ≤ receipt) × (receipt ≤ 9_999))
-Within (message i b) = Unit {0}
-Within (lost i) = Unit {0}
-
--- "no sale to reverse": only a reversal asks for one
-abbrev pub ToReverse : State → Call → Type 0
-ToReverse s (sale i amount) = Unit {0}
-ToReverse s (refund i password amount) = Unit {0}
-ToReverse s (reversal i password receipt) = LastIsSale i receipt (s .lines)
-ToReverse s (message i b) = Unit {0}
-ToReverse s (lost i) = Unit {0}
-
--- the bytes of an opening's command
-abbrev pub commandSize : Call → ℕ
-commandSize (sale i amount) = 13
-commandSize (refund i password amount) = 16
-commandSize (reversal i password receipt) = 9
-commandSize (message i b) = 0
-commandSize (lost i) = 0
-
--- all that an opening needs beside room for its command
-pub record Ready (s : State) (c : Call) : Type 0 where
-  pub lane : laneOf c < 8
-  pub idle : phaseOf s c ≡ Idle
-  pub within : Within c
-  pub sold : ToReverse s c
-  pub place : load s < 64
-
--- "opening 12, 13, 16, 17, 18, 11"
-pub data Opening (s : State) (c : Call) (room : ℕ) : Decision → Type 0 where
-  no-lane : 8 ≤ laneOf c → Opening s c room (refuse 12)
-  not-idle : laneOf c < 8 → (phaseOf s c ≡ Idle → ⊥) → Opening s c room (refuse 13)
-  outside : laneOf c < 8 → phaseOf s c ≡ Idle → (Within c → ⊥) → Opening s c room (refuse 16)
-  no-sale : laneOf c < 8 → phaseOf s c ≡ Idle → Within c → (ToReverse s c → ⊥) → Opening s c room (refuse 17)
-  full : laneOf c < 8 → phaseOf s c ≡ Idle → Within c → ToReverse s c → 64 ≤ load s → Opening s c room (refuse 18)
-  tight : Ready s c → room < commandSize c → Opening s c room (refuse 11)
-  opened : Ready s c → commandSize c ≤ room → Opening s c room accept
+use Rattle.course.proofs.LastSale.{last-sale}
 
 -- ---- tests and what they say
 case : {A X : Type 0} {t : Bool} → ((t ≡ true) ↔ A) → (A → X) → ((A → ⊥) → X) → X
@@ -111,7 +61,19 @@ unless-pick : (t : Bool) (m n : Moved) (x : Decision) → unlessRefused (pick t 
 unless-pick true m n x = refl
 unless-pick false m n x = refl
 
--- the tests of an opening, one after the other
+-- ---- opening
+
+-- "opening 12, 13, 16, 17, 18, 11"
+pub data Opening (s : State) (c : Call) (room : ℕ) : Decision → Type 0 where
+  no-lane : 8 ≤ laneOf c → Opening s c room (refuse 12)
+  not-idle : laneOf c < 8 → (phaseOf s c ≡ Idle → ⊥) → Opening s c room (refuse 13)
+  outside : laneOf c < 8 → phaseOf s c ≡ Idle → (Within c → ⊥) → Opening s c room (refuse 16)
+  no-sale : laneOf c < 8 → phaseOf s c ≡ Idle → Within c → (ToReverse s c → ⊥) → Opening s c room (refuse 17)
+  full : laneOf c < 8 → phaseOf s c ≡ Idle → Within c → ToReverse s c → 64 ≤ load s → Opening s c room (refuse 18)
+  tight : Ready s c → room < commandSize c → Opening s c room (refuse 11)
+  opened : Ready s c → commandSize c ≤ room → Opening s c room accept
+
+-- its tests, one after the other
 abbrev openingBy : Bool → Bool → Bool → Bool → Bool → Bool → Decision
 openingBy none idle within sold few small =
     pick none (refuse 12)
@@ -194,22 +156,6 @@ module _ (s : State) (room : ℕ) where
     opening-table d = (λ e. rw e at opening-found, opening-given)
 
 -- ---- a terminal message
-
--- one of them
-abbrev pub OneOf : List ℕ → ℕ → Type 0
-OneOf [] x = ⊥
-OneOf (k ∷ ks) x = (k ≡ x) ⊎ OneOf ks x
-
--- "pair or non-empty body not allowed in this phase". "waiting: 80 00 with empty body ..; 84 xx with empty body". "Running: ..
--- 04 FF, 06 D1, 06 D3, 04 0F, 06 1E, 06 0F"
-abbrev pub Allowed : Phase → Header → Type 0
-Allowed Idle h = ⊥
-Allowed Waiting h = (h .size ≡ 0) × (((h .class ≡ 0x80) × (h .instruction ≡ 0x00)) ⊎ (h .class ≡ 0x84))
-Allowed Running h = OneOf runningPairs (h .class * 256 + h .instruction)
-
--- "06 1E: .. an empty body is refused with 1"
-abbrev pub EmptyAbort : Message → Type 0
-EmptyAbort m = ((m .class ≡ 0x06) × (m .instruction ≡ 0x1E)) × (m .body ≡ bytes [])
 
 -- "Terminal message 12, 14, header, 15, body, 11"
 pub data Hearing (s : State) (i : ℕ) (b : List ℕ) (room : ℕ) : Decision → Type 0 where

@@ -9,8 +9,9 @@ use borrow.Author.Tests.{eq-eqb}
 use Rattle.messages.specs.Reading.{pick}
 use Rattle.course.specs.Course.{isIdle, Call, laneOf, opens, moves, writes}
 use Rattle.course.specs.Desk.{State, fresh, laneAt, place, places, load, step, Accepted, run, wrote}
+use Rattle.course.specs.Runs.{having, callsOf, Own, own, total, opening, openings, Exchange, replies}
 use Rattle.course.proofs.Calls.{Passes}
-use Rattle.course.proofs.Lanes.{having, total, callsOf, moves-local, Own, own, after, by-lane, Told, told, tell, opening, opening-is, lanes-step, load-step}
+use Rattle.course.proofs.Lanes.{moves-local, after, by-lane, Told, told, tell, opening-is, lanes-step, load-step}
 
 -- ---- runs
 
@@ -25,9 +26,6 @@ lanes-run s [] = refl
 lanes-run s (c ∷ cs) = lanes-run (step s c) cs ∙ lanes-step s c
 
 -- ---- how many payments are opened
-
-abbrev pub openings : List Call → ℕ
-openings cs = total opening cs
 
 load-run : (s : State) (cs : List Call) → length (s .lanes) ≡ 8 → Accepted s cs → load (run s cs) ≡ load s + openings cs
 unfolding run total Accepted
@@ -64,21 +62,11 @@ unfoldable pub AcceptedAlone : Own → List Call → Type 0
 AcceptedAlone o [] = Unit {0}
 AcceptedAlone o (c ∷ cs) = (laneOf c < 8) × Passes (moves (o .lane) (o .lines) c) × AcceptedAlone (after o c) cs
 
--- a call with what it wrote
-pub record Reply : Type 0 where
-  pub call : Call
-  pub wrote : List ℕ
-
-unfoldable pub replies : List Call → List (List ℕ) → List Reply
-replies [] ws = []
-replies (c ∷ cs) [] = []
-replies (c ∷ cs) (w ∷ ws) = record { call = c; wrote = w } ∷ replies cs ws
-
 -- the calls of lane k in their order, each with what it wrote
-unfoldable pub repliesTo : ℕ → State → List Call → List Reply
+unfoldable pub repliesTo : ℕ → State → List Call → List Exchange
 repliesTo k s cs = having (λ r. laneOf (r .call)) k (replies cs (wrote s cs))
 
-unfoldable pub repliesAlone : Own → List Call → List Reply
+unfoldable pub repliesAlone : Own → List Call → List Exchange
 repliesAlone o [] = []
 repliesAlone o (c ∷ cs) = record { call = c; wrote = writes (o .lane) c } ∷ repliesAlone (after o c) cs
 
@@ -94,7 +82,7 @@ pub replies-alone : (s : State) (cs : List Call) (k : ℕ) → length (s .lanes)
 unfolding repliesTo repliesAlone replies wrote Accepted having
 replies-alone s [] k e h = refl
 replies-alone s (c ∷ cs) k e h =
-    let reply : Reply = record { call = c; wrote = writes (laneAt (s .lanes) (laneOf c)) c } in
+    let reply : Exchange = record { call = c; wrote = writes (laneAt (s .lanes) (laneOf c)) c } in
     rw (replies-alone (step s c) cs k (lanes-step s c ∙ e) (h .1))
     (by-lane s c (omega (arith, told s c (h .0) .lane))
     (λ j b o. pick b (reply ∷ repliesAlone o (callsOf j cs)) (repliesAlone o (callsOf j cs))

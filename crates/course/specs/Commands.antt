@@ -1,11 +1,13 @@
 -- The commands that opening writes, as messages. Definitions only.
+use mathlib.Core.Path.{_≡_}
 use Prim.Native.Nat.{ℕ}
 use mathlib.Core.Bool.{false}
 use mathlib.Core.List.{List, [], _∷_}
 use Rattle.messages.specs.Fields.{Field, plain}
 use Rattle.messages.specs.Message.{Message, listed}
 use Rattle.messages.specs.Writing.{messageBytes}
-use Rattle.messages.specs.Digits.{digitBytesOf}
+use Rattle.messages.specs.Digits.{digitBytesOf, numberOf}
+use Rattle.messages.specs.Values.{found, valueIn}
 
 -- "Currency written is always 0978"
 abbrev pub money : ℕ → List Field
@@ -39,3 +41,13 @@ reversalBytes password receipt = messageBytes (reversalCommand password receipt)
 -- "each answered with 80 00 00"
 abbrev pub replyBytes : List ℕ
 replyBytes = 0x80 ∷ (0x00 ∷ (0x00 ∷ []))
+
+-- ---- what a list of fields says, to whoever reads it
+
+-- the list has that field, and its digits are that number
+abbrev pub FieldIs : List Field → ℕ → ℕ → Type 0
+FieldIs fs id n = (value : List ℕ) × (valueIn id fs ≡ found value) × (numberOf value ≡ n)
+
+-- "fields 04, 49", "Currency written is always 0978"
+abbrev pub MoneyIs : List Field → ℕ → Type 0
+MoneyIs fs amount = FieldIs fs 0x04 amount × (valueIn 0x49 fs ≡ found (0x09 ∷ (0x78 ∷ [])))

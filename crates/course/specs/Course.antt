@@ -7,6 +7,7 @@ use lib.Dec.{eqb}
 use Rattle.messages.specs.Reading.{Reading, got, refused, pick, among}
 use Rattle.messages.specs.Message.{Header, wholeHeader, Body, bytes, listed, Message, readOf}
 use Rattle.messages.specs.Values.{statusIn, bodyFields}
+use Rattle.messages.specs.Grammar.{Bytes}
 use Rattle.messages.specs.declared.Status.{Status}
 use Rattle.messages.specs.declared.ToldCode.{ToldCode}
 use Rattle.messages.specs.declared.ToldCode.the-variants.{Missing as no-code, Code}
@@ -209,6 +210,14 @@ opens (refund i password amount) = true
 opens (reversal i password receipt) = true
 opens (message i s) = false
 opens (lost i) = false
+
+-- what a function's parameters are: a message is of bytes
+unfoldable pub NumbersFit : Call → Type 0
+NumbersFit (sale i amount) = Unit {0}
+NumbersFit (refund i password amount) = Unit {0}
+NumbersFit (reversal i password receipt) = Unit {0}
+NumbersFit (message i s) = Bytes s
+NumbersFit (lost i) = Unit {0}
 
 -- what a call does to a lane with those lines
 unfoldable pub moves : Lane → List Line → Call → Moved

@@ -4,6 +4,8 @@ pub mod Lanes
 pub mod Commands
 pub mod Course
 pub mod Desk
+pub mod Table
+pub mod Runs
 pub mod Memory
 pub mod Payments
 pub mod Turnover

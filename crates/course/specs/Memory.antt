@@ -36,6 +36,10 @@ linesOfDesk d = take (d .book .count) (d .book .lines)
 unfoldable pub view : Desk → State
 view d = record { lanes = d .lanes; lines = linesOfDesk d }
 
+-- the lane that a call names
+abbrev pub laneFor : Desk → Call → Lane
+laneFor d c = laneAt (d .lanes) (laneOf c)
+
 -- no amount above twelve digits
 unfoldable pub toldSmall : ToldAmount → Type 0
 toldSmall no-amount = Unit {0}

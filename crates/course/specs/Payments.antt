@@ -1,5 +1,6 @@
 -- The payments of a run, and what each payment's own messages make of it. Definitions only.
-use Prim.Native.Nat.{ℕ}
+use mathlib.Core.Path.{_≡_}
+use Prim.Native.Nat.{ℕ, _<_}
 use mathlib.Core.Bool.{Bool, true, false, _||_}
 use mathlib.Core.List.{List, [], _∷_, _++_}
 use lib.ListN.{getD, set, replicate}
@@ -16,8 +17,9 @@ use Rattle.course.specs.declared.Lane.{Lane}
 use Rattle.course.specs.declared.Line.{Line}
 use Rattle.course.specs.declared.Moved.{Moved}
 use Rattle.course.specs.declared.Moved.the-variants.{Refused, Stays, Becomes, Ends}
-use Rattle.course.specs.Lanes.{noStatus, blankLine, lineAt}
-use Rattle.course.specs.Course.{pairIs, completedBy, abortedBy, lastLine, Ask, askSale, askRefund, askReversal, Call, sale, refund, reversal, message, lost, laneOf}
+use Rattle.course.specs.Lanes.{noStatus, blankLine, idleLane, runningLane, lineAt}
+use Rattle.course.specs.Course.{pairIs, completedBy, abortedBy, isIdle, lastLine, Ask, askSale, askRefund, askReversal, Call, sale, refund, reversal, message, lost, laneOf, opens}
+use Rattle.course.specs.Runs.{callsOf, Own, openings}
 
 -- ---- the payments of a run: an opening, and the calls of its lane up to its end
 
@@ -63,6 +65,15 @@ joined (cs ∷ css) = cs ++ joined css
 unfoldable pub oneByOne : List Call → List Call
 oneByOne cs = joined (paymentsOf cs .ended) ++ joined (paymentsOf cs .ongoing)
 
+-- an opening, and then none
+unfoldable pub Begins : List Call → Type 0
+Begins [] = ⊥
+Begins (o ∷ ds) = (opens o ≡ true) × (openings ds ≡ 0)
+
+-- a payment: calls of one lane, of "Lanes 0 to 7", which begin with its opening
+abbrev pub Whole : List Call → Type 0
+Whole p = (k : ℕ) × (k < 8) × (callsOf k p ≡ p) × Begins p
+
 -- ---- one payment, judged from its own messages
 
 -- what its opening asked, after those lines. A reversal looks at its own lane's lines only, of which none is added while its
@@ -85,6 +96,11 @@ remembered status (refund i password amount) = status
 remembered status (reversal i password receipt) = status
 remembered status (message i s) = orElse (statusOf s .code) (statusOf s) status
 remembered status (lost i) = status
+
+-- what is remembered of calls
+unfoldable pub recalled : Status → List Call → Status
+recalled st [] = st
+recalled st (c ∷ cs) = recalled (remembered st c) cs
 
 -- what the last message of a payment makes of it: 84 xx, 06 1E or 06 0F
 unfoldable pub verdictOf : Lane → Reading Message → Moved
@@ -126,3 +142,10 @@ lineOf ls (o ∷ cs) = judged (laneOf o) (askOf ls o) noStatus cs
 unfoldable pub linesOf : List Line → List (List Call) → List Line
 linesOf ls [] = ls
 linesOf ls (p ∷ ps) = linesOf (ls ++ (lineOf ls p ∷ [])) ps
+
+-- lane k with its lines, as the calls of its open payment say: idle if there are none, "with nothing remembered"; else waiting or
+-- running, with what its opening asked and what is remembered of the calls since
+unfoldable pub Says : ℕ → Own → List Call → Type 0
+Says k w [] = w .lane ≡ idleLane
+Says k w (o ∷ ds) =
+    (laneOf o ≡ k) × Begins (o ∷ ds) × (isIdle (w .lane .phase) ≡ false) × (runningLane (w .lane) ≡ askedLane (askOf (w .lines) o) (recalled noStatus ds))

@@ -25,13 +25,13 @@ use Rattle.course.specs.Lanes.{waitingLane}
 use Rattle.course.specs.Commands.{saleBytes, refundBytes, reversalBytes}
 use Rattle.course.specs.Course.{no, isIdle, heard, lostBy, isApproved, isSale, lastLine, Ask, openedBy, Call, sale, refund, reversal, message, lost, laneOf, opens, moves, answered, writes}
 use Rattle.course.specs.Desk.{laneAt, place, places, load, refuse, accept, unlessRefused, decide}
-use Rattle.course.specs.Memory.{linesOfDesk, view, Valid, movedDesk, refusedAnswer, answerOf, leavesOf}
+use Rattle.course.specs.Memory.{linesOfDesk, view, laneFor, Valid, movedDesk, refusedAnswer, answerOf, leavesOf}
 use Rattle.course.specs.Payments.{askOf}
 use Rattle.desk.specs.Opening.{openingNumber, openAnswer, openLeaves}
 use Rattle.course.proofs.Moved.{the-type}
 use Rattle.course.proofs.Calls.{Passes, askedFor, opened}
 use Rattle.course.proofs.Lanes.{passing}
-use Rattle.course.proofs.Memory.{place-idle, place-open, place-in, load-is, laneFor, moveOf, taken, refused-same, accepted-answer, refused-leaves, accepted-leaves}
+use Rattle.course.proofs.Memory.{place-idle, place-open, place-in, load-is, moveOf, taken, refused-same, accepted-answer, refused-leaves, accepted-leaves}
 
 -- ---- the number of an opening: 12, 13, 16, 17, 18, 11, or 0 for none
 

@@ -26,14 +26,10 @@ use Rattle.course.specs.declared.Answer.{Answer}
 use Rattle.course.specs.declared.Reply.the-variants.{Written, Refused}
 use Rattle.course.specs.Course.{isIdle, Call, writes}
 use Rattle.course.specs.Desk.{laneAt, place, places, Decision, refuse, accept, decide}
-use Rattle.course.specs.Memory.{freshDesk, view, Valid, refusedAnswer, answerOf, leavesOf, closeAnswer}
-use Rattle.course.proofs.Rows.{phaseAt}
-use Rattle.course.proofs.Memory.{place-idle, place-in, refused-same, accepted-answer, laneFor, refused-leaves, accepted-leaves}
+use Rattle.course.specs.Memory.{freshDesk, view, laneFor, Valid, refusedAnswer, answerOf, leavesOf, closeAnswer}
+use Rattle.course.proofs.Memory.{place-idle, place-in, refused-same, accepted-answer, refused-leaves, accepted-leaves}
+use Rattle.promises.specs.Answers.{number, Refuses, Takes, Open}
 use Rattle.promises.proofs.ReadTable.{No}
-
--- "Each refusal returns its number only"
-abbrev pub number : ℕ → Refusal
-number n = record { number = n }
 
 -- ---- a reading that is answered by a map of its own, which keeps refusals apart
 pub record Maps {A X : Type 0} (say : Reading A → X) (refuser : Refusal → X) : Type 0 where
@@ -87,11 +83,6 @@ short-beyond s out k = go (shortened (length out) s)
     go (refused f) e = absurd (let z : _≡_ {A = ℕ} 0 1 = cc in omega arith)
 
 -- ---- a call of the desk
-abbrev pub Refuses : Answer → ℕ → Type 0
-Refuses a n = a .reply ≡ Refused (number n)
-
-abbrev pub Takes : Answer → Type 0
-Takes a = (k : ℕ) × (a .reply ≡ Written k)
 
 -- a reply is one of the two, with one number
 pub apart : {k : ℕ} {r : Refusal} → Written k ≡ Refused r → ⊥
@@ -142,9 +133,6 @@ module _ (d : Desk) (c : Call) (out : List ℕ) where
         ap (drop k) (accepted-leaves d c out taken) ∙ drop-at w (drop (length w) out) k size ∙ ap (λ (n : ℕ). drop n out) size
 
 -- ---- closing
-unfoldable pub Open : Desk → Type 0
-Open d = (i : ℕ) × (i < 8) × (phaseAt (view d) i ≡ Idle → ⊥)
-
 idle-same : (p : Phase) → isIdle p ≡ true → p ≡ Idle
 unfolding isIdle
 idle-same Idle e = refl

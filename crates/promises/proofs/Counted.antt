@@ -20,15 +20,10 @@ use Rattle.course.specs.declared.Line.{Line}
 use Rattle.course.specs.declared.Moved.{Moved}
 use Rattle.course.specs.Lanes.{noStatus, lineAt}
 use Rattle.course.specs.Course.{pairIs, amountBy, isReversal, settledAs, completedBy, abortedBy, Ask, Call, sale, refund, reversal, message, lost, laneOf}
-use Rattle.course.specs.Payments.{askOf, orElse, remembered, verdictOf, verdict, askedLane, lineBy, judged, lineOf}
-use Rattle.course.proofs.Payment.{recalled}
+use Rattle.course.specs.Payments.{askOf, orElse, remembered, recalled, verdictOf, verdict, askedLane, lineBy, judged, lineOf}
+use Rattle.promises.specs.Counted.{Completes, Silent, AllSilent, Reported, Counted}
 
 -- ---- the last call: 06 0F
-pub record Completes (s : List ℕ) : Type 0 where
-  pub message : Message
-  pub reads : readOf s ≡ got message
-  pub class : message .class ≡ 0x06
-  pub instruction : message .instruction ≡ 0x0F
 
 -- what a line of a lane says, if it is approved
 abbrev Settled : Lane → Line → Type 0
@@ -75,23 +70,6 @@ message-tells i l s (got m) e =
 
 -- ---- the last of the reports before it
 
--- a call that reports no code
-abbrev pub Silent : Call → Type 0
-Silent c = (st : Status) → remembered st c ≡ st
-
-unfoldable pub AllSilent : List Call → Type 0
-AllSilent [] = Unit {0}
-AllSilent (c ∷ cs) = Silent c × AllSilent cs
-
--- the report that is remembered of those calls
-pub record Reported (cs : List Call) : Type 0 where
-  pub before : List Call
-  pub lane : ℕ
-  pub report : List ℕ
-  pub after : List Call
-  pub calls : cs ≡ before ++ (message lane report ∷ after)
-  pub silent : AllSilent after
-
 reports : (st : Status) (c : Call) → Silent c ⊎ ((i : ℕ) × (s : List ℕ) × (c ≡ message i s) × (remembered st c ≡ statusOf s))
 unfolding remembered orElse
 reports st (sale i amount) = inl (λ _. refl)
@@ -128,16 +106,6 @@ last-report (c ∷ cs) st = ⊎-elim quiet later (last-report cs (remembered st 
         (reports st c)
 
 -- ---- both together
-pub record Counted (ls : List Line) (p : List Call) : Type 0 where
-  pub opening : Call
-  pub reported : List Call
-  pub lane : ℕ
-  pub completion : List ℕ
-  pub calls : p ≡ opening ∷ (reported ++ (message lane completion ∷ []))
-  pub completes : Completes completion
-  pub report : Reported reported
-  pub code : statusOf (report .report) .code ≡ Code 0
-  pub settled : lineOf ls p .settled ≡ amountBy (statusOf (report .report) .amount) (askOf ls opening .asked)
 
 -- the last call of those that an approved line is judged by
 record Judged (i : ℕ) (a : Ask) (st : Status) (cs : List Call) : Type 0 where

@@ -18,19 +18,17 @@ use Rattle.zvt.specs.Writing.{shortenAnswer, shortenLeaves}
 use Rattle.course.specs.declared.Phase.the-variants.{Idle, Running}
 use Rattle.course.specs.declared.Desk.{Desk}
 use Rattle.course.specs.declared.Reply.the-variants.{Written}
-use Rattle.course.specs.Course.{Call, sale, refund, reversal, message, lost, laneOf, opens}
+use Rattle.course.specs.Course.{Call, sale, refund, reversal, message, lost, laneOf, opens, NumbersFit}
 use Rattle.course.specs.Desk.{load}
+use Rattle.course.specs.Table.{phaseAt, phaseOf, LastIsSale, Within, ToReverse, commandSize, Ready, Allowed, GoodHeader, GoodBody, Unread, Heard}
 use Rattle.course.specs.Memory.{freshDesk, view, Valid, answerOf, leavesOf, closeAnswer}
-use Rattle.course.proofs.LastSale.{LastIsSale}
-use Rattle.course.proofs.Rows.{phaseAt, phaseOf, Within, ToReverse, commandSize, Ready, Allowed}
-use Rattle.course.proofs.Refusals.{GoodHeader, GoodBody, Unread, Heard}
 use Rattle.course.proofs.Refusals as table
-use Rattle.course.proofs.Amounts.{NumbersFit}
 use Rattle.course.proofs.Memory as memory
 use Rattle.promises.specs.ReadRows.{WholeNo, ReadNo, FirstNo, ShortNo}
+use Rattle.promises.specs.Answers.{number, Refuses, Takes, Open}
 use Rattle.promises.proofs.ReadTable.{whole-no, read-no, first-no, short-no}
-use Rattle.promises.proofs.Answers.{number, header-says, read-says, first-says, short-says, short-leaves, short-beyond}
-use Rattle.promises.proofs.Answers.{Refuses, Takes, decided-no, decided-yes, call-same, call-beyond, Open, closing-no, closing-yes, closing-same}
+use Rattle.promises.proofs.Answers.{header-says, read-says, first-says, short-says, short-leaves, short-beyond}
+use Rattle.promises.proofs.Answers.{decided-no, decided-yes, call-same, call-beyond, closing-no, closing-yes, closing-same}
 
 -- ---- reading and shortening: "header, body, 11"
 

@@ -26,15 +26,13 @@ use Rattle.zvt.specs.Name.{nameAt, cardName, namePlace}
 use Rattle.course.specs.declared.Desk.{Desk}
 use Rattle.course.specs.declared.Reply.the-variants.{Written}
 use Rattle.course.specs.Numbers.{amountOk, receiptOk, passwordOk}
-use Rattle.course.specs.Commands.{saleCommand, refundCommand, reversalCommand, saleBytes, refundBytes, reversalBytes, replyBytes}
+use Rattle.course.specs.Commands.{FieldIs, MoneyIs, saleCommand, refundCommand, reversalCommand, saleBytes, refundBytes, reversalBytes, replyBytes}
 use Rattle.course.specs.Course.{Call, writes}
-use Rattle.course.specs.Memory.{answerOf, leavesOf}
-use Rattle.course.proofs.Commands.{FieldIs, MoneyIs}
+use Rattle.course.specs.Memory.{laneFor, answerOf, leavesOf}
 use Rattle.course.proofs.Commands as commands
-use Rattle.course.proofs.Memory.{laneFor}
-use Rattle.promises.specs.Names.{shownName}
+use Rattle.promises.specs.Names.{shownName, InMessage}
 use Rattle.promises.proofs.Answers.{call-wrote}
-use Rattle.promises.proofs.NameTable.{InMessage, shown, name-lies}
+use Rattle.promises.proofs.NameTable.{shown, name-lies}
 
 -- ---- "read .. as PA00P015 13.11 lays them out"
 

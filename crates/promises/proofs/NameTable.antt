@@ -22,7 +22,7 @@ use Rattle.zvt.specs.declared.ListPlace.the-variants.{Nowhere, Between}
 use Rattle.zvt.proofs.PlaceLaws.{StatusIn, status-at, status-nowhere}
 use Rattle.zvt.proofs.ValueLaws.{not-here, is-here}
 use Rattle.zvt.proofs.NameLaws.{name-begins, name-stands, own-name, part-name}
-use Rattle.promises.specs.Names.{orOwn, shownName}
+use Rattle.promises.specs.Names.{orOwn, shownName, InMessage}
 
 -- ---- the list has no field 8B, or its value stands in the message
 abbrev value : List ℕ → Found
@@ -91,10 +91,6 @@ inside : (s : List ℕ) (a e : ℕ) → Bytes s → nameAt s ≡ between a e →
 inside s a e b q =
     ⊎-elim (λ k. absurd (let r : own ≡ between a e = sym (k .1) ∙ q in let z : _≡_ {A = ℕ} 0 1 = cc in omega arith)) (λ w. sized-inside s w a e q)
     (with-or-without s b)
-
--- in the message, which begins at p
-abbrev pub InMessage : List ℕ → List ℕ → ℕ × ℕ → ℕ × ℕ → Type 0
-InMessage s name p at = (a : ℕ) × (e : ℕ) × (e ≤ length s) × (name ≡ part a e s) × (at ≡ (p .0, a + p .1))
 
 pub name-lies : (s till : List ℕ) (p q : ℕ × ℕ) → Bytes s
     → InMessage s (cardName s till) p (namePlace p q (nameAt s)) ⊎ ((cardName s till ≡ till) × (namePlace p q (nameAt s) ≡ q))

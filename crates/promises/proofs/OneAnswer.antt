@@ -12,25 +12,11 @@ use Rattle.blocks.proofs as blocks
 use Rattle.tape.proofs as tape
 use Rattle.listing.proofs as listing
 use Rattle.listing.specs.Text.{Text}
-
--- a statement of the answer and of what was lent, at exit: any two answers that it admits are the same, and any two contents
-pub record Only {A E X Y : Type 0} (answer : A → X) (lent : E → Y) (states : A → E → Type 0) : Type 0 where
-  pub one : (r r′ : A) (e e′ : E) → states r e → states r′ e′ → (answer r ≡ answer r′) × (lent e ≡ lent e′)
+use Rattle.promises.specs.OneAnswer.{Only, whole, placed, nothing}
 
 only : {A E X Y : Type 0} {answer : A → X} {lent : E → Y} {states : A → E → Type 0} (x : X) (y : Y)
     → ((r : A) (e : E) → states r e → (answer r ≡ x) × (lent e ≡ y)) → Only answer lent states
 only x y h = record { one = λ r r′ e e′ s s′. (h r e s .0 ∙ sym (h r′ e′ s′ .0), h r e s .1 ∙ sym (h r′ e′ s′ .1)) }
-
--- the answer itself; of a part of a slice, where it lies and its bytes
-abbrev pub whole : {A : Type 0} → A → A
-whole r = r
-
-abbrev pub placed : RefT (List ℕ) → (ℕ × ℕ) × List ℕ
-placed r = (r .ptr, now r)
-
--- no memory is lent, or only to be read
-abbrev pub nothing : {E : Type 0} → E → Unit {0}
-nothing e = tt
 
 -- ---- the reader
 pub read-header-one : (κs : _) (a : _) → Only whole nothing (zvt.read_header.Reads.Learnt κs a)

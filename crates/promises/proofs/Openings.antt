@@ -5,16 +5,14 @@ use mathlib.Core.Logic.{_⊎_, ⊎-elim}
 use mathlib.Core.List.{List, [], _∷_, _++_}
 use Prim.Native.Nat.{ℕ, suc, _+_, _<_}
 use native.Mathlib.Omega.{arith}
-use lib.ListN.{length, getD, length-append}
+use lib.ListN.{length, getD}
 use lib.Dec.{eqb}
 use Rattle.messages.specs.Reading.{pick}
-use Rattle.course.specs.declared.Line.{Line}
 use Rattle.course.specs.Course.{Call, laneOf, opens}
 use Rattle.course.specs.Desk.{fresh, Accepted}
-use Rattle.course.specs.Payments.{paymentsOf, joined, lineOf, linesOf}
-use Rattle.course.proofs.Lanes.{having, total, callsOf, opening-is}
-use Rattle.course.proofs.Runs.{openings}
-use Rattle.course.proofs.Payment.{Begins}
+use Rattle.course.specs.Runs.{having, callsOf, total, openings}
+use Rattle.course.specs.Payments.{paymentsOf, joined, Begins}
+use Rattle.course.proofs.Lanes.{opening-is}
 use Rattle.course.proofs.DayBook.{every-opening}
 use Rattle.promises.specs.Days.{openingsIn, firsts}
 
@@ -73,11 +71,6 @@ joined-firsts ([] ∷ ps) h = absurd (h .0)
 joined-firsts ((o ∷ ds) ∷ ps) h =
     let k = joined-firsts ps (h .1) in
     (openings-append (o ∷ ds) (joined ps) ∙ ap₂ (λ (xs ys : List Call). xs ++ ys) (payment-first (o ∷ ds) (h .0)) (k .0), omega (arith, k .1))
-
-pub lines-length : (ls : List Line) (ps : List (List Call)) → length (linesOf ls ps) ≡ length ls + length ps
-unfolding linesOf
-lines-length ls [] = omega arith
-lines-length ls (p ∷ ps) = omega (arith, lines-length (ls ++ (lineOf ls p ∷ [])) ps, length-append ls (lineOf ls p ∷ []))
 
 -- ---- one by one
 module _ (cs : List Call) (h : Accepted fresh cs) where

@@ -12,56 +12,54 @@ use Rattle.course.specs.Lanes.{blankLine}
 use Rattle.course.specs.Course.{Call, laneOf}
 use Rattle.course.specs.Desk.{State, laneAt, Decision, refuse, accept, decide}
 use Rattle.course.specs.Memory.{freshDesk, linesOfDesk, view, Valid, refusedAnswer, answerOf}
-use Rattle.course.specs.Payments.{paymentsOf, lineOf}
-use Rattle.course.proofs.Lanes.{ofLane, callsOf, isolation}
-use Rattle.course.proofs.DayBook.{Whole, line-of}
+use Rattle.course.specs.Runs.{ofLane, callsOf}
+use Rattle.course.specs.Payments.{paymentsOf, Whole, lineOf}
+use Rattle.course.proofs.Lanes.{isolation}
+use Rattle.course.proofs.DayBook.{lines-length, line-of}
 use Rattle.course.proofs.DayBook as book
 use Rattle.course.proofs.Memory.{refused-same, follows}
-use Rattle.promises.specs.Days.{Turn, callsIn, OfBytes, Taken, openingsIn, firsts}
-use Rattle.promises.proofs.Turns.{Day, a-day, of-desk}
-use Rattle.promises.proofs.Counted.{Counted, counted}
-use Rattle.promises.proofs.Openings.{lines-length, ended-firsts, one-by-one}
-use Rattle.promises.proofs.DemandThree.{atEnd, every-line}
+use Rattle.promises.specs.Days.{Turn, callsIn, OfBytes, Taken, linesIn, openingsIn, firsts}
+use Rattle.promises.specs.Counted.{Counted}
+use Rattle.promises.proofs.Turns.{a-day, of-desk}
+use Rattle.promises.proofs.Counted.{counted}
+use Rattle.promises.proofs.Openings.{ended-firsts, one-by-one}
+use Rattle.promises.proofs.DemandThree.{every-line}
 
 module _ (day : List Turn) (b : OfBytes (callsIn day)) (t : Taken freshDesk day) where
-  abbrev calls : List Call
-  calls = callsIn day
-
-  abbrev lines : List Line
-  lines = linesOfDesk (atEnd day)
-
-  its : Day day
-  its = a-day day b t
-
   -- line j is judged by the calls of payment j
-  by-payment : (j : ℕ) → j < length lines → getD lines j blankLine ≡ lineOf (take j lines) (getD (paymentsOf calls .ended) j [])
+  by-payment : (j : ℕ) → j < length (linesIn day) → let p = getD (paymentsOf (callsIn day) .ended) j [] in
+      getD (linesIn day) j blankLine ≡ lineOf (take j (linesIn day)) p
   unfolding view
   by-payment =
+      let its = a-day day b t in
       of-desk
-      (λ (s : State). (j : ℕ) → j < length (s .lines)
-      → getD (s .lines) j blankLine ≡ lineOf (take j (s .lines)) (getD (paymentsOf calls .ended) j [])) day its (line-of calls (its .accepted))
+      (λ (s : State). (j : ℕ) → j < length (s .lines) → let p = getD (paymentsOf (callsIn day) .ended) j [] in
+      getD (s .lines) j blankLine ≡ lineOf (take j (s .lines)) p) day its (line-of (callsIn day) (its .accepted))
 
   -- "Which bytes from a terminal made you count this sale?" Line j is made by the calls of the j-th payment that ended, which are all of
   -- one lane and begin with its opening; and if it is approved, by a report of code 00, the last that this payment had, and a completion.
-  pub which-bytes : (j : ℕ) → j < length lines → let p = getD (paymentsOf calls .ended) j [] in
-      (getD lines j blankLine ≡ lineOf (take j lines) p) × Whole p × (getD lines j blankLine .outcome ≡ Approved → Counted (take j lines) p)
+  pub which-bytes : (j : ℕ) → j < length (linesIn day) → let p = getD (paymentsOf (callsIn day) .ended) j [] in
+      let line = getD (linesIn day) j blankLine in
+      (line ≡ lineOf (take j (linesIn day)) p) × Whole p × (line .outcome ≡ Approved → Counted (take j (linesIn day)) p)
   which-bytes j l =
       let e = by-payment j l in
       let few = ap length (every-line day b t) in
-      let all = lines-length [] (paymentsOf calls .ended) in (
+      let all = lines-length [] (paymentsOf (callsIn day) .ended) in (
         e,
-        book.every-opening calls (its .accepted) .ended j (omega (arith, l)),
-        λ a. counted (take j lines) _ (ap (λ (x : Line). x .outcome) (sym e) ∙ a),
+        book.every-opening (callsIn day) (a-day day b t .accepted) .ended j (omega (arith, l)),
+        λ a. counted (take j (linesIn day)) _ (ap (λ (x : Line). x .outcome) (sym e) ∙ a),
       )
 
   -- "Can a payment begin and leave no line at all?" The openings of a lane are, one by one and in order, the first calls of its payments: of
   -- those that ended, of which there are as many as lines, and of the one that is still open.
-  pub no-payment-lost : (length (firsts (paymentsOf calls .ended)) ≡ length lines)
-      × ((k : ℕ) → callsOf k (openingsIn calls) ≡ callsOf k (firsts (paymentsOf calls .ended)) ++ firsts (getD (paymentsOf calls .ongoing) k [] ∷ []))
+  pub no-payment-lost : let payments = paymentsOf (callsIn day) in
+      (length (firsts (payments .ended)) ≡ length (linesIn day))
+      × ((k : ℕ) → callsOf k (openingsIn (callsIn day)) ≡ callsOf k (firsts (payments .ended)) ++ firsts (getD (payments .ongoing) k [] ∷ []))
   no-payment-lost =
+      let accepted = a-day day b t .accepted in
       let few = ap length (every-line day b t) in
-      let all = lines-length [] (paymentsOf calls .ended) in
-      (omega (arith, ended-firsts calls (its .accepted)), one-by-one calls (its .accepted))
+      let all = lines-length [] (paymentsOf (callsIn day) .ended) in
+      (omega (arith, ended-firsts (callsIn day) accepted), one-by-one (callsIn day) accepted)
 
 -- "If two terminals talk at once, can one customer's answer land on the other's line?" A call for one lane changes no other lane, and none
 -- of the lines of another lane.

@@ -16,11 +16,13 @@ use Rattle.course.specs.declared.Reply.{Reply}
 use Rattle.course.specs.Course.{Call, sale, refund, reversal, message, lost, laneOf, opens, moves, answered, writes}
 use Rattle.course.specs.Desk.{State, fresh, laneAt, load, accept, decide, Accepts, Accepted, run, wrote}
 use Rattle.course.specs.Memory.{freshDesk, view, Valid, answerOf, leavesOf}
+use Rattle.course.specs.Runs.{having, replies}
 use Rattle.course.specs.Payments.{Payments, ends, withCall, paymentsFrom, paymentsOf, joined, oneByOne}
 use Rattle.course.proofs.Commands.{sale-size, refund-size, reversal-size}
 use Rattle.course.proofs.Lanes.{told, tell, passing}
+use Rattle.course.proofs.Runs.{repliesTo}
 use Rattle.course.proofs.Memory.{taken, follows, fresh-valid, answer-valid, view-fresh}
-use Rattle.promises.specs.Days.{Turn, callsIn, buffer, roomy, OfBytes, answerIn, Taken, deskAfter, bytesBy, written}
+use Rattle.promises.specs.Days.{Turn, callsIn, buffer, roomy, OfBytes, answerIn, Taken, deskAfter, bytesBy, written, repliesAt}
 use Rattle.promises.proofs.Answers.{decided-yes, call-wrote}
 
 -- ---- an accepted call is one of the course
@@ -189,3 +191,8 @@ as-a-day cs b h = can cs freshDesk fresh-valid b (subst (λ (s : State). Accepte
 -- what holds of the state that the course leaves holds of the desk
 pub of-desk : (P : State → Type 0) (day : List Turn) → Day day → P (run fresh (callsIn day)) → P (view (deskAfter freshDesk day))
 of-desk P day g h = subst P (sym (g .leaves)) h
+
+-- and each call wrote what the course says
+pub replies-same : (k : ℕ) (day : List Turn) → Day day → repliesAt k day ≡ repliesTo k fresh (callsIn day)
+unfolding repliesTo
+replies-same k day g = ap (λ (ws : List (List ℕ)). having (λ r. laneOf (r .call)) k (replies (callsIn day) ws)) (g .wrote-same)

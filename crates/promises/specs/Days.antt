@@ -1,17 +1,19 @@
 -- A day at the desk: calls one after another, each with the buffer that it is lent, answered as the functions' contracts state.
 -- Definitions only.
-use mathlib.Core.Path.{_≡_}
 use Prim.Native.Nat.{ℕ}
 use mathlib.Core.List.{List, [], _∷_}
 use lib.ListN.{length, take, replicate}
+use Rattle.messages.specs.Reading.{pick}
 use Rattle.course.specs.declared.Desk.{Desk}
 use Rattle.course.specs.declared.Reply.{Reply}
 use Rattle.course.specs.declared.Reply.the-variants.{Written, Refused}
 use Rattle.course.specs.declared.Answer.{Answer}
-use Rattle.messages.specs.Reading.{pick}
-use Rattle.course.specs.Course.{Call, opens}
-use Rattle.course.specs.Memory.{answerOf, leavesOf}
-use Rattle.course.proofs.Amounts.{NumbersFit}
+use Rattle.course.specs.declared.Line.{Line}
+use Rattle.course.specs.Course.{Call, laneOf, opens, NumbersFit}
+use Rattle.course.specs.Memory.{freshDesk, linesOfDesk, answerOf, leavesOf}
+use Rattle.course.specs.Runs.{having, Exchange, replies}
+use Rattle.course.specs.Payments.{oneByOne}
+use Rattle.promises.specs.Answers.{Takes}
 
 -- a call, and what it is lent for its command or reply; a lost link needs none
 pub record Turn : Type 0 where
@@ -38,10 +40,10 @@ OfBytes (c ∷ cs) = NumbersFit c × OfBytes cs
 abbrev pub answerIn : Desk → Turn → Answer
 answerIn d t = answerOf d (t .call) (length (t .out))
 
--- every call is accepted: its answer says how many bytes were written
+-- every call is taken
 unfoldable pub Taken : Desk → List Turn → Type 0
 Taken d [] = Unit {0}
-Taken d (t ∷ ts) = ((k : ℕ) × (answerIn d t .reply ≡ Written k)) × Taken (answerIn d t .desk) ts
+Taken d (t ∷ ts) = Takes (answerIn d t) × Taken (answerIn d t .desk) ts
 
 -- the desk that is left
 unfoldable pub deskAfter : Desk → List Turn → Desk
@@ -66,3 +68,20 @@ unfoldable pub firsts : List (List Call) → List Call
 firsts [] = []
 firsts ([] ∷ ps) = firsts ps
 firsts ((c ∷ cs) ∷ ps) = c ∷ firsts ps
+
+-- ---- a day from a fresh book
+
+-- the desk at its end, and the lines of the book then
+abbrev pub atEnd : List Turn → Desk
+atEnd day = deskAfter freshDesk day
+
+abbrev pub linesIn : List Turn → List Line
+linesIn day = linesOfDesk (atEnd day)
+
+-- the calls of lane k in their order, each with what it wrote
+abbrev pub repliesAt : ℕ → List Turn → List Exchange
+repliesAt k day = having (λ r. laneOf (r .call)) k (replies (callsIn day) (written freshDesk day))
+
+-- the third demand: "another run from a fresh book, each payment's calls in their own order", with room enough
+abbrev pub otherDay : List Turn → List Turn
+otherDay day = roomy (oneByOne (callsIn day))

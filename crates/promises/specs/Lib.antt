@@ -3,6 +3,10 @@
 -- files.
 pub mod Cases
 pub mod Asking
+-- what the desk answers, what an approved line is counted by, and what one answer of a function is
+pub mod Answers
+pub mod Counted
+pub mod OneAnswer
 pub mod ReadRows
 pub mod TapeRows
 pub mod Names

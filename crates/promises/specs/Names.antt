@@ -1,6 +1,9 @@
 -- Document 01, 'Data objects': the name on a receipt, from the fields of a status information. Definitions only.
-use Prim.Native.Nat.{ℕ}
+use mathlib.Core.Path.{_≡_}
+use Prim.Native.Nat.{ℕ, _+_, _≤_}
 use mathlib.Core.List.{List, [], _∷_}
+use lib.ListN.{length}
+use Rattle.messages.specs.Reading.{part}
 use Rattle.messages.specs.Values.{Found, missing, found}
 use Rattle.zvt.specs.Name.{upToZero}
 
@@ -13,3 +16,7 @@ orOwn (b ∷ s) till = b ∷ s
 unfoldable pub shownName : Found → List ℕ → List ℕ
 shownName missing till = till
 shownName (found value) till = orOwn (upToZero value) till
+
+-- "the part handed back lies in the status information": the name is a part of the bytes s, which begin at p, and stands there
+abbrev pub InMessage : List ℕ → List ℕ → ℕ × ℕ → ℕ × ℕ → Type 0
+InMessage s name p at = (a : ℕ) × (e : ℕ) × (e ≤ length s) × (name ≡ part a e s) × (at ≡ (p .0, a + p .1))

@@ -1,7 +1,7 @@
 -- Every call leaves a valid desk. Assumes nothing.
 use native.Mathlib.Omega.{arith}
 use Rattle.messages.specs.Grammar.{Bytes}
-use Rattle.course.proofs.Amounts.{NumbersFit}
+use Rattle.course.specs.Course.{NumbersFit}
 use Rattle.blocks.proofs.Taping.{taped-valid, close-taped-valid}
 use borrow.Author.Needs.{needs}
 use Rattle.script.proofs.turns.called.Statement.{statement}

@@ -1,0 +1,26 @@
+-- What an answer of the desk says: refused with a number, or taken. Definitions only.
+use mathlib.Core.Path.{_≡_}
+use Prim.Native.Nat.{ℕ, _<_}
+use Rattle.messages.specs.declared.Refusal.{Refusal}
+use Rattle.course.specs.declared.Phase.the-variants.{Idle}
+use Rattle.course.specs.declared.Desk.{Desk}
+use Rattle.course.specs.declared.Answer.{Answer}
+use Rattle.course.specs.declared.Reply.the-variants.{Written, Refused}
+use Rattle.course.specs.Table.{phaseAt}
+use Rattle.course.specs.Memory.{view}
+
+-- "Each refusal returns its number only"
+abbrev pub number : ℕ → Refusal
+number n = record { number = n }
+
+-- a call is refused with that number
+abbrev pub Refuses : Answer → ℕ → Type 0
+Refuses a n = a .reply ≡ Refused (number n)
+
+-- a call is taken: its answer says how many bytes were written
+abbrev pub Takes : Answer → Type 0
+Takes a = (k : ℕ) × (a .reply ≡ Written k)
+
+-- "19 a payment is open at closing": a lane is waiting or running
+unfoldable pub Open : Desk → Type 0
+Open d = (i : ℕ) × (i < 8) × (phaseAt (view d) i ≡ Idle → ⊥)
