@@ -62,6 +62,9 @@ pub every-call-ends : {M : Type 1}
     × listing.text.add_all.Statement.statement M
     × listing.text.add_hex.Statement.statement M
     × listing.text.add_decimal.Statement.statement M
+    × listing.text.add_bytes.Statement.statement M
+    × listing.text.hex_value.Statement.statement M
+    × listing.text.fill.Statement.statement M
 every-call-ends = (
   zvt.read_header.Met.met,
   zvt.read.Met.met,
@@ -114,6 +117,9 @@ every-call-ends = (
   listing.text.add_all.Met.met,
   listing.text.add_hex.Met.met,
   listing.text.add_decimal.Met.met,
+  listing.text.add_bytes.Met.met,
+  listing.text.hex_value.Met.met,
+  listing.text.fill.Met.met,
 )
 
 -- No function but those over a desk asks anything of its caller; those ask that the desk is one that these functions gave out.
@@ -169,7 +175,13 @@ pub nothing-to-test :
     × ((κs : _) (a : _) → listing.text.add_all.Reads.Asked κs a ≡ Unit {0})
     × ((κs : _) (a : _) → listing.text.add_hex.Reads.Asked κs a ≡ Unit {0})
     × ((κs : _) (a : _) → listing.text.add_decimal.Reads.Asked κs a ≡ Unit {0})
+    × ((κs : _) (a : _) → listing.text.add_bytes.Reads.Asked κs a ≡ Unit {0})
+    × ((κs : _) (a : _) → listing.text.hex_value.Reads.Asked κs a ≡ Unit {0})
+    × ((κs : _) (a : _) → listing.text.fill.Reads.Asked κs a ≡ Unit {0})
 nothing-to-test = (
+  λ κs a. refl,
+  λ κs a. refl,
+  λ κs a. refl,
   λ κs a. refl,
   λ κs a. refl,
   λ κs a. refl,

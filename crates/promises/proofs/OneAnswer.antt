@@ -4,7 +4,7 @@
 use mathlib.Core.Path.{_≡_, refl, sym, ap, ap₂, _∙_}
 use Prim.Native.Nat.{ℕ}
 use mathlib.Core.List.{List}
-use denote.Ref.{RefT, now}
+use denote.Ref.{now}
 use Rattle.zvt.proofs as zvt
 use Rattle.desk.proofs as desk
 use Rattle.course.proofs as course
@@ -12,7 +12,7 @@ use Rattle.blocks.proofs as blocks
 use Rattle.tape.proofs as tape
 use Rattle.listing.proofs as listing
 use Rattle.listing.specs.Text.{Text}
-use Rattle.promises.specs.OneAnswer.{Only, whole, placed, nothing}
+use Rattle.promises.specs.OneAnswer.{Only, whole, placed, nothing, contents}
 
 only : {A E X Y : Type 0} {answer : A → X} {lent : E → Y} {states : A → E → Type 0} (x : X) (y : Y)
     → ((r : A) (e : E) → states r e → (answer r ≡ x) × (lent e ≡ y)) → Only answer lent states
@@ -127,10 +127,7 @@ block-at-end-one κs a = only _ _ (λ r e h. (h, refl))
 pub taped-fresh-one : (κs : _) (a : _) → Only whole nothing (blocks.Taped.fresh.Reads.Learnt κs a)
 taped-fresh-one κs a = only _ _ (λ r e h. (h, refl))
 
--- ---- the tape: where two buffers are lent, the one content is the pair of them
-abbrev pub contents : RefT (List ℕ) → RefT (List ℕ) → List ℕ × List ℕ
-contents out tape = (now out, now tape)
-
+-- ---- the tape
 both : {o o′ t t′ : List ℕ} → o ≡ o′ → t ≡ t′ → _≡_ {A = List ℕ × List ℕ} (o, t) (o′, t′)
 both = ap₂ (λ (o t : List ℕ). (o, t))
 
@@ -186,3 +183,12 @@ text-add-hex-one κs a = only _ _ (λ r e h. (ap (λ (t : Text). t .at) h, ap (�
 
 pub text-add-decimal-one : (κs : _) (a : _) → Only whole (λ e. now (e .1 .1 .0)) (listing.text.add_decimal.Reads.Learnt κs a)
 text-add-decimal-one κs a = only _ _ (λ r e h. (ap (λ (t : Text). t .at) h, ap (λ (t : Text). t .bytes) h))
+
+pub text-add-bytes-one : (κs : _) (a : _) → Only whole (λ e. now (e .1 .1 .0)) (listing.text.add_bytes.Reads.Learnt κs a)
+text-add-bytes-one κs a = only _ _ (λ r e h. (ap (λ (t : Text). t .at) h, ap (λ (t : Text). t .bytes) h))
+
+pub text-hex-value-one : (κs : _) (a : _) → Only whole nothing (listing.text.hex_value.Reads.Learnt κs a)
+text-hex-value-one κs a = only _ _ (λ r e h. (h, refl))
+
+pub text-fill-one : (κs : _) (a : _) → Only nothing (λ e. now (e .1 .0)) (listing.text.fill.Reads.Learnt κs a)
+text-fill-one κs a = only _ _ (λ r e h. (refl, h))

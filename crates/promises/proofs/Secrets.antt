@@ -24,10 +24,9 @@ use Rattle.course.specs.declared.Phase.the-variants.{Idle, Waiting, Running}
 use Rattle.course.specs.declared.Lane.{Lane}
 use Rattle.course.specs.declared.Line.{Line}
 use Rattle.course.specs.Commands.{saleCommand, refundCommand, reversalCommand, saleBytes, refundBytes, reversalBytes}
-use Rattle.course.specs.Course.{openedBy, Call, sale, refund, reversal, message, lost, laneOf, opens, moves, answered, writes}
+use Rattle.course.specs.Course.{openedBy, Call, sale, refund, reversal, message, lost, laneOf, opens, moves, answered, writes, NumbersFit}
 use Rattle.course.specs.Desk.{State, laneAt, Decision, refuse, accept, decide, step, Accepts, Accepted}
 use Rattle.course.specs.Memory.{linesOfDesk, view, answerBy}
-use Rattle.course.proofs.Amounts.{NumbersFit}
 use Rattle.course.proofs.Commands.{refund-size, reversal-size, sale-reads, refund-reads, reversal-reads}
 use Rattle.blocks.specs.declared.Taped.{Taped}
 use Rattle.blocks.specs.Records.{secret, maskField, maskList, maskBody, maskMessage, masked, HiddenBody, Hidden, Record, replyEntry, entriesBy, entriesOf}

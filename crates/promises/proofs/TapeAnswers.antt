@@ -10,11 +10,10 @@ use lib.Dec.{ltb}
 use borrow.Author.Tests.{lt-ltb, le-ltb, ltb-true}
 use Rattle.messages.specs.Reading.{Reading, got, refused}
 use Rattle.course.specs.declared.Reply.the-variants.{Written, Refused}
-use Rattle.course.specs.Course.{Call, laneOf}
+use Rattle.course.specs.Course.{Call, laneOf, NumbersFit}
 use Rattle.course.specs.Desk.{fresh, laneAt, Decision, refuse, accept, decide, Accepted, run}
 use Rattle.course.specs.declared.Answer.{Answer}
 use Rattle.course.specs.Memory.{view, Valid, answerOf, leavesOf}
-use Rattle.course.proofs.Amounts.{NumbersFit}
 use Rattle.course.proofs.Memory.{accepted-answer, accepted-leaves}
 use Rattle.blocks.specs.declared.BlockAnswer.the-variants.{Payload, Refused as block-refused}
 use Rattle.blocks.specs.declared.Taped.{Taped}
@@ -29,7 +28,8 @@ use Rattle.promises.specs.Days.{OfBytes}
 use Rattle.promises.specs.TapeDays.{callsPlayed}
 use Rattle.promises.proofs.ReadTable.{No}
 use Rattle.promises.proofs.TapeTable.{by-test}
-use Rattle.promises.proofs.Answers.{number, reading-no, apart, same-number, Refuses, Takes, decided-no, decided-yes, Open, closing-no, closing-yes, closing-same}
+use Rattle.promises.specs.Answers.{number, Refuses, Takes, Open}
+use Rattle.promises.proofs.Answers.{reading-no, apart, same-number, decided-no, decided-yes, closing-no, closing-yes, closing-same}
 
 -- ---- what is written into a buffer
 pub written-says : (x : Reading (List ℕ)) (n : ℕ) → (writtenAnswer x ≡ Refused (number n)) ↔ No x n

@@ -15,10 +15,9 @@ use Rattle.zvt.specs.Answers.{readAnswer}
 use Rattle.zvt.specs.List.{fieldAnswer}
 use Rattle.course.specs.declared.Lane.{Lane}
 use Rattle.course.specs.declared.Reply.the-variants.{Written, Refused}
-use Rattle.course.specs.Course.{Call, heard}
+use Rattle.course.specs.Course.{Call, heard, NumbersFit}
 use Rattle.course.specs.Desk.{fresh, Accepted, run}
 use Rattle.course.specs.Memory.{view, Valid, answerOf, leavesOf}
-use Rattle.course.proofs.Amounts.{NumbersFit}
 use Rattle.blocks.specs.declared.BlockAnswer.the-variants.{Payload, Refused as block-refused}
 use Rattle.blocks.specs.declared.Taped.{Taped}
 use Rattle.blocks.specs.Block.{blockBytes, writeBlock, readBlock}
@@ -34,7 +33,7 @@ use Rattle.blocks.proofs.Taping.{taped-valid, close-taped-valid}
 use Rattle.promises.specs.Days.{OfBytes}
 use Rattle.promises.specs.TapeRows.{Outside, WriteNo, BlockNo, blocksFor, pieceAt, blockAt, TapeWriteNo, TapeNo}
 use Rattle.promises.specs.TapeDays.{callsPlayed, Hiding, AlikeDays}
-use Rattle.promises.proofs.Answers.{number as numbered, Refuses, Takes, Open}
+use Rattle.promises.specs.Answers.{number as numbered, Refuses, Takes, Open}
 use Rattle.promises.proofs.TapeTable.{within, block-fits, block-got, block-back-and-forth, in-limits, write-no, block-no, tape-fits, tape-got, write-tape-no, tape-piece, tape-bytes, read-tape-no, read-tape-got, written-joins, tape-back-and-forth}
 use Rattle.promises.proofs.TapeAnswers as answers
 use Rattle.promises.proofs.Secrets as secrets

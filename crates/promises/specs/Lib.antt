@@ -1,14 +1,13 @@
--- What the promises speak of, beside the definitions of the crates below: document 01's cases and how they are judged, its rows of
--- refusals for reading and for the tape, the name on a receipt, a day at the desk, and one with its tape. A reader has to believe these
--- files.
+-- What the promises speak of, beside the definitions of the crates below: document 01's cases and how they are judged; its rows of
+-- refusals for reading and for the tape; what the desk answers, what an approved line is counted by, and what one answer of a function
+-- is; the name on a receipt; a day at the desk, and one with its tape. A reader has to believe these files.
 pub mod Cases
 pub mod Asking
--- what the desk answers, what an approved line is counted by, and what one answer of a function is
+pub mod ReadRows
+pub mod TapeRows
 pub mod Answers
 pub mod Counted
 pub mod OneAnswer
-pub mod ReadRows
-pub mod TapeRows
 pub mod Names
 pub mod Days
 pub mod TapeDays

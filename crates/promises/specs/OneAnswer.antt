@@ -20,3 +20,7 @@ placed r = (r .ptr, now r)
 -- no memory is lent, or only to be read
 abbrev pub nothing : {E : Type 0} → E → Unit {0}
 nothing e = tt
+
+-- where two buffers are lent, the one content is the pair of them
+abbrev pub contents : RefT (List ℕ) → RefT (List ℕ) → List ℕ × List ℕ
+contents out payload = (now out, now payload)
