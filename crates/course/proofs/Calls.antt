@@ -1,4 +1,4 @@
--- What a call that is not refused does to its lane, by cases on the calls. No other law looks into the course itself. Assumes nothing.
+-- What a call that is not refused does to its lane, by cases on the calls. Assumes nothing.
 use mathlib.Core.Path.{_≡_, refl, ap, sym, _∙_}
 use mathlib.Core.Bool.{Bool, true, false, _&&_}
 use mathlib.Core.List.{List, [], _∷_}

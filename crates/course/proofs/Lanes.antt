@@ -1,6 +1,5 @@
 -- A call sees and changes its own lane and that lane's lines alone; what an accepted call tells. Assumes nothing.
 use mathlib.Core.Path.{_≡_, refl, ap, sym, subst}
-use mathlib.Core.Logic.{_⊎_, inl, inr}
 use mathlib.Core.Bool.{Bool, true, false, _&&_}
 use mathlib.Core.List.{List, [], _∷_, _++_, append-nil}
 use Prim.Native.Nat.{ℕ, zero, suc, _+_, _<_}
@@ -128,20 +127,6 @@ by-lane s c h P mine other k = go (eqb (laneOf c) k) refl
     go : (b : Bool) → eqb (laneOf c) k ≡ b → P k b (own k (step s c))
     go true e = subst (λ (j : ℕ). P j true (own j (step s c))) (eqb-true _ _ e) (subst (P (laneOf c) true) (sym (own-same s c h)) mine)
     go false e = rw (own-other s c k (eqb-false _ _ e)) (other k (eqb-false _ _ e))
-
-pub one-line : (s : State) (c : Call) → (step s c .lines ≡ s .lines) ⊎ ((x : Line) × (x .lane ≡ laneOf c) × (step s c .lines ≡ s .lines ++ (x ∷ [])))
-unfolding step linesFrom lineAt
-one-line s c = go (moves l (s .lines) c)
-  where
-    l : Lane
-    l = laneAt (s .lanes) (laneOf c)
-
-    go : (m : Moved) → (s .lines ++ linesFrom (laneOf c) l m ≡ s .lines)
-        ⊎ ((x : Line) × (x .lane ≡ laneOf c) × (s .lines ++ linesFrom (laneOf c) l m ≡ s .lines ++ (x ∷ [])))
-    go (Refused r) = inl (append-nil _)
-    go Stays = inl (append-nil _)
-    go (Becomes n) = inl (append-nil _)
-    go (Ends outcome settled code) = inr (lineAt (laneOf c) l outcome settled code, refl, refl)
 
 -- ---- accepted calls
 

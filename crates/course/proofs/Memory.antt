@@ -7,7 +7,7 @@ use Prim.Native.Nat.{ℕ, zero, suc, _+_, _≤_, _<_}
 use native.Mathlib.Numerals.{add-one}
 use native.Mathlib.Omega.{arith}
 use lib.ListN.{length, getD, set, take, drop, replicate, length-set}
-use lib.Seq.{length-take-le, set-getD, take-suc-set, getD-set-other}
+use lib.Seq.{length-take-le, set-getD, take-suc-set}
 use lib.Dec.{ltb, leb, eqb}
 use borrow.Author.Tests.{leb-false, ltb-false}
 use Rattle.messages.specs.Reading.{pick}
@@ -203,21 +203,6 @@ module _ (d : Desk) (c : Call) (room : ℕ) where
           rw (accepted-answer e)
           (moved-valid d v i (t .lane) (taken-roomy v t) (moveOf d c)
           (moves-fit (laneFor d c) (linesOfDesk d) c (v .asked i, v .told i) (take-all-fit (d .book .count) (d .book .lines) (v .settled)) n))
-
-  -- every other lane stays as it was
-  pub isolated : (k : ℕ) → (k ≡ laneOf c → ⊥) → laneAt (answerOf d c room .desk .lanes) k ≡ laneAt (d .lanes) k
-  unfolding movedDesk endedDesk refusedAnswer
-  isolated k n = go (decide (view d) c room) refl
-    where
-      moved : (m : Moved) → laneAt (movedDesk d (laneOf c) m .lanes) k ≡ laneAt (d .lanes) k
-      moved (Refused x) = refl
-      moved Stays = refl
-      moved (Becomes x) = getD-set-other (d .lanes) (laneOf c) k x idleLane n
-      moved (Ends outcome settled code) = getD-set-other (d .lanes) (laneOf c) k idleLane idleLane n
-
-      go : (x : Decision) → decide (view d) c room ≡ x → laneAt (answerOf d c room .desk .lanes) k ≡ laneAt (d .lanes) k
-      go (refuse j) e = rw (refused-same j e)
-      go accept e = rw (accepted-answer e) (moved (moveOf d c))
 
 module _ (d : Desk) (c : Call) (out : List ℕ) where
   pub refused-leaves : (n : ℕ) → decide (view d) c (length out) ≡ refuse n → leavesOf d c out ≡ out

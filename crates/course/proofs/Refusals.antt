@@ -5,10 +5,9 @@ use mathlib.Core.Logic.{_↔_, inl, inr}
 use mathlib.Core.List.{List, []}
 use Prim.Native.Nat.{ℕ, _≤_, _<_}
 use native.Mathlib.Omega.{arith}
-use Rattle.messages.specs.declared.Fault.{Fault}
 use Rattle.messages.specs.declared.Refusal.{Refusal}
-use Rattle.messages.specs.Reading.{got, refused}
-use Rattle.messages.specs.Message.{Header, wholeHeader, readOf}
+use Rattle.messages.specs.Reading.{got}
+use Rattle.messages.specs.Message.{Header, wholeHeader}
 use Rattle.messages.proofs.Numbers.{header-numbers, read-numbers}
 use Rattle.course.specs.declared.Phase.the-variants.{Idle, Running}
 use Rattle.course.specs.declared.Lane.{Lane}
@@ -192,14 +191,6 @@ module _ (s : State) (i : ℕ) (b : List ℕ) (room : ℕ) where
 
   pub reading-exactly : (n : ℕ) → n ≤ 10 → (decide s (message i b) room ≡ refuse n) ↔ ((i < 8) × Unread s i b n)
   reading-exactly n t = (λ e. unread n t (row _ .0 e), λ k. row _ .1 (unread-row n (k .0) (k .1)))
-
-  -- the first refusal of the reader is the answer
-  pub header-refused : (f : Fault) → i < 8 → (phaseAt s i ≡ Idle → ⊥) → wholeHeader b ≡ refused f → decide s (message i b) room ≡ refuse (f .number)
-  header-refused f l k e = row _ .1 (bad-header (f .number) f l k e refl)
-
-  pub body-refused : (f : Fault) → i < 8 → phaseAt s i ≡ Running → GoodHeader Running b → readOf b ≡ refused f
-      → decide s (message i b) room ≡ refuse (f .number)
-  body-refused f l p g r = row _ .1 (bad-body (f .number) (g .0) f l p (g .1) (g .2) r refl)
 
   -- "11 output too small": what a running lane answers
   pub reply-tight-exactly : (decide s (message i b) room ≡ refuse 11)

@@ -4,7 +4,7 @@ use mathlib.Core.Bool.{true, false, not, and-eq-true-iff}
 use mathlib.Core.List.{List, [], _∷_}
 use Prim.Native.Nat.{ℕ, zero, suc, _+_, _-_, _*_, _^_, _<_, _≤_}
 use native.Mathlib.Numerals.{add-one}
-use native.Mathlib.Nat.{add-zero, pow-succ'}
+use native.Mathlib.Nat.{pow-succ'}
 use native.Mathlib.Omega.{arith}
 use lib.ListN.{length, getD, drop, length-drop, drop-of-length-le}
 use lib.Seq.{drop-cons}
@@ -95,19 +95,6 @@ module _ {A : Type 0} (at : ℕ) (s : List ℕ) (x : Reading A) where
       → unlessUndecimal (at + i) (drop i s) x ≡ refused (no 6 (at + i))
   unfolding unless
   undecimal-stop i l e = undecimal-first i l ∙ rw e
-
-  -- the bytes before the i-th change nothing if each is decimal
-  pub undecimal-skip : (i : ℕ) → i ≤ length s → ((j : ℕ) → j < i → decimal (getD s j 0) ≡ true)
-      → unlessUndecimal at s x ≡ unlessUndecimal (at + i) (drop i s) x
-  undecimal-skip zero l h = rw add-zero
-  undecimal-skip (suc i) l h = undecimal-skip i (omega arith) (λ j k. h j (omega arith)) ∙ undecimal-on i (omega arith) (h i (omega arith)) ∙ rw (add-one i)
-
-  pub undecimal-none : ((j : ℕ) → j < length s → decimal (getD s j 0) ≡ true) → unlessUndecimal at s x ≡ x
-  undecimal-none h = undecimal-skip (length s) (omega arith) h ∙ undecimal-end (length s) (omega arith)
-
-  pub undecimal-at : (i : ℕ) → i < length s → ((j : ℕ) → j < i → decimal (getD s j 0) ≡ true) → decimal (getD s i 0) ≡ false
-      → unlessUndecimal at s x ≡ refused (no 6 (at + i))
-  undecimal-at i l h e = undecimal-skip i (omega arith) h ∙ undecimal-stop i l e
 
 -- ---- a field lies within the bytes, and takes one at least
 pub value-in : (at a v : ℕ) (s w : List ℕ) → valueOf at a v s ≡ got w → (a + v ≤ length s) × (part a (a + v) s ≡ w)

@@ -65,11 +65,13 @@ objects-counted s t b h =
 
 -- ---- "What we write reads back as the same values."
 
--- What shortening writes is the same message, but for the forms of its lengths.
+-- What shortening writes is the same message, with as many objects, but for the forms of its lengths.
 pub shortened-reads-back : (s : List ℕ) (m : Message) → Bytes s → readOf s ≡ got m
     → (shorten s ≡ got (write m)) × (readOf (write m) ≡ got (shortMessage m)) × SameValues m (shortMessage m)
+    × (countOf (shortMessage m) ≡ countOf m)
 unfolding shorten
-shortened-reads-back s m b e = (then-on _ m e, shortest.write-reads m (reading.read-sound s m b e .1), shortest.same-values m)
+shortened-reads-back s m b e =
+    (then-on _ m e, shortest.write-reads m (reading.read-sound s m b e .1), shortest.same-values m, shortest.same-count m)
 
 -- What a call of the desk writes is what the course says: a command, a reply, or nothing.
 pub written : (d : Desk) (c : Call) (out : List ℕ) (k : ℕ) → answerOf d c (length out) .reply ≡ Written k
