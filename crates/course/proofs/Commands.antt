@@ -2,7 +2,7 @@
 use mathlib.Core.Path.{_≡_, refl}
 use mathlib.Core.Bool.{true}
 use mathlib.Core.List.{List, [], _∷_, _++_}
-use Prim.Native.Nat.{ℕ}
+use Prim.Native.Nat.{ℕ, _≤_}
 use native.Mathlib.Omega.{arith}
 use lib.ListN.{length}
 use borrow.Author.Tests.{leb-true}
@@ -17,8 +17,12 @@ use Rattle.messages.specs.Values.{valueIn, fieldValue}
 use Rattle.messages.proofs.DigitLaws.{digits-size, digits-decimal, number-same}
 use Rattle.messages.proofs.Numbers.{between}
 use Rattle.messages.proofs.MessageBytes.{read-complete}
+use Rattle.course.specs.declared.Phase.{Phase}
+use Rattle.course.specs.declared.Phase.the-variants.{Idle, Waiting, Running}
+use Rattle.course.specs.declared.Lane.{Lane}
 use Rattle.course.specs.Numbers.{amountOk, receiptOk, passwordOk}
 use Rattle.course.specs.Commands.{FieldIs, MoneyIs, money, saleCommand, refundCommand, reversalCommand, saleBytes, refundBytes, reversalBytes}
+use Rattle.course.specs.Course.{Call, sale, refund, reversal, message, lost, answered, writes}
 
 -- ---- the bytes
 pub sale-bytes : (amount : ℕ)
@@ -48,6 +52,21 @@ refund-size password amount = rw (refund-bytes password amount)
 pub reversal-size : (password receipt : ℕ) → length (reversalBytes password receipt) ≡ 9
 unfolding digitBytesOf
 reversal-size password receipt = rw (reversal-bytes password receipt)
+
+answered-short : (p : Phase) → length (answered p) ≤ 16
+unfolding answered
+answered-short Idle = omega arith
+answered-short Waiting = omega arith
+answered-short Running = omega arith
+
+-- no call writes more than the longest command
+pub writes-short : (l : Lane) (c : Call) → length (writes l c) ≤ 16
+unfolding writes
+writes-short l (sale i amount) = omega (arith, sale-size amount)
+writes-short l (refund i password amount) = omega (arith, refund-size password amount)
+writes-short l (reversal i password receipt) = omega (arith, reversal-size password receipt)
+writes-short l (message i s) = answered-short (l .phase)
+writes-short l (lost i) = omega arith
 
 -- ---- a message of the grammar
 digits-ok : (id k n : ℕ) → formatOf id ≡ Fixed k → FieldOk (plain id (digitBytesOf k n))

@@ -158,7 +158,7 @@ room-told : (o : Bool) (n : ℕ) → o && leb 64 n ≡ false → o ≡ true → 
 room-told true n e f = leb-false 64 n e
 room-told false n e f = let z : _≡_ {A = ℕ} 0 1 = cc in absurd (omega arith)
 
-room-tell : (o : Bool) (n : ℕ) → (o ≡ true → n < 64) → o && leb 64 n ≡ false
+pub room-tell : (o : Bool) (n : ℕ) → (o ≡ true → n < 64) → o && leb 64 n ≡ false
 room-tell true n h = lt-leb 64 n (h refl)
 room-tell false n h = refl
 
@@ -175,6 +175,17 @@ tell s c t =
     let l = laneAt (s .lanes) (laneOf c) in
     let n = length (writes l c) in
     rw (lt-leb 8 (laneOf c) (t .lane), passing (moves l (s .lines) c) _ (t .moved), room-tell (opens c) (load s) (t .room), le-ltb n n (omega arith))
+
+-- a call that is accepted in some room is accepted in as much as it writes
+pub accepts-any : (s : State) (c : Call) (room : ℕ) → decide s c room ≡ accept → Accepts s c
+unfolding Accepts decide
+accepts-any s c room e =
+    let l = laneAt (s .lanes) (laneOf c) in
+    let n = length (writes l c) in
+    let a = not-refused (leb 8 (laneOf c)) 12 _ e in
+    let b = passed (moves l (s .lines) c) _ (a .1) in
+    let f = not-refused (opens c && leb 64 (load s)) 18 _ (b .1) in
+    rw (a .0, passing (moves l (s .lines) c) _ (b .0), f .0, le-ltb n n (omega arith))
 
 pub opening-is : (c : Call) (b : Bool) → opens c ≡ b → opening c ≡ pick b 1 0
 unfolding opening

@@ -1,41 +1,26 @@
 -- A day of the desk's own answers goes as the course says. Assumes nothing.
 use mathlib.Core.Path.{_≡_, refl, sym, ap, ap₂, subst, _∙_}
-use mathlib.Core.Bool.{Bool, true, false, _&&_}
+use mathlib.Core.Bool.{Bool, true, false}
 use mathlib.Core.List.{List, [], _∷_, _++_}
-use Prim.Native.Nat.{ℕ, zero, suc, _<_, _≤_}
-use native.Mathlib.Omega.{arith}
+use Prim.Native.Nat.{ℕ, zero, suc}
 use lib.ListN.{length, getD, set, replicate}
-use lib.Dec.{leb}
-use borrow.Author.Tests.{leb-false, lt-leb, le-ltb}
+use borrow.Author.Tests.{lt-leb, le-ltb}
 use Rattle.messages.specs.Reading.{pick}
-use Rattle.course.specs.declared.Phase.{Phase}
-use Rattle.course.specs.declared.Phase.the-variants.{Idle, Waiting, Running}
-use Rattle.course.specs.declared.Lane.{Lane}
 use Rattle.course.specs.declared.Desk.{Desk}
 use Rattle.course.specs.declared.Reply.{Reply}
-use Rattle.course.specs.Course.{Call, sale, refund, reversal, message, lost, laneOf, opens, moves, answered, writes}
+use Rattle.course.specs.Course.{Call, laneOf, opens, moves, writes}
 use Rattle.course.specs.Desk.{State, fresh, laneAt, load, accept, decide, Accepts, Accepted, run, wrote}
 use Rattle.course.specs.Memory.{freshDesk, view, Valid, answerOf, leavesOf}
 use Rattle.course.specs.Runs.{having, replies}
 use Rattle.course.specs.Payments.{Payments, ends, withCall, paymentsFrom, paymentsOf, joined, oneByOne}
-use Rattle.course.proofs.Commands.{sale-size, refund-size, reversal-size}
-use Rattle.course.proofs.Lanes.{told, tell, passing}
+use Rattle.course.proofs.Commands.{writes-short}
+use Rattle.course.proofs.Lanes.{told, passing, room-tell, accepts-any}
 use Rattle.course.proofs.Runs.{repliesTo}
-use Rattle.course.proofs.Memory.{taken, follows, fresh-valid, answer-valid, view-fresh}
+use Rattle.course.proofs.Memory.{follows, fresh-valid, answer-valid, view-fresh}
 use Rattle.promises.specs.Days.{Turn, callsIn, buffer, roomy, OfBytes, answerIn, Taken, deskAfter, bytesBy, written, repliesAt}
 use Rattle.promises.proofs.Answers.{decided-yes, call-wrote}
 
 -- ---- an accepted call is one of the course
-few-told : (o : Bool) (n : ℕ) → o && leb 64 n ≡ false → o ≡ true → n < 64
-few-told true n e f = leb-false 64 n e
-few-told false n e f = let z : _≡_ {A = ℕ} 0 1 = cc in absurd (omega arith)
-
-accepts : (d : Desk) (c : Call) (room : ℕ) → decide (view d) c room ≡ accept → Accepts (view d) c
-unfolding view
-accepts d c room e =
-    let t = taken d c room e in
-    tell (view d) c (record { lane = t .lane; moved = t .passes; room = few-told (opens c) (load (view d)) (t .few) })
-
 -- what a day of accepted calls leaves, and what each wrote
 pub record Gone (d : Desk) (ts : List Turn) : Type 0 where
   pub accepted : Accepted (view d) (callsIn ts)
@@ -53,7 +38,7 @@ goes (x ∷ ts) d v b t =
     let same = follows d c room v e in
     let r = goes ts (answerIn d x .desk) (answer-valid d c room v (b .0)) (b .1) (t .1) in
     record {
-      accepted = (accepts d c room e, subst (λ (s : State). Accepted s (callsIn ts)) same (r .accepted));
+      accepted = (accepts-any (view d) c room e, subst (λ (s : State). Accepted s (callsIn ts)) same (r .accepted));
       leaves = r .leaves ∙ ap (λ (s : State). run s (callsIn ts)) same;
       wrote-same =
           ap₂ (λ (w : List ℕ) (ws : List (List ℕ)). w ∷ ws)
@@ -64,25 +49,6 @@ goes (x ∷ ts) d v b t =
 
 -- ---- and a call of the course is accepted, where there is room
 
--- no command and no reply is longer than 16 bytes
-answered-size : (p : Phase) → length (answered p) ≤ 16
-unfolding answered
-answered-size Idle = omega arith
-answered-size Waiting = omega arith
-answered-size Running = omega arith
-
-writes-size : (l : Lane) (c : Call) → length (writes l c) ≤ 16
-unfolding writes
-writes-size l (sale i amount) = omega (arith, sale-size amount)
-writes-size l (refund i password amount) = omega (arith, refund-size password amount)
-writes-size l (reversal i password receipt) = omega (arith, reversal-size password receipt)
-writes-size l (message i s) = answered-size (l .phase)
-writes-size l (lost i) = omega arith
-
-few-tell : (o : Bool) (n : ℕ) → (o ≡ true → n < 64) → o && leb 64 n ≡ false
-few-tell true n h = lt-leb 64 n (h refl)
-few-tell false n h = refl
-
 roomy-taken : (s : State) (c : Call) → Accepts s c → decide s c (length buffer) ≡ accept
 unfolding decide buffer
 roomy-taken s c h =
@@ -91,8 +57,8 @@ roomy-taken s c h =
     rw (
       lt-leb 8 (laneOf c) (t .lane),
       passing (moves l (s .lines) c) _ (t .moved),
-      few-tell (opens c) (load s) (t .room),
-      le-ltb 16 (length (writes l c)) (writes-size l c),
+      room-tell (opens c) (load s) (t .room),
+      le-ltb 16 (length (writes l c)) (writes-short l c),
     )
 
 pub calls-roomy : (cs : List Call) → callsIn (roomy cs) ≡ cs
