@@ -3,7 +3,6 @@
 ghost use mathlib.Core.Path.{_≡_};
 ghost use Prim.Native.Nat.{_<_};
 ghost use mathlib.Core.List.{[], _∷_};
-ghost use lib.ListN.{length, replicate};
 ghost use Rattle.listing.specs.Text.{text, write, hexDigit, hexText, hexes, bytesText, hexValue, decimalText};
 
 pub fn add(b: u8, at: usize, out: &mut [u8]) -> usize
@@ -95,15 +94,4 @@ pub fn hex_value(b: u8) -> u8
         return b - 87;
     }
     16
-}
-
-// Every byte of a buffer is b.
-pub fn fill(b: u8, out: &mut [u8])
-    ensures { λ _. ⌜ now (out .exit) ≡ replicate (length (now (out .entry))) b ⌝ }
-{
-    let mut i: usize = 0;
-    while i < out.len() {
-        out[i] = b;
-        i += 1;
-    }
 }

@@ -7,6 +7,7 @@ use Rattle.course.proofs as course
 use Rattle.blocks.proofs as blocks
 use Rattle.tape.proofs as tape
 use Rattle.listing.proofs as listing
+use Rattle.filling.proofs as filling
 use Rattle.course.specs.Memory.{Valid}
 
 -- Every public function's own theorem: a call of it ends, reads and writes only what it was lent, and answers as its contract states.
@@ -64,7 +65,7 @@ pub every-call-ends : {M : Type 1}
     × listing.text.add_decimal.Statement.statement M
     × listing.text.add_bytes.Statement.statement M
     × listing.text.hex_value.Statement.statement M
-    × listing.text.fill.Statement.statement M
+    × filling.fill.Statement.statement M
 every-call-ends = (
   zvt.read_header.Met.met,
   zvt.read.Met.met,
@@ -119,7 +120,7 @@ every-call-ends = (
   listing.text.add_decimal.Met.met,
   listing.text.add_bytes.Met.met,
   listing.text.hex_value.Met.met,
-  listing.text.fill.Met.met,
+  filling.fill.Met.met,
 )
 
 -- No function but those over a desk asks anything of its caller; those ask that the desk is one that these functions gave out.
@@ -177,7 +178,7 @@ pub nothing-to-test :
     × ((κs : _) (a : _) → listing.text.add_decimal.Reads.Asked κs a ≡ Unit {0})
     × ((κs : _) (a : _) → listing.text.add_bytes.Reads.Asked κs a ≡ Unit {0})
     × ((κs : _) (a : _) → listing.text.hex_value.Reads.Asked κs a ≡ Unit {0})
-    × ((κs : _) (a : _) → listing.text.fill.Reads.Asked κs a ≡ Unit {0})
+    × ((κs : _) (a : _) → filling.fill.Reads.Asked κs a ≡ Unit {0})
 nothing-to-test = (
   λ κs a. refl,
   λ κs a. refl,

@@ -11,6 +11,7 @@ use Rattle.course.proofs as course
 use Rattle.blocks.proofs as blocks
 use Rattle.tape.proofs as tape
 use Rattle.listing.proofs as listing
+use Rattle.filling.proofs as filling
 use Rattle.listing.specs.Text.{Text}
 use Rattle.promises.specs.OneAnswer.{Only, whole, placed, nothing, contents}
 
@@ -190,5 +191,5 @@ text-add-bytes-one κs a = only _ _ (λ r e h. (ap (λ (t : Text). t .at) h, ap 
 pub text-hex-value-one : (κs : _) (a : _) → Only whole nothing (listing.text.hex_value.Reads.Learnt κs a)
 text-hex-value-one κs a = only _ _ (λ r e h. (h, refl))
 
-pub text-fill-one : (κs : _) (a : _) → Only nothing (λ e. now (e .1 .0)) (listing.text.fill.Reads.Learnt κs a)
-text-fill-one κs a = only _ _ (λ r e h. (refl, h))
+pub fill-one : (κs : _) (a : _) → Only nothing (λ e. now (e .0)) (filling.fill.Reads.Learnt κs a)
+fill-one κs a = only _ _ (λ r e h. (refl, h))

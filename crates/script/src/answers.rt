@@ -6,13 +6,13 @@ use course::Line;
 use course::Outcome;
 use course::Phase;
 use course::Reply;
+use filling::fill;
 use listing::add_ids;
 use listing::text::add;
 use listing::text::add_all;
 use listing::text::add_bytes;
 use listing::text::add_decimal;
 use listing::text::add_hex;
-use listing::text::fill;
 use messages::Status;
 use messages::ToldAmount;
 use messages::ToldCode;
@@ -281,7 +281,7 @@ fn add_form(shortest: bool, at: usize, out: &mut [u8]) -> usize {
 const BLANK: u8 = 0xC3;
 
 pub(crate) fn blank(lent: &mut [u8]) {
-    fill(BLANK, lent);
+    fill(lent, BLANK);
 }
 
 // Whether a call changed a byte behind the first n.

@@ -1,12 +1,12 @@
 // The reader's answers as text.
 use crate::words::upto;
+use filling::fill;
 use listing::Line;
 use listing::text::add;
 use listing::text::add_all;
 use listing::text::add_bytes;
 use listing::text::add_decimal;
 use listing::text::add_hex;
-use listing::text::fill;
 use messages::ToldAmount;
 use messages::ToldCode;
 use messages::ToldReceipt;
@@ -23,7 +23,7 @@ ghost use lib.ListN.{length};
 const BLANK: u8 = 0xC3;
 
 pub(crate) fn blank(room: &mut [u8]) {
-    fill(BLANK, room);
+    fill(room, BLANK);
 }
 
 fn add_refused(number: u8, at: usize, out: &mut [u8]) -> usize {
