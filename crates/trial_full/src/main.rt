@@ -1,4 +1,4 @@
-// Plays a script that fills the book and ends at a line that is not understood.
+// Plays the script on standard input. The same program as trial, with another input: the gate gives each program one.
 use libc::STDIN_FILENO;
 
 fn main() {
