@@ -1,4 +1,5 @@
-// Plays the script on standard input. The same program as trial, with another input: the gate gives each program one.
+// Plays a script that fills the book and ends at a line that is not understood: the same program as trial, since the gate gives a
+// program one input.
 use libc::STDIN_FILENO;
 
 fn main() {
