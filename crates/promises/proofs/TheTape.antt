@@ -213,7 +213,7 @@ masked-once = masked-twice
 pub alike-one-record : (s t : List ℕ) (m n : Message) → readOf s ≡ got m → readOf t ≡ got n → Alike m n → masked s ≡ masked t
 alike-one-record = alike-recorded
 
--- So are whole days: whoever has the tape and the book cannot tell which password was typed or which card was used.
+-- So are whole days: nobody can tell from the tape and the book which password was typed or what stood in these fields.
 pub alike-days-one-tape : (day other : List Turn) (tape : List ℕ) → AlikeDays day other
     → tapedRun (freshDay tape) day ≡ tapedRun (freshDay tape) other
 alike-days-one-tape day other tape a = secrets.alike-days day other (freshDay tape) a
