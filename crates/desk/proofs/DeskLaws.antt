@@ -10,9 +10,9 @@ use lib.IntN.{pos, negsuc, _-ℤ_}
 use mir.Syntax.{w64}
 use mir.Val.{SFits, toZ}
 use borrow.Author.Tests.{ltb-true, lt-ltb}
-use Rattle.course.specs.declared.Phase.{Phase}
-use Rattle.course.specs.declared.Phase.the-variants.{Idle, Waiting, Running}
-use Rattle.course.specs.Course.{answered}
+use Rattle.desk_rules.specs.declared.Phase.{Phase}
+use Rattle.desk_rules.specs.declared.Phase.the-variants.{Idle, Waiting, Running}
+use Rattle.desk_rules.specs.Course.{answered}
 use Rattle.desk.specs.Hear.{replied}
 
 -- a reply of that size is the answer to a lane in that phase

@@ -9,17 +9,17 @@ use lib.Dec.{eqb}
 use types.Run.{OneOf}
 use denote.Enum.Declared.{tagOf}
 use borrow.Author.Tests.{eq-eqb, eqb-true, ne-eqb}
-use Rattle.messages.specs.declared.ToldReceipt.{ToldReceipt}
-use Rattle.messages.specs.declared.Refusal.{Refusal}
-use Rattle.messages.specs.declared.Status.{Status}
-use Rattle.messages.specs.declared.ToldCode.the-variants.{Code}
-use Rattle.messages.specs.declared.Layout.the-variants.{Plain}
-use Rattle.messages.specs.Reading.{Reading, got, refused, pick, among}
-use Rattle.messages.specs.Message.{Header as HeaderTree, wholeHeader, layoutOf, Body, bytes, listed, Message as MessageTree, readOf}
-use Rattle.messages.specs.Writing.{bodyBytes, lengthBytes, messageBytes}
-use Rattle.messages.specs.Grammar.{Bytes, LayoutOk, MessageOk}
-use Rattle.messages.specs.Values.{isStatus, bodyFields, statusFields, statusIn, statusOf, codeIn, codeOf, valueIn}
-use Rattle.messages.proofs.MessageBytes.{read-sound, message-size}
+use Rattle.zvt_rules.specs.declared.ToldReceipt.{ToldReceipt}
+use Rattle.zvt_rules.specs.declared.Refusal.{Refusal}
+use Rattle.zvt_rules.specs.declared.Status.{Status}
+use Rattle.zvt_rules.specs.declared.ToldCode.the-variants.{Code}
+use Rattle.zvt_rules.specs.declared.Layout.the-variants.{Plain}
+use Rattle.zvt_rules.specs.Reading.{Reading, got, refused, pick, among}
+use Rattle.zvt_rules.specs.Message.{Header as HeaderTree, wholeHeader, layoutOf, Body, bytes, listed, Message as MessageTree, readOf}
+use Rattle.zvt_rules.specs.Writing.{bodyBytes, lengthBytes, messageBytes}
+use Rattle.zvt_rules.specs.Grammar.{Bytes, LayoutOk, MessageOk}
+use Rattle.zvt_rules.specs.Values.{isStatus, bodyFields, statusFields, statusIn, statusOf, codeIn, codeOf, valueIn}
+use Rattle.zvt_rules.proofs.MessageBytes.{read-sound, message-size}
 use Rattle.zvt.specs.declared.Header.{Header}
 use Rattle.zvt.specs.declared.Message.{Message}
 use Rattle.zvt.specs.declared.HeaderAnswer.the-variants.{Header as header-got, Refused as header-refused}
@@ -27,19 +27,19 @@ use Rattle.zvt.specs.declared.ReadAnswer.the-variants.{Accepted, Refused as rea
 use Rattle.zvt.specs.Header.{headerIn}
 use Rattle.zvt.specs.Answers.{refusalOf, asHeaderAnswer, headerAnswer, messageAnswer, asReadAnswer, readAnswer}
 use Rattle.zvt.proofs.Tables.{allIn, allFrom, anyOf, NoneOf, at-key, Table, keyed, ranged}
-use Rattle.course.specs.declared.Kind.{Kind}
-use Rattle.course.specs.declared.Kind.the-variants.{Sale, Refund, Reversal}
-use Rattle.course.specs.declared.Outcome.{Outcome}
-use Rattle.course.specs.declared.Outcome.the-variants.{Unclear, Declined, Approved}
-use Rattle.course.specs.declared.Phase.{Phase}
-use Rattle.course.specs.declared.Phase.the-variants.{Idle, Waiting, Running}
-use Rattle.course.specs.declared.Lane.{Lane}
-use Rattle.course.specs.declared.Line.{Line}
-use Rattle.course.specs.declared.Moved.the-variants.{Refused, Stays, Becomes}
-use Rattle.course.specs.Lanes.{reportedLane, toldReceipt, receiptBy}
-use Rattle.course.specs.Course.{isApproved, isSale, isReversal, concerns, abortedBy, reportedBy, movedBy, afterBody, heardWaiting, heardRunning, heardBy, afterHeader, isIdle, heard}
-use Rattle.course.specs.Turnover.{gain, loss}
-use Rattle.course.proofs.Phase as phase
+use Rattle.desk_rules.specs.declared.Kind.{Kind}
+use Rattle.desk_rules.specs.declared.Kind.the-variants.{Sale, Refund, Reversal}
+use Rattle.desk_rules.specs.declared.Outcome.{Outcome}
+use Rattle.desk_rules.specs.declared.Outcome.the-variants.{Unclear, Declined, Approved}
+use Rattle.desk_rules.specs.declared.Phase.{Phase}
+use Rattle.desk_rules.specs.declared.Phase.the-variants.{Idle, Waiting, Running}
+use Rattle.desk_rules.specs.declared.Lane.{Lane}
+use Rattle.desk_rules.specs.declared.Line.{Line}
+use Rattle.desk_rules.specs.declared.Moved.the-variants.{Refused, Stays, Becomes}
+use Rattle.desk_rules.specs.Lanes.{reportedLane, toldReceipt, receiptBy}
+use Rattle.desk_rules.specs.Course.{isApproved, isSale, isReversal, concerns, abortedBy, reportedBy, movedBy, afterBody, heardWaiting, heardRunning, heardBy, afterHeader, isIdle, heard}
+use Rattle.desk_rules.specs.Turnover.{gain, loss}
+use Rattle.desk_rules.proofs.Phase as phase
 use Rattle.desk.specs.Hear.{ReadIn, headerBy, inCourse, waitingMoved, runningMoved, abortedIn, reportedAs, movedAs}
 
 -- ---- kinds and outcomes

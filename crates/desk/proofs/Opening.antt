@@ -10,28 +10,28 @@ use lib.Dec.{ltb, leb, eqb}
 use borrow.Author.Tests.{leb-false, ltb-false, le-leb, lt-leb, lt-ltb, le-ltb}
 use denote.Enum.Declared.{tagOf}
 use types.Run.{OneOf}
-use Rattle.messages.specs.Reading.{pick}
-use Rattle.messages.specs.declared.Refusal.{Refusal}
-use Rattle.course.specs.declared.Kind.the-variants.{Sale, Refund, Reversal}
-use Rattle.course.specs.declared.Outcome.the-variants.{Unclear}
-use Rattle.course.specs.declared.Lane.{Lane}
-use Rattle.course.specs.declared.Line.{Line}
-use Rattle.course.specs.declared.Moved.{Moved}
-use Rattle.course.specs.declared.Moved.the-variants.{Refused, Stays, Becomes, Ends}
-use Rattle.course.specs.declared.Desk.{Desk}
-use Rattle.course.specs.declared.Reply.the-variants.{Written}
-use Rattle.course.specs.Numbers.{amountOk, receiptOk, passwordOk}
-use Rattle.course.specs.Lanes.{waitingLane}
-use Rattle.course.specs.Commands.{saleBytes, refundBytes, reversalBytes}
-use Rattle.course.specs.Course.{no, isIdle, heard, lostBy, isApproved, isSale, lastLine, Ask, openedBy, Call, sale, refund, reversal, message, lost, laneOf, opens, moves, answered, writes}
-use Rattle.course.specs.Desk.{laneAt, place, places, load, refuse, accept, unlessRefused, decide}
-use Rattle.course.specs.Memory.{linesOfDesk, view, laneFor, Valid, movedDesk, refusedAnswer, answerOf, leavesOf}
-use Rattle.course.specs.Payments.{askOf}
+use Rattle.zvt_rules.specs.Reading.{pick}
+use Rattle.zvt_rules.specs.declared.Refusal.{Refusal}
+use Rattle.desk_rules.specs.declared.Kind.the-variants.{Sale, Refund, Reversal}
+use Rattle.desk_rules.specs.declared.Outcome.the-variants.{Unclear}
+use Rattle.desk_rules.specs.declared.Lane.{Lane}
+use Rattle.desk_rules.specs.declared.Line.{Line}
+use Rattle.desk_rules.specs.declared.Moved.{Moved}
+use Rattle.desk_rules.specs.declared.Moved.the-variants.{Refused, Stays, Becomes, Ends}
+use Rattle.desk_rules.specs.declared.Desk.{Desk}
+use Rattle.desk_rules.specs.declared.Reply.the-variants.{Written}
+use Rattle.desk_rules.specs.Numbers.{amountOk, receiptOk, passwordOk}
+use Rattle.desk_rules.specs.Lanes.{waitingLane}
+use Rattle.desk_rules.specs.Commands.{saleBytes, refundBytes, reversalBytes}
+use Rattle.desk_rules.specs.Course.{no, isIdle, heard, lostBy, isApproved, isSale, lastLine, Ask, openedBy, Call, sale, refund, reversal, message, lost, laneOf, opens, moves, answered, writes}
+use Rattle.desk_rules.specs.Desk.{laneAt, place, places, load, refuse, accept, unlessRefused, decide}
+use Rattle.desk_rules.specs.Memory.{linesOfDesk, view, laneFor, Valid, movedDesk, refusedAnswer, answerOf, leavesOf}
+use Rattle.desk_rules.specs.Payments.{askOf}
 use Rattle.desk.specs.Opening.{openingNumber, openAnswer, openLeaves}
-use Rattle.course.proofs.Moved.{the-type}
-use Rattle.course.proofs.Calls.{Passes, askedFor, opened}
-use Rattle.course.proofs.Lanes.{passing}
-use Rattle.course.proofs.Memory.{place-idle, place-open, place-in, load-is, moveOf, taken, refused-same, accepted-answer, refused-leaves, accepted-leaves}
+use Rattle.desk_rules.proofs.Moved.{the-type}
+use Rattle.desk_rules.proofs.Calls.{Passes, askedFor, opened}
+use Rattle.desk_rules.proofs.Lanes.{passing}
+use Rattle.desk_rules.proofs.Memory.{place-idle, place-open, place-in, load-is, moveOf, taken, refused-same, accepted-answer, refused-leaves, accepted-leaves}
 
 -- ---- the number of an opening: 12, 13, 16, 17, 18, 11, or 0 for none
 

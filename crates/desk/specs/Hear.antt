@@ -5,20 +5,20 @@ use mathlib.Core.Bool.{Bool, false}
 use mathlib.Core.List.{List, _++_}
 use lib.ListN.{length, getD, drop}
 use lib.Dec.{eqb}
-use Rattle.messages.specs.Reading.{pick, among}
-use Rattle.messages.specs.Message.{Header as MessageHeader}
-use Rattle.messages.specs.Values.{statusOf}
-use Rattle.messages.specs.declared.Status.{Status}
+use Rattle.zvt_rules.specs.Reading.{pick, among}
+use Rattle.zvt_rules.specs.Message.{Header as MessageHeader}
+use Rattle.zvt_rules.specs.Values.{statusOf}
+use Rattle.zvt_rules.specs.declared.Status.{Status}
 use Rattle.zvt.specs.Answers.{readAnswer}
 use Rattle.zvt.specs.declared.Header.{Header}
 use Rattle.zvt.specs.declared.Message.{Message}
 use Rattle.zvt.specs.declared.ReadAnswer.the-variants.{Accepted}
-use Rattle.course.specs.declared.Lane.{Lane}
-use Rattle.course.specs.declared.Moved.{Moved}
-use Rattle.course.specs.declared.Moved.the-variants.{Stays, Ends}
-use Rattle.course.specs.declared.Outcome.the-variants.{Declined}
-use Rattle.course.specs.Commands.{replyBytes}
-use Rattle.course.specs.Course.{no, runningPairs, heardWaiting, heardRunning, completedBy, reportedBy}
+use Rattle.desk_rules.specs.declared.Lane.{Lane}
+use Rattle.desk_rules.specs.declared.Moved.{Moved}
+use Rattle.desk_rules.specs.declared.Moved.the-variants.{Stays, Ends}
+use Rattle.desk_rules.specs.declared.Outcome.the-variants.{Declined}
+use Rattle.desk_rules.specs.Commands.{replyBytes}
+use Rattle.desk_rules.specs.Course.{no, runningPairs, heardWaiting, heardRunning, completedBy, reportedBy}
 
 -- the bytes were read as that message
 unfoldable pub ReadIn : Message → List ℕ → Type 0

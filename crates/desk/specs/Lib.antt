@@ -1,3 +1,3 @@
--- What the steps behind the desk's functions answer. The functions' own answers stand in crate course, specs/Memory.antt.
+-- What the steps behind the desk's functions answer. The functions' own answers stand in crate desk_rules, specs/Memory.antt.
 pub mod Hear
 pub mod Opening

@@ -4,15 +4,15 @@ use mathlib.Core.Bool.{Bool}
 use mathlib.Core.List.{List, _++_}
 use lib.ListN.{length, drop}
 use lib.Dec.{ltb, leb, eqb}
-use Rattle.messages.specs.Reading.{pick}
-use Rattle.course.specs.declared.Lane.{Lane}
-use Rattle.course.specs.declared.Moved.the-variants.{Becomes}
-use Rattle.course.specs.declared.Desk.{Desk}
-use Rattle.course.specs.declared.Reply.the-variants.{Written}
-use Rattle.course.specs.declared.Answer.{Answer}
-use Rattle.course.specs.Course.{isIdle}
-use Rattle.course.specs.Desk.{laneAt, load}
-use Rattle.course.specs.Memory.{view, movedDesk, refusedAnswer}
+use Rattle.zvt_rules.specs.Reading.{pick}
+use Rattle.desk_rules.specs.declared.Lane.{Lane}
+use Rattle.desk_rules.specs.declared.Moved.the-variants.{Becomes}
+use Rattle.desk_rules.specs.declared.Desk.{Desk}
+use Rattle.desk_rules.specs.declared.Reply.the-variants.{Written}
+use Rattle.desk_rules.specs.declared.Answer.{Answer}
+use Rattle.desk_rules.specs.Course.{isIdle}
+use Rattle.desk_rules.specs.Desk.{laneAt, load}
+use Rattle.desk_rules.specs.Memory.{view, movedDesk, refusedAnswer}
 
 -- an opening, by its tests: "12, 13, 16, 17, 18, 11", 0 for none
 unfoldable pub openingNumber : Desk → ℕ → Bool → Bool → ℕ → ℕ → ℕ

@@ -1,6 +1,6 @@
 // The commands that opening writes.
 ghost use mathlib.Core.Path.{_≡_};
-ghost use Rattle.course.specs.Commands.{saleBytes, refundBytes, reversalBytes};
+ghost use Rattle.desk_rules.specs.Commands.{saleBytes, refundBytes, reversalBytes};
 
 // 06 01: amount, currency.
 pub(crate) fn sale_bytes(amount: u64) -> [u8; 13]

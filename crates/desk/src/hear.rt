@@ -1,27 +1,27 @@
 // What a lane does at a message, and small questions to lanes and lines.
-use course::Kind;
-use course::Lane;
-use course::Line;
-use course::Moved;
-use course::Outcome;
-use course::Phase;
-use messages::Refusal;
-use messages::Status;
-use messages::ToldAmount;
-use messages::ToldCode;
-use messages::ToldReceipt;
+use desk_rules::Kind;
+use desk_rules::Lane;
+use desk_rules::Line;
+use desk_rules::Moved;
+use desk_rules::Outcome;
+use desk_rules::Phase;
 use zvt::Header;
 use zvt::HeaderAnswer;
 use zvt::Message;
 use zvt::ReadAnswer;
+use zvt_rules::Refusal;
+use zvt_rules::Status;
+use zvt_rules::ToldAmount;
+use zvt_rules::ToldCode;
+use zvt_rules::ToldReceipt;
 ghost use mathlib.Core.Path.{_≡_};
 ghost use mathlib.Core.Bool.{_&&_};
 ghost use Prim.Native.Nat.{_≤_};
 ghost use lib.ListN.{length};
-ghost use Rattle.course.specs.Lanes.{receiptBy, lineAt};
-ghost use Rattle.course.specs.Course.{isApproved, isSale, isReversal, concerns, completedBy, settledAs, amountBy, answered, heard};
-ghost use Rattle.course.specs.Desk.{place};
-ghost use Rattle.course.specs.Turnover.{gain, loss};
+ghost use Rattle.desk_rules.specs.Lanes.{receiptBy, lineAt};
+ghost use Rattle.desk_rules.specs.Course.{isApproved, isSale, isReversal, concerns, completedBy, settledAs, amountBy, answered, heard};
+ghost use Rattle.desk_rules.specs.Desk.{place};
+ghost use Rattle.desk_rules.specs.Turnover.{gain, loss};
 ghost use Rattle.desk.specs.Hear.{inCourse, waitingMoved, runningMoved, abortedIn, reportedAs, movedAs, ReadIn, replied};
 
 pub(crate) fn both(a: bool, b: bool) -> bool

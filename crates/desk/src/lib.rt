@@ -4,25 +4,25 @@ mod commands;
 mod hear;
 mod memory;
 
-use course::Answer;
-use course::Desk;
-use course::Kind;
-use course::Lane;
-use course::LaneAnswer;
-use course::LineAnswer;
-use course::Moved;
-use course::Outcome;
-use course::Reply;
+use desk_rules::Answer;
+use desk_rules::Desk;
+use desk_rules::Kind;
+use desk_rules::Lane;
+use desk_rules::LaneAnswer;
+use desk_rules::LineAnswer;
+use desk_rules::Moved;
+use desk_rules::Outcome;
+use desk_rules::Reply;
 use memory::last_line;
 use memory::moved;
 use memory::opening;
 use memory::places_in;
-use messages::Refusal;
+use zvt_rules::Refusal;
 ghost use mathlib.Core.Path.{_≡_};
 ghost use lib.ListN.{length};
-ghost use Rattle.course.specs.Course.{sale, refund, reversal, message, lost};
-ghost use Rattle.course.specs.Memory.{Valid, linesOfDesk, refusedAnswer, answerOf, leavesOf, closeAnswer, lineAnswer, laneAnswer};
-ghost use Rattle.course.specs.Turnover.{netOf};
+ghost use Rattle.desk_rules.specs.Course.{sale, refund, reversal, message, lost};
+ghost use Rattle.desk_rules.specs.Memory.{Valid, linesOfDesk, refusedAnswer, answerOf, leavesOf, closeAnswer, lineAnswer, laneAnswer};
+ghost use Rattle.desk_rules.specs.Turnover.{netOf};
 ghost use Rattle.desk.specs.Opening.{openAnswer, openLeaves};
 
 fn refused(desk: Desk, number: u8) -> Answer

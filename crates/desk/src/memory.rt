@@ -1,16 +1,16 @@
 // The desk's memory: what is read off the book and the lanes, and what a move leaves in them.
 use crate::hear;
-use course::Book;
-use course::Desk;
-use course::Lane;
-use course::Line;
-use course::Moved;
+use desk_rules::Book;
+use desk_rules::Desk;
+use desk_rules::Lane;
+use desk_rules::Line;
+use desk_rules::Moved;
 ghost use mathlib.Core.Path.{_≡_};
 ghost use Prim.Native.Nat.{_<_, _≤_};
 ghost use lib.ListN.{length, take};
-ghost use Rattle.course.specs.Course.{lastLine};
-ghost use Rattle.course.specs.Desk.{places};
-ghost use Rattle.course.specs.Memory.{Valid, withLine, endedDesk, movedDesk};
+ghost use Rattle.desk_rules.specs.Course.{lastLine};
+ghost use Rattle.desk_rules.specs.Desk.{places};
+ghost use Rattle.desk_rules.specs.Memory.{Valid, withLine, endedDesk, movedDesk};
 ghost use Rattle.desk.specs.Opening.{openingNumber};
 
 pub(crate) fn with_line(b: Book, l: Line) -> Book

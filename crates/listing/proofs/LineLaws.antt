@@ -5,12 +5,12 @@ use Prim.Native.Nat.{ℕ, zero, suc, _+_, _≤_}
 use native.Mathlib.Numerals.{add-one}
 use native.Mathlib.Omega.{arith}
 use lib.ListN.{length, drop, length-append, drop-of-length-le}
-use Rattle.messages.specs.Reading.{Reading, got, refused}
-use Rattle.messages.specs.Fields.{Field, plain, container, fieldId}
-use Rattle.messages.specs.Message.{headerSize, Body, bytes, listed, Message, readOf}
-use Rattle.messages.specs.Writing.{fieldBytes, listBytes, bodyBytes, lengthBytes, messageBytes}
-use Rattle.messages.specs.Grammar.{Bytes}
-use Rattle.messages.proofs.MessageBytes.{read-sound}
+use Rattle.zvt_rules.specs.Reading.{Reading, got, refused}
+use Rattle.zvt_rules.specs.Fields.{Field, plain, container, fieldId}
+use Rattle.zvt_rules.specs.Message.{headerSize, Body, bytes, listed, Message, readOf}
+use Rattle.zvt_rules.specs.Writing.{fieldBytes, listBytes, bodyBytes, lengthBytes, messageBytes}
+use Rattle.zvt_rules.specs.Grammar.{Bytes}
+use Rattle.zvt_rules.proofs.MessageBytes.{read-sound}
 use Rattle.zvt.specs.declared.Listed.{Listed}
 use Rattle.zvt.specs.declared.FieldAnswer.the-variants.{Field as listed-field, End}
 use Rattle.zvt.specs.List.{listedAt, listedFrom, listedBody, listedMessage, nthListed}

@@ -5,12 +5,12 @@ use Prim.Native.Nat.{ℕ, _+_, _≤_, _<_}
 use native.Mathlib.Omega.{arith}
 use borrow.Author.Tests.{lt-ltb, le-ltb, eq-eqb, ne-eqb}
 use lib.ListN.{length, take, length-take}
-use Rattle.messages.specs.Reading.{Reading, got, refused}
-use Rattle.messages.specs.Message.{Message, readOf, firstOf}
-use Rattle.messages.specs.Writing.{messageBytes}
-use Rattle.messages.specs.Grammar.{Bytes}
-use Rattle.messages.proofs.MessageBytes.{first-sound, read-complete}
-use Rattle.messages.specs.declared.Refusal.{Refusal}
+use Rattle.zvt_rules.specs.Reading.{Reading, got, refused}
+use Rattle.zvt_rules.specs.Message.{Message, readOf, firstOf}
+use Rattle.zvt_rules.specs.Writing.{messageBytes}
+use Rattle.zvt_rules.specs.Grammar.{Bytes}
+use Rattle.zvt_rules.proofs.MessageBytes.{first-sound, read-complete}
+use Rattle.zvt_rules.specs.declared.Refusal.{Refusal}
 use Rattle.zvt.specs.declared.Message.{Message as ReadMessage}
 use Rattle.zvt.specs.declared.FirstAnswer.the-variants.{Accepted as first-accepted, Refused as first-refused}
 use Rattle.zvt.specs.Answers.{refusalOf, messageAnswer, asFirstAnswer, firstAnswer}

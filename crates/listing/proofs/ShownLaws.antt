@@ -9,11 +9,11 @@ use lib.ListN.{length, getD, length-take}
 use mir.Val.{Fits}
 use mir.Syntax.{w8}
 use lib.Dec.{ltb, eqb}
-use Rattle.messages.specs.Reading.{Reading, got, refused, pick}
-use Rattle.messages.specs.Message.{Message, firstOf}
-use Rattle.messages.specs.Writing.{messageBytes}
-use Rattle.messages.specs.Grammar.{Bytes}
-use Rattle.messages.proofs.MessageBytes.{first-sound}
+use Rattle.zvt_rules.specs.Reading.{Reading, got, refused, pick}
+use Rattle.zvt_rules.specs.Message.{Message, firstOf}
+use Rattle.zvt_rules.specs.Writing.{messageBytes}
+use Rattle.zvt_rules.specs.Grammar.{Bytes}
+use Rattle.zvt_rules.proofs.MessageBytes.{first-sound}
 use Rattle.zvt.proofs.Slices.{bytes-known}
 use Rattle.listing.specs.declared.Line.{Line}
 use Rattle.listing.specs.declared.Line.the-variants.{Message as message-line, Last}

@@ -10,7 +10,7 @@ use borrow.Author.Tests.{lt-ltb, le-ltb, ltb-true}
 use lib.ListN.{length, drop, set, getD, length-set, drop-of-length-le}
 use lib.Seq.{drop-cons}
 use lib.Dec.{ltb}
-use Rattle.messages.specs.Reading.{pick}
+use Rattle.zvt_rules.specs.Reading.{pick}
 use Rattle.io.specs.Digits.{digits, glyph, Fewest}
 use Rattle.listing.specs.Text.{Text, text, one, write, hexText, hexes, bytesText, decimalBy, decimalText}
 

@@ -5,11 +5,11 @@ use mathlib.Core.Bool.{Bool, true, false}
 use mathlib.Core.List.{List, [], _∷_, _++_}
 use lib.ListN.{length}
 use lib.Dec.{ltb, eqb}
-use Rattle.messages.specs.Reading.{Reading, got, refused, pick}
-use Rattle.messages.specs.Fields.{Field, fieldId}
-use Rattle.messages.specs.Message.{Message, Body, bytes, listed, firstOf}
-use Rattle.messages.specs.Writing.{bodyBytes, messageBytes}
-use Rattle.messages.specs.Shortest.{isShort}
+use Rattle.zvt_rules.specs.Reading.{Reading, got, refused, pick}
+use Rattle.zvt_rules.specs.Fields.{Field, fieldId}
+use Rattle.zvt_rules.specs.Message.{Message, Body, bytes, listed, firstOf}
+use Rattle.zvt_rules.specs.Writing.{bodyBytes, messageBytes}
+use Rattle.zvt_rules.specs.Shortest.{isShort}
 use Rattle.zvt.specs.declared.Listed.{Listed}
 use Rattle.zvt.specs.declared.Message.{Message as ReadMessage}
 use Rattle.listing.specs.Text.{text, write, hexText, decimalText}

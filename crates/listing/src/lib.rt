@@ -10,7 +10,7 @@ use zvt::FirstAnswer;
 use zvt::Message;
 ghost use mathlib.Core.Path.{_≡_};
 ghost use Rattle.zvt.specs.List.{listedMessage};
-ghost use Rattle.messages.specs.Message.{readOf};
+ghost use Rattle.zvt_rules.specs.Message.{readOf};
 ghost use Rattle.listing.specs.Text.{text, write};
 ghost use Rattle.listing.specs.Lines.{listedText, startText, sizeText, readText, endText, okText, refusedText, nextOf, Shown, Bounded};
 

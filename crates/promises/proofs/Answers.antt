@@ -8,26 +8,26 @@ use native.Mathlib.Omega.{arith}
 use lib.ListN.{length, take, drop}
 use lib.Seq.{take-at, drop-at}
 use borrow.Author.Tests.{eq-eqb, ne-eqb}
-use Rattle.messages.specs.declared.Fault.{Fault}
-use Rattle.messages.specs.declared.Refusal.{Refusal}
-use Rattle.messages.specs.Reading.{Reading, got, refused}
-use Rattle.messages.specs.Message.{wholeHeader, readOf, firstOf}
+use Rattle.zvt_rules.specs.declared.Fault.{Fault}
+use Rattle.zvt_rules.specs.declared.Refusal.{Refusal}
+use Rattle.zvt_rules.specs.Reading.{Reading, got, refused}
+use Rattle.zvt_rules.specs.Message.{wholeHeader, readOf, firstOf}
 use Rattle.zvt.specs.declared.HeaderAnswer.the-variants.{Refused as header-refused}
 use Rattle.zvt.specs.declared.ReadAnswer.the-variants.{Refused as read-refused}
 use Rattle.zvt.specs.declared.FirstAnswer.the-variants.{Refused as first-refused}
 use Rattle.zvt.specs.declared.ShortenAnswer.the-variants.{Written as short-written, Refused as short-refused}
 use Rattle.zvt.specs.Answers.{refusalOf, asHeaderAnswer, headerAnswer, asReadAnswer, readAnswer, asFirstAnswer, firstAnswer}
 use Rattle.zvt.specs.Writing.{front, shortened, asShortenAnswer, shortenAnswer, lent, shortenLeaves}
-use Rattle.course.specs.declared.Phase.{Phase}
-use Rattle.course.specs.declared.Phase.the-variants.{Idle, Waiting, Running}
-use Rattle.course.specs.declared.Lane.{Lane}
-use Rattle.course.specs.declared.Desk.{Desk}
-use Rattle.course.specs.declared.Answer.{Answer}
-use Rattle.course.specs.declared.Reply.the-variants.{Written, Refused}
-use Rattle.course.specs.Course.{isIdle, Call, writes}
-use Rattle.course.specs.Desk.{laneAt, place, places, Decision, refuse, accept, decide}
-use Rattle.course.specs.Memory.{freshDesk, view, laneFor, Valid, refusedAnswer, answerOf, leavesOf, closeAnswer}
-use Rattle.course.proofs.Memory.{place-idle, place-in, refused-same, accepted-answer, refused-leaves, accepted-leaves}
+use Rattle.desk_rules.specs.declared.Phase.{Phase}
+use Rattle.desk_rules.specs.declared.Phase.the-variants.{Idle, Waiting, Running}
+use Rattle.desk_rules.specs.declared.Lane.{Lane}
+use Rattle.desk_rules.specs.declared.Desk.{Desk}
+use Rattle.desk_rules.specs.declared.Answer.{Answer}
+use Rattle.desk_rules.specs.declared.Reply.the-variants.{Written, Refused}
+use Rattle.desk_rules.specs.Course.{isIdle, Call, writes}
+use Rattle.desk_rules.specs.Desk.{laneAt, place, places, Decision, refuse, accept, decide}
+use Rattle.desk_rules.specs.Memory.{freshDesk, view, laneFor, Valid, refusedAnswer, answerOf, leavesOf, closeAnswer}
+use Rattle.desk_rules.proofs.Memory.{place-idle, place-in, refused-same, accepted-answer, refused-leaves, accepted-leaves}
 use Rattle.promises.specs.Answers.{number, Refuses, Takes, Open}
 use Rattle.promises.proofs.ReadTable.{No}
 

@@ -7,20 +7,20 @@ use Prim.Native.Nat.{ℕ}
 use native.Mathlib.Omega.{arith}
 use lib.Dec.{eqb}
 use borrow.Author.Tests.{eqb-true}
-use Rattle.messages.specs.Reading.{Reading, got, refused}
-use Rattle.messages.specs.Message.{Body, bytes, listed, Message, readOf}
-use Rattle.messages.specs.Values.{statusOf}
-use Rattle.messages.specs.declared.Status.{Status}
-use Rattle.messages.specs.declared.ToldCode.{ToldCode}
-use Rattle.messages.specs.declared.ToldCode.the-variants.{Missing as no-code, Code}
-use Rattle.messages.proofs.Readings.{pick-test}
-use Rattle.course.specs.declared.Outcome.the-variants.{Approved}
-use Rattle.course.specs.declared.Lane.{Lane}
-use Rattle.course.specs.declared.Line.{Line}
-use Rattle.course.specs.declared.Moved.{Moved}
-use Rattle.course.specs.Lanes.{noStatus, lineAt}
-use Rattle.course.specs.Course.{pairIs, amountBy, isReversal, settledAs, completedBy, abortedBy, Ask, Call, sale, refund, reversal, message, lost, laneOf}
-use Rattle.course.specs.Payments.{askOf, orElse, remembered, recalled, verdictOf, verdict, askedLane, lineBy, judged, lineOf}
+use Rattle.zvt_rules.specs.Reading.{Reading, got, refused}
+use Rattle.zvt_rules.specs.Message.{Body, bytes, listed, Message, readOf}
+use Rattle.zvt_rules.specs.Values.{statusOf}
+use Rattle.zvt_rules.specs.declared.Status.{Status}
+use Rattle.zvt_rules.specs.declared.ToldCode.{ToldCode}
+use Rattle.zvt_rules.specs.declared.ToldCode.the-variants.{Missing as no-code, Code}
+use Rattle.zvt_rules.proofs.Readings.{pick-test}
+use Rattle.desk_rules.specs.declared.Outcome.the-variants.{Approved}
+use Rattle.desk_rules.specs.declared.Lane.{Lane}
+use Rattle.desk_rules.specs.declared.Line.{Line}
+use Rattle.desk_rules.specs.declared.Moved.{Moved}
+use Rattle.desk_rules.specs.Lanes.{noStatus, lineAt}
+use Rattle.desk_rules.specs.Course.{pairIs, amountBy, isReversal, settledAs, completedBy, abortedBy, Ask, Call, sale, refund, reversal, message, lost, laneOf}
+use Rattle.desk_rules.specs.Payments.{askOf, orElse, remembered, recalled, verdictOf, verdict, askedLane, lineBy, judged, lineOf}
 use Rattle.promises.specs.Counted.{Completes, Silent, AllSilent, Reported, Counted}
 
 -- ---- the last call: 06 0F

@@ -7,23 +7,23 @@ use mathlib.Core.Logic.{_↔_, Iff·trans}
 use mathlib.Core.List.{List}
 use Prim.Native.Nat.{ℕ, _<_, _≤_}
 use lib.ListN.{length, drop}
-use Rattle.messages.specs.Reading.{got}
-use Rattle.messages.specs.Message.{Header, wholeHeader}
+use Rattle.zvt_rules.specs.Reading.{got}
+use Rattle.zvt_rules.specs.Message.{Header, wholeHeader}
 use Rattle.zvt.specs.declared.HeaderAnswer.the-variants.{Refused as header-refused}
 use Rattle.zvt.specs.declared.ReadAnswer.the-variants.{Refused as read-refused}
 use Rattle.zvt.specs.declared.FirstAnswer.the-variants.{Refused as first-refused}
 use Rattle.zvt.specs.declared.ShortenAnswer.the-variants.{Written as short-written, Refused as short-refused}
 use Rattle.zvt.specs.Answers.{headerAnswer, readAnswer, firstAnswer}
 use Rattle.zvt.specs.Writing.{shortenAnswer, shortenLeaves}
-use Rattle.course.specs.declared.Phase.the-variants.{Idle, Running}
-use Rattle.course.specs.declared.Desk.{Desk}
-use Rattle.course.specs.declared.Reply.the-variants.{Written}
-use Rattle.course.specs.Course.{Call, sale, refund, reversal, message, lost, laneOf, opens, NumbersFit}
-use Rattle.course.specs.Desk.{load}
-use Rattle.course.specs.Table.{phaseAt, phaseOf, LastIsSale, Within, ToReverse, commandSize, Ready, Allowed, GoodHeader, GoodBody, Unread, Heard}
-use Rattle.course.specs.Memory.{freshDesk, view, Valid, answerOf, leavesOf, closeAnswer}
-use Rattle.course.proofs.Refusals as table
-use Rattle.course.proofs.Memory as memory
+use Rattle.desk_rules.specs.declared.Phase.the-variants.{Idle, Running}
+use Rattle.desk_rules.specs.declared.Desk.{Desk}
+use Rattle.desk_rules.specs.declared.Reply.the-variants.{Written}
+use Rattle.desk_rules.specs.Course.{Call, sale, refund, reversal, message, lost, laneOf, opens, NumbersFit}
+use Rattle.desk_rules.specs.Desk.{load}
+use Rattle.desk_rules.specs.Table.{phaseAt, phaseOf, LastIsSale, Within, ToReverse, commandSize, Ready, Allowed, GoodHeader, GoodBody, Unread, Heard}
+use Rattle.desk_rules.specs.Memory.{freshDesk, view, Valid, answerOf, leavesOf, closeAnswer}
+use Rattle.desk_rules.proofs.Refusals as table
+use Rattle.desk_rules.proofs.Memory as memory
 use Rattle.promises.specs.ReadRows.{WholeNo, ReadNo, FirstNo, ShortNo}
 use Rattle.promises.specs.Answers.{number, Refuses, Takes, Open}
 use Rattle.promises.proofs.ReadTable.{whole-no, read-no, first-no, short-no}

@@ -8,16 +8,16 @@ use mathlib.Core.List.{List, []}
 use Prim.Native.Nat.{ℕ, _+_}
 use lib.IntN.{pos, _-ℤ_}
 use lib.ListN.{length, getD}
-use Rattle.course.specs.Desk.{State, fresh, places, run}
-use Rattle.course.specs.Memory.{freshDesk, view}
-use Rattle.course.specs.Runs.{callsOf, own, openings}
-use Rattle.course.specs.Payments.{paymentsOf, oneByOne, linesOf, Says}
-use Rattle.course.specs.Turnover.{gains, losses, netOf}
-use Rattle.course.proofs.Runs.{repliesTo}
-use Rattle.course.proofs.Runs as runs
-use Rattle.course.proofs.DayBook as book
-use Rattle.course.proofs.Order as law
-use Rattle.course.proofs.Net as net
+use Rattle.desk_rules.specs.Desk.{State, fresh, places, run}
+use Rattle.desk_rules.specs.Memory.{freshDesk, view}
+use Rattle.desk_rules.specs.Runs.{callsOf, own, openings}
+use Rattle.desk_rules.specs.Payments.{paymentsOf, oneByOne, linesOf, Says}
+use Rattle.desk_rules.specs.Turnover.{gains, losses, netOf}
+use Rattle.desk_rules.proofs.Runs.{repliesTo}
+use Rattle.desk_rules.proofs.Runs as runs
+use Rattle.desk_rules.proofs.DayBook as book
+use Rattle.desk_rules.proofs.Order as law
+use Rattle.desk_rules.proofs.Net as net
 use Rattle.promises.specs.Days.{Turn, callsIn, OfBytes, Taken, atEnd, linesIn, repliesAt, otherDay}
 use Rattle.promises.proofs.Turns.{calls-roomy, bytes-one-by-one, a-day, as-a-day, of-desk, replies-same}
 

@@ -8,28 +8,28 @@ use mathlib.Core.List.{List, [], _++_}
 use Prim.Native.Nat.{ℕ, _≤_}
 use native.Mathlib.Omega.{arith}
 use lib.ListN.{length, take}
-use Rattle.messages.specs.Reading.{Reading, got, refused, unless, andThen, among}
-use Rattle.messages.specs.Fields.{Field}
-use Rattle.messages.specs.Message.{bytes, listed, Message, lengthOf, headerWith, headerOf, layoutOf, bodyOf, messageOf, wholeHeader, readOf, firstOf, countOf}
-use Rattle.messages.specs.Writing.{messageBytes}
-use Rattle.messages.specs.Shortest.{shortMessage, isShort, write, shorten, SameValues}
-use Rattle.messages.specs.Grammar.{Bytes, MessageOk}
-use Rattle.messages.specs.Digits.{numberOf}
-use Rattle.messages.specs.Values.{valueIn, statusFields}
-use Rattle.messages.proofs.Readings.{got-same, then-on}
-use Rattle.messages.proofs.MessageBytes as reading
-use Rattle.messages.proofs.MessageShort as shortest
+use Rattle.zvt_rules.specs.Reading.{Reading, got, refused, unless, andThen, among}
+use Rattle.zvt_rules.specs.Fields.{Field}
+use Rattle.zvt_rules.specs.Message.{bytes, listed, Message, lengthOf, headerWith, headerOf, layoutOf, bodyOf, messageOf, wholeHeader, readOf, firstOf, countOf}
+use Rattle.zvt_rules.specs.Writing.{messageBytes}
+use Rattle.zvt_rules.specs.Shortest.{shortMessage, isShort, write, shorten, SameValues}
+use Rattle.zvt_rules.specs.Grammar.{Bytes, MessageOk}
+use Rattle.zvt_rules.specs.Digits.{numberOf}
+use Rattle.zvt_rules.specs.Values.{valueIn, statusFields}
+use Rattle.zvt_rules.proofs.Readings.{got-same, then-on}
+use Rattle.zvt_rules.proofs.MessageBytes as reading
+use Rattle.zvt_rules.proofs.MessageShort as shortest
 use Rattle.zvt.specs.declared.Message.{Message as Told}
 use Rattle.zvt.specs.declared.ReadAnswer.the-variants.{Accepted}
 use Rattle.zvt.specs.Answers.{messageAnswer, asReadAnswer, readAnswer}
 use Rattle.zvt.specs.Name.{nameAt, cardName, namePlace}
-use Rattle.course.specs.declared.Desk.{Desk}
-use Rattle.course.specs.declared.Reply.the-variants.{Written}
-use Rattle.course.specs.Numbers.{amountOk, receiptOk, passwordOk}
-use Rattle.course.specs.Commands.{FieldIs, MoneyIs, saleCommand, refundCommand, reversalCommand, saleBytes, refundBytes, reversalBytes, replyBytes}
-use Rattle.course.specs.Course.{Call, writes}
-use Rattle.course.specs.Memory.{laneFor, answerOf, leavesOf}
-use Rattle.course.proofs.Commands as commands
+use Rattle.desk_rules.specs.declared.Desk.{Desk}
+use Rattle.desk_rules.specs.declared.Reply.the-variants.{Written}
+use Rattle.desk_rules.specs.Numbers.{amountOk, receiptOk, passwordOk}
+use Rattle.desk_rules.specs.Commands.{FieldIs, MoneyIs, saleCommand, refundCommand, reversalCommand, saleBytes, refundBytes, reversalBytes, replyBytes}
+use Rattle.desk_rules.specs.Course.{Call, writes}
+use Rattle.desk_rules.specs.Memory.{laneFor, answerOf, leavesOf}
+use Rattle.desk_rules.proofs.Commands as commands
 use Rattle.promises.specs.Names.{shownName, InMessage}
 use Rattle.promises.proofs.Answers.{call-wrote}
 use Rattle.promises.proofs.NameTable.{shown, name-lies}

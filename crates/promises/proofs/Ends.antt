@@ -3,12 +3,12 @@
 use mathlib.Core.Path.{_≡_, refl}
 use Rattle.zvt.proofs as zvt
 use Rattle.desk.proofs as desk
-use Rattle.course.proofs as course
-use Rattle.blocks.proofs as blocks
+use Rattle.desk_rules.proofs as course
+use Rattle.tape_rules.proofs as blocks
 use Rattle.tape.proofs as tape
 use Rattle.listing.proofs as listing
 use Rattle.filling.proofs as filling
-use Rattle.course.specs.Memory.{Valid}
+use Rattle.desk_rules.specs.Memory.{Valid}
 
 -- Every public function's own theorem: a call of it ends, reads and writes only what it was lent, and answers as its contract states.
 pub every-call-ends : {M : Type 1}

@@ -8,11 +8,11 @@ use native.Mathlib.Omega.{arith}
 use lib.ListN.{length}
 use borrow.Author.Tests.{ne-eqb}
 use lib.Dec.{eqb}
-use Rattle.messages.specs.Reading.{pick, part}
-use Rattle.messages.proofs.ObjectSteps.{part-length}
-use Rattle.messages.specs.Message.{readOf}
-use Rattle.messages.specs.Grammar.{Bytes}
-use Rattle.messages.specs.Values.{Found, missing, found, valueIn, statusFields}
+use Rattle.zvt_rules.specs.Reading.{pick, part}
+use Rattle.zvt_rules.proofs.ObjectSteps.{part-length}
+use Rattle.zvt_rules.specs.Message.{readOf}
+use Rattle.zvt_rules.specs.Grammar.{Bytes}
+use Rattle.zvt_rules.specs.Values.{Found, missing, found, valueIn, statusFields}
 use Rattle.zvt.specs.declared.FieldAnswer.{FieldAnswer}
 use Rattle.zvt.specs.declared.FieldAnswer.the-variants.{Field as listed-field, End}
 use Rattle.zvt.specs.List.{namedListed, listedIn, statusPlace}

@@ -7,8 +7,8 @@ use mathlib.Core.List.{List}
 use denote.Ref.{now}
 use Rattle.zvt.proofs as zvt
 use Rattle.desk.proofs as desk
-use Rattle.course.proofs as course
-use Rattle.blocks.proofs as blocks
+use Rattle.desk_rules.proofs as course
+use Rattle.tape_rules.proofs as blocks
 use Rattle.tape.proofs as tape
 use Rattle.listing.proofs as listing
 use Rattle.filling.proofs as filling

@@ -7,13 +7,13 @@ use Prim.Native.Nat.{ℕ, suc, _+_, _<_}
 use native.Mathlib.Omega.{arith}
 use lib.ListN.{length, getD}
 use lib.Dec.{eqb}
-use Rattle.messages.specs.Reading.{pick}
-use Rattle.course.specs.Course.{Call, laneOf, opens}
-use Rattle.course.specs.Desk.{fresh, Accepted}
-use Rattle.course.specs.Runs.{having, callsOf, total, openings}
-use Rattle.course.specs.Payments.{paymentsOf, joined, Begins}
-use Rattle.course.proofs.Lanes.{opening-is}
-use Rattle.course.proofs.DayBook.{every-opening}
+use Rattle.zvt_rules.specs.Reading.{pick}
+use Rattle.desk_rules.specs.Course.{Call, laneOf, opens}
+use Rattle.desk_rules.specs.Desk.{fresh, Accepted}
+use Rattle.desk_rules.specs.Runs.{having, callsOf, total, openings}
+use Rattle.desk_rules.specs.Payments.{paymentsOf, joined, Begins}
+use Rattle.desk_rules.proofs.Lanes.{opening-is}
+use Rattle.desk_rules.proofs.DayBook.{every-opening}
 use Rattle.promises.specs.Days.{openingsIn, firsts}
 
 -- ---- of calls in a row, and of a lane's calls

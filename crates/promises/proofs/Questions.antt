@@ -5,19 +5,19 @@ use mathlib.Core.List.{List, [], _∷_, _++_}
 use Prim.Native.Nat.{ℕ, _<_}
 use native.Mathlib.Omega.{arith}
 use lib.ListN.{length, getD, take}
-use Rattle.course.specs.declared.Outcome.the-variants.{Approved}
-use Rattle.course.specs.declared.Desk.{Desk}
-use Rattle.course.specs.declared.Line.{Line}
-use Rattle.course.specs.Lanes.{blankLine}
-use Rattle.course.specs.Course.{Call, laneOf}
-use Rattle.course.specs.Desk.{State, laneAt, Decision, refuse, accept, decide}
-use Rattle.course.specs.Memory.{freshDesk, linesOfDesk, view, Valid, refusedAnswer, answerOf}
-use Rattle.course.specs.Runs.{ofLane, callsOf}
-use Rattle.course.specs.Payments.{paymentsOf, Whole, lineOf}
-use Rattle.course.proofs.Lanes.{isolation}
-use Rattle.course.proofs.DayBook.{lines-length, line-of}
-use Rattle.course.proofs.DayBook as book
-use Rattle.course.proofs.Memory.{refused-same, follows}
+use Rattle.desk_rules.specs.declared.Outcome.the-variants.{Approved}
+use Rattle.desk_rules.specs.declared.Desk.{Desk}
+use Rattle.desk_rules.specs.declared.Line.{Line}
+use Rattle.desk_rules.specs.Lanes.{blankLine}
+use Rattle.desk_rules.specs.Course.{Call, laneOf}
+use Rattle.desk_rules.specs.Desk.{State, laneAt, Decision, refuse, accept, decide}
+use Rattle.desk_rules.specs.Memory.{freshDesk, linesOfDesk, view, Valid, refusedAnswer, answerOf}
+use Rattle.desk_rules.specs.Runs.{ofLane, callsOf}
+use Rattle.desk_rules.specs.Payments.{paymentsOf, Whole, lineOf}
+use Rattle.desk_rules.proofs.Lanes.{isolation}
+use Rattle.desk_rules.proofs.DayBook.{lines-length, line-of}
+use Rattle.desk_rules.proofs.DayBook as book
+use Rattle.desk_rules.proofs.Memory.{refused-same, follows}
 use Rattle.promises.specs.Days.{Turn, callsIn, OfBytes, Taken, linesIn, openingsIn, firsts}
 use Rattle.promises.specs.Counted.{Counted}
 use Rattle.promises.proofs.Turns.{a-day, of-desk}

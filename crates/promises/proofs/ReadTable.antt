@@ -8,13 +8,13 @@ use native.Mathlib.Omega.{arith}
 use lib.ListN.{length, getD}
 use lib.Dec.{ltb, eqb}
 use borrow.Author.Tests.{lt-ltb, le-ltb, ltb-true, ltb-false, eqb-true, eqb-false, ne-eqb}
-use Rattle.messages.specs.declared.Fault.{Fault}
-use Rattle.messages.specs.Reading.{Reading, got, refused, noHeader, unless, andThen}
-use Rattle.messages.specs.Message.{longLength, lengthOf, Header, headerSize, end, headerWith, headerOf, messageOf, wholeHeader, firstOf, readOf}
-use Rattle.messages.specs.Shortest.{write, shorten}
+use Rattle.zvt_rules.specs.declared.Fault.{Fault}
+use Rattle.zvt_rules.specs.Reading.{Reading, got, refused, noHeader, unless, andThen}
+use Rattle.zvt_rules.specs.Message.{longLength, lengthOf, Header, headerSize, end, headerWith, headerOf, messageOf, wholeHeader, firstOf, readOf}
+use Rattle.zvt_rules.specs.Shortest.{write, shorten}
 use Rattle.zvt.specs.Writing.{shortened}
-use Rattle.messages.proofs.Readings.{got-same, got-not-refused, unless-got, unless-on, then-got, then-on, then-stop}
-use Rattle.messages.proofs.FieldSteps.{header-in}
+use Rattle.zvt_rules.proofs.Readings.{got-same, got-not-refused, unless-got, unless-on, then-got, then-on, then-stop}
+use Rattle.zvt_rules.proofs.FieldSteps.{header-in}
 use Rattle.promises.specs.ReadRows.{Says, HeaderRow, missing, long-missing, over-4096, cut-short, there}
 use Rattle.promises.specs.ReadRows.{HeaderNo, Whole, WholeNo, BodyNo, FirstNo, ReadNo, ShortNo}
 

@@ -7,33 +7,33 @@ use mathlib.Core.List.{List, [], _∷_, _++_}
 use Prim.Native.Nat.{ℕ, _+_}
 use lib.ListN.{length, replicate, length-append, length-replicate}
 use borrow.Author.Tests.{le-leb}
-use Rattle.messages.specs.Reading.{Reading, got, refused, pick, among}
-use Rattle.messages.specs.Fields.{Field, plain, container, fieldId}
-use Rattle.messages.specs.Message.{Body, bytes, listed, Message, readOf, headerSize}
-use Rattle.messages.specs.Writing.{fieldBytes}
-use Rattle.messages.specs.Grammar.{Bytes}
-use Rattle.messages.specs.Digits.{digitBytesOf}
-use Rattle.messages.specs.Values.{fieldValue, statusFields, statusOf, isStatus, statusIn, bodyFields}
-use Rattle.messages.proofs.Readings.{pick-test}
-use Rattle.messages.proofs.MessageBytes.{read-sound}
+use Rattle.zvt_rules.specs.Reading.{Reading, got, refused, pick, among}
+use Rattle.zvt_rules.specs.Fields.{Field, plain, container, fieldId}
+use Rattle.zvt_rules.specs.Message.{Body, bytes, listed, Message, readOf, headerSize}
+use Rattle.zvt_rules.specs.Writing.{fieldBytes}
+use Rattle.zvt_rules.specs.Grammar.{Bytes}
+use Rattle.zvt_rules.specs.Digits.{digitBytesOf}
+use Rattle.zvt_rules.specs.Values.{fieldValue, statusFields, statusOf, isStatus, statusIn, bodyFields}
+use Rattle.zvt_rules.proofs.Readings.{pick-test}
+use Rattle.zvt_rules.proofs.MessageBytes.{read-sound}
 use Rattle.zvt.specs.Answers.{messageAnswer, asReadAnswer, readAnswer}
 use Rattle.zvt.specs.List.{listedAt, listedFrom, listedBody, listedMessage, nthListed, fieldAnswer}
 use Rattle.zvt.specs.declared.Listed.{Listed}
-use Rattle.course.specs.declared.Phase.{Phase}
-use Rattle.course.specs.declared.Phase.the-variants.{Idle, Waiting, Running}
-use Rattle.course.specs.declared.Lane.{Lane}
-use Rattle.course.specs.declared.Line.{Line}
-use Rattle.course.specs.Commands.{saleCommand, refundCommand, reversalCommand, saleBytes, refundBytes, reversalBytes}
-use Rattle.course.specs.Course.{openedBy, Call, sale, refund, reversal, message, lost, laneOf, opens, moves, answered, writes, NumbersFit}
-use Rattle.course.specs.Desk.{State, laneAt, Decision, refuse, accept, decide, step, Accepts, Accepted}
-use Rattle.course.specs.Memory.{linesOfDesk, view, answerBy}
-use Rattle.course.proofs.Commands.{refund-size, reversal-size, sale-reads, refund-reads, reversal-reads}
-use Rattle.blocks.specs.declared.Taped.{Taped}
-use Rattle.blocks.specs.Records.{secret, maskField, maskList, maskBody, maskMessage, masked, HiddenBody, Hidden, Record, replyEntry, entriesBy, entriesOf}
-use Rattle.blocks.specs.Recording.{callBytes, decideTaped, usedBy, tapedBy, tapedAnswer, tapeBy, tapedLeaves}
-use Rattle.blocks.specs.Taping.{Turn, Day, afterTurn, tapedRun}
-use Rattle.blocks.proofs.Masks.{mask-same, mask-reads, mask-hides, masked-refused, alike-recorded, sale-masked, refund-masked, reversal-masked}
-use Rattle.blocks.proofs.Unseen.{alike-heard, heard-reads}
+use Rattle.desk_rules.specs.declared.Phase.{Phase}
+use Rattle.desk_rules.specs.declared.Phase.the-variants.{Idle, Waiting, Running}
+use Rattle.desk_rules.specs.declared.Lane.{Lane}
+use Rattle.desk_rules.specs.declared.Line.{Line}
+use Rattle.desk_rules.specs.Commands.{saleCommand, refundCommand, reversalCommand, saleBytes, refundBytes, reversalBytes}
+use Rattle.desk_rules.specs.Course.{openedBy, Call, sale, refund, reversal, message, lost, laneOf, opens, moves, answered, writes, NumbersFit}
+use Rattle.desk_rules.specs.Desk.{State, laneAt, Decision, refuse, accept, decide, step, Accepts, Accepted}
+use Rattle.desk_rules.specs.Memory.{linesOfDesk, view, answerBy}
+use Rattle.desk_rules.proofs.Commands.{refund-size, reversal-size, sale-reads, refund-reads, reversal-reads}
+use Rattle.tape_rules.specs.declared.Taped.{Taped}
+use Rattle.tape_rules.specs.Records.{secret, maskField, maskList, maskBody, maskMessage, masked, HiddenBody, Hidden, Record, replyEntry, entriesBy, entriesOf}
+use Rattle.tape_rules.specs.Recording.{callBytes, decideTaped, usedBy, tapedBy, tapedAnswer, tapeBy, tapedLeaves}
+use Rattle.tape_rules.specs.Taping.{Turn, Day, afterTurn, tapedRun}
+use Rattle.tape_rules.proofs.Masks.{mask-same, mask-reads, mask-hides, masked-refused, alike-recorded, sale-masked, refund-masked, reversal-masked}
+use Rattle.tape_rules.proofs.Unseen.{alike-heard, heard-reads}
 use Rattle.promises.specs.Days.{OfBytes}
 use Rattle.promises.specs.TapeDays.{Hiding, AlikeCall, unchanged, refunds, reversals, messages, AlikeDays}
 use Rattle.promises.proofs.DemandTwo.{reply-reads-back}

@@ -8,22 +8,22 @@ use lib.ListN.{length, take, drop, length-append}
 use lib.Seq.{take-append-seam, take-at, drop-at}
 use lib.Dec.{ltb}
 use borrow.Author.Tests.{lt-ltb, le-ltb, ltb-true}
-use Rattle.messages.specs.Reading.{Reading, got, refused}
-use Rattle.course.specs.declared.Reply.the-variants.{Written, Refused}
-use Rattle.course.specs.Course.{Call, laneOf, NumbersFit}
-use Rattle.course.specs.Desk.{fresh, laneAt, Decision, refuse, accept, decide, Accepted, run}
-use Rattle.course.specs.declared.Answer.{Answer}
-use Rattle.course.specs.Memory.{view, Valid, answerOf, leavesOf}
-use Rattle.course.proofs.Memory.{accepted-answer, accepted-leaves}
-use Rattle.blocks.specs.declared.BlockAnswer.the-variants.{Payload, Refused as block-refused}
-use Rattle.blocks.specs.declared.Taped.{Taped}
-use Rattle.blocks.specs.declared.TapedAnswer.{TapedAnswer}
-use Rattle.blocks.specs.Records.{recordBytes, joined, entriesOf, recorded, recordsIn}
-use Rattle.blocks.specs.Recording.{blockAnswer, writtenAnswer, writtenLeaves, callBytes, thenSpace, decideTaped, tapedAnswer, tapedOut, tapedLeaves, usedAfter, closeTaped, freshTaped}
-use Rattle.blocks.proofs.RecordLaws.{directionOf, own-first, record-size, records-read}
-use Rattle.blocks.specs.Taping.{Turn, Day, freshDay, decideTurn, afterTurn, tapedRun, keptIf, keptCalls}
-use Rattle.blocks.proofs.Masks.{Each}
-use Rattle.blocks.proofs.Taping.{taped-taken, taped-refused, taped-accepted, TurnFits, tape-follows}
+use Rattle.zvt_rules.specs.Reading.{Reading, got, refused}
+use Rattle.desk_rules.specs.declared.Reply.the-variants.{Written, Refused}
+use Rattle.desk_rules.specs.Course.{Call, laneOf, NumbersFit}
+use Rattle.desk_rules.specs.Desk.{fresh, laneAt, Decision, refuse, accept, decide, Accepted, run}
+use Rattle.desk_rules.specs.declared.Answer.{Answer}
+use Rattle.desk_rules.specs.Memory.{view, Valid, answerOf, leavesOf}
+use Rattle.desk_rules.proofs.Memory.{accepted-answer, accepted-leaves}
+use Rattle.tape_rules.specs.declared.BlockAnswer.the-variants.{Payload, Refused as block-refused}
+use Rattle.tape_rules.specs.declared.Taped.{Taped}
+use Rattle.tape_rules.specs.declared.TapedAnswer.{TapedAnswer}
+use Rattle.tape_rules.specs.Records.{recordBytes, joined, entriesOf, recorded, recordsIn}
+use Rattle.tape_rules.specs.Recording.{blockAnswer, writtenAnswer, writtenLeaves, callBytes, thenSpace, decideTaped, tapedAnswer, tapedOut, tapedLeaves, usedAfter, closeTaped, freshTaped}
+use Rattle.tape_rules.proofs.RecordLaws.{directionOf, own-first, record-size, records-read}
+use Rattle.tape_rules.specs.Taping.{Turn, Day, freshDay, decideTurn, afterTurn, tapedRun, keptIf, keptCalls}
+use Rattle.tape_rules.proofs.Masks.{Each}
+use Rattle.tape_rules.proofs.Taping.{taped-taken, taped-refused, taped-accepted, TurnFits, tape-follows}
 use Rattle.promises.specs.Days.{OfBytes}
 use Rattle.promises.specs.TapeDays.{callsPlayed}
 use Rattle.promises.proofs.ReadTable.{No}

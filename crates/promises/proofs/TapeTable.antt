@@ -9,16 +9,16 @@ use lib.ListN.{length, getD, take, drop, length-take, length-drop, length-append
 use lib.Seq.{drop-drop, getD-drop, getD-take, take-at, drop-at}
 use lib.Dec.{ltb, leb, eqb}
 use borrow.Author.Tests.{lt-ltb, le-ltb, ltb-true, ltb-false, eq-eqb, eqb-true, eqb-false, leb-true, leb-false, le-leb, lt-leb, not-true}
-use Rattle.messages.specs.declared.Fault.{Fault}
-use Rattle.messages.specs.Reading.{Reading, got, refused, noHeader, unless, part}
-use Rattle.messages.specs.Grammar.{Bytes}
-use Rattle.messages.proofs.ObjectBytes.{bytes-drop, bytes-take}
-use Rattle.messages.proofs.Readings.{got-same, got-not-refused, unless-got, unless-on, then-got, then-on}
-use Rattle.blocks.specs.Block.{checkOf, numberIn, usedIn, payloadIn, checkIn, allZero, wrongNumber, wrongCount, wrongFilling, blockBytes, writeBlock, readBlock}
-use Rattle.blocks.specs.Tape.{cut, blocksFrom, tapeBytes, payloadOf}
-use Rattle.blocks.specs.Recording.{writeTape, readTape}
-use Rattle.blocks.proofs.BlockLaws.{block-size, BlockRead, read-got, outside-refused, room-refused, block-written, short-refused, long-refused, check-refused, wrong-refused, right-read, block-sound, block-exactly}
-use Rattle.blocks.proofs.Cutting.{cut-step, cut-count, tape-size, joinFrom, join-none, join-step, join-got, tape-reads, tape-sound}
+use Rattle.zvt_rules.specs.declared.Fault.{Fault}
+use Rattle.zvt_rules.specs.Reading.{Reading, got, refused, noHeader, unless, part}
+use Rattle.zvt_rules.specs.Grammar.{Bytes}
+use Rattle.zvt_rules.proofs.ObjectBytes.{bytes-drop, bytes-take}
+use Rattle.zvt_rules.proofs.Readings.{got-same, got-not-refused, unless-got, unless-on, then-got, then-on}
+use Rattle.tape_rules.specs.Block.{checkOf, numberIn, usedIn, payloadIn, checkIn, allZero, wrongNumber, wrongCount, wrongFilling, blockBytes, writeBlock, readBlock}
+use Rattle.tape_rules.specs.Tape.{cut, blocksFrom, tapeBytes, payloadOf}
+use Rattle.tape_rules.specs.Recording.{writeTape, readTape}
+use Rattle.tape_rules.proofs.BlockLaws.{block-size, BlockRead, read-got, outside-refused, room-refused, block-written, short-refused, long-refused, check-refused, wrong-refused, right-read, block-sound, block-exactly}
+use Rattle.tape_rules.proofs.Cutting.{cut-step, cut-count, tape-size, joinFrom, join-none, join-step, join-got, tape-reads, tape-sound}
 use Rattle.promises.specs.TapeRows.{Outside, number-0, payload-0, payload-over, WriteNo, outside, too-small}
 use Rattle.promises.specs.TapeRows.{Wrong, always-wrong, other-number, count-0, count-over, short-before-last, filling}
 use Rattle.promises.specs.TapeRows.{blocksFor, pieceAt, blockAt, lastAt, TapeWriteNo, too-many, tape-too-small, TapeNo}

@@ -7,29 +7,29 @@ use mathlib.Core.List.{List, [], _++_}
 use Prim.Native.Nat.{ℕ, _+_, _*_, _^_, _<_, _≤_}
 use native.Mathlib.Omega.{arith}
 use lib.ListN.{length, getD, take, drop, set, length-take, length-drop, drop-of-length-le}
-use Rattle.messages.specs.Reading.{Reading, got}
-use Rattle.messages.specs.Message.{Message, readOf}
-use Rattle.messages.specs.Grammar.{Bytes}
-use Rattle.messages.specs.Values.{statusOf}
+use Rattle.zvt_rules.specs.Reading.{Reading, got}
+use Rattle.zvt_rules.specs.Message.{Message, readOf}
+use Rattle.zvt_rules.specs.Grammar.{Bytes}
+use Rattle.zvt_rules.specs.Values.{statusOf}
 use Rattle.zvt.specs.Answers.{readAnswer}
 use Rattle.zvt.specs.List.{fieldAnswer}
-use Rattle.course.specs.declared.Lane.{Lane}
-use Rattle.course.specs.declared.Reply.the-variants.{Written, Refused}
-use Rattle.course.specs.Course.{Call, heard, NumbersFit}
-use Rattle.course.specs.Desk.{fresh, Accepted, run}
-use Rattle.course.specs.Memory.{view, Valid, answerOf, leavesOf}
-use Rattle.blocks.specs.declared.BlockAnswer.the-variants.{Payload, Refused as block-refused}
-use Rattle.blocks.specs.declared.Taped.{Taped}
-use Rattle.blocks.specs.Block.{blockBytes, writeBlock, readBlock}
-use Rattle.blocks.specs.Records.{masked, Alike, recorded, entriesOf, recordsIn}
-use Rattle.blocks.specs.Tape.{tapeBytes, payloadOf}
-use Rattle.blocks.specs.Recording.{freshTaped, blockAnswer, writtenAnswer, writtenLeaves, writeTape, readTape, callBytes, tapedAnswer, tapedOut, tapedLeaves, closeTaped}
-use Rattle.blocks.specs.Taping.{Turn, Day, freshDay, tapedRun, keptCalls}
-use Rattle.blocks.proofs.BlockLaws as block
-use Rattle.blocks.proofs.Changed.{changed-byte}
-use Rattle.blocks.proofs.Masks.{masked-twice, alike-recorded}
-use Rattle.blocks.proofs.Unseen.{mask-heard}
-use Rattle.blocks.proofs.Taping.{taped-valid, close-taped-valid}
+use Rattle.desk_rules.specs.declared.Lane.{Lane}
+use Rattle.desk_rules.specs.declared.Reply.the-variants.{Written, Refused}
+use Rattle.desk_rules.specs.Course.{Call, heard, NumbersFit}
+use Rattle.desk_rules.specs.Desk.{fresh, Accepted, run}
+use Rattle.desk_rules.specs.Memory.{view, Valid, answerOf, leavesOf}
+use Rattle.tape_rules.specs.declared.BlockAnswer.the-variants.{Payload, Refused as block-refused}
+use Rattle.tape_rules.specs.declared.Taped.{Taped}
+use Rattle.tape_rules.specs.Block.{blockBytes, writeBlock, readBlock}
+use Rattle.tape_rules.specs.Records.{masked, Alike, recorded, entriesOf, recordsIn}
+use Rattle.tape_rules.specs.Tape.{tapeBytes, payloadOf}
+use Rattle.tape_rules.specs.Recording.{freshTaped, blockAnswer, writtenAnswer, writtenLeaves, writeTape, readTape, callBytes, tapedAnswer, tapedOut, tapedLeaves, closeTaped}
+use Rattle.tape_rules.specs.Taping.{Turn, Day, freshDay, tapedRun, keptCalls}
+use Rattle.tape_rules.proofs.BlockLaws as block
+use Rattle.tape_rules.proofs.Changed.{changed-byte}
+use Rattle.tape_rules.proofs.Masks.{masked-twice, alike-recorded}
+use Rattle.tape_rules.proofs.Unseen.{mask-heard}
+use Rattle.tape_rules.proofs.Taping.{taped-valid, close-taped-valid}
 use Rattle.promises.specs.Days.{OfBytes}
 use Rattle.promises.specs.TapeRows.{Outside, WriteNo, BlockNo, blocksFor, pieceAt, blockAt, TapeWriteNo, TapeNo}
 use Rattle.promises.specs.TapeDays.{callsPlayed, Hiding, AlikeDays}

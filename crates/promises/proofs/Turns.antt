@@ -5,18 +5,18 @@ use mathlib.Core.List.{List, [], _∷_, _++_}
 use Prim.Native.Nat.{ℕ, zero, suc}
 use lib.ListN.{length, getD, set, replicate}
 use borrow.Author.Tests.{lt-leb, le-ltb}
-use Rattle.messages.specs.Reading.{pick}
-use Rattle.course.specs.declared.Desk.{Desk}
-use Rattle.course.specs.declared.Reply.{Reply}
-use Rattle.course.specs.Course.{Call, laneOf, opens, moves, writes}
-use Rattle.course.specs.Desk.{State, fresh, laneAt, load, accept, decide, Accepts, Accepted, run, wrote}
-use Rattle.course.specs.Memory.{freshDesk, view, Valid, answerOf, leavesOf}
-use Rattle.course.specs.Runs.{having, replies}
-use Rattle.course.specs.Payments.{Payments, ends, withCall, paymentsFrom, paymentsOf, joined, oneByOne}
-use Rattle.course.proofs.Commands.{writes-short}
-use Rattle.course.proofs.Lanes.{told, passing, room-tell, accepts-any}
-use Rattle.course.proofs.Runs.{repliesTo}
-use Rattle.course.proofs.Memory.{follows, fresh-valid, answer-valid, view-fresh}
+use Rattle.zvt_rules.specs.Reading.{pick}
+use Rattle.desk_rules.specs.declared.Desk.{Desk}
+use Rattle.desk_rules.specs.declared.Reply.{Reply}
+use Rattle.desk_rules.specs.Course.{Call, laneOf, opens, moves, writes}
+use Rattle.desk_rules.specs.Desk.{State, fresh, laneAt, load, accept, decide, Accepts, Accepted, run, wrote}
+use Rattle.desk_rules.specs.Memory.{freshDesk, view, Valid, answerOf, leavesOf}
+use Rattle.desk_rules.specs.Runs.{having, replies}
+use Rattle.desk_rules.specs.Payments.{Payments, ends, withCall, paymentsFrom, paymentsOf, joined, oneByOne}
+use Rattle.desk_rules.proofs.Commands.{writes-short}
+use Rattle.desk_rules.proofs.Lanes.{told, passing, room-tell, accepts-any}
+use Rattle.desk_rules.proofs.Runs.{repliesTo}
+use Rattle.desk_rules.proofs.Memory.{follows, fresh-valid, answer-valid, view-fresh}
 use Rattle.promises.specs.Days.{Turn, callsIn, buffer, roomy, OfBytes, answerIn, Taken, deskAfter, bytesBy, written, repliesAt}
 use Rattle.promises.proofs.Answers.{decided-yes, call-wrote}
 

@@ -1,13 +1,13 @@
 -- What an answer of the desk says: refused with a number, or taken. Definitions only.
 use mathlib.Core.Path.{_≡_}
 use Prim.Native.Nat.{ℕ, _<_}
-use Rattle.messages.specs.declared.Refusal.{Refusal}
-use Rattle.course.specs.declared.Phase.the-variants.{Idle}
-use Rattle.course.specs.declared.Desk.{Desk}
-use Rattle.course.specs.declared.Answer.{Answer}
-use Rattle.course.specs.declared.Reply.the-variants.{Written, Refused}
-use Rattle.course.specs.Table.{phaseAt}
-use Rattle.course.specs.Memory.{view}
+use Rattle.zvt_rules.specs.declared.Refusal.{Refusal}
+use Rattle.desk_rules.specs.declared.Phase.the-variants.{Idle}
+use Rattle.desk_rules.specs.declared.Desk.{Desk}
+use Rattle.desk_rules.specs.declared.Answer.{Answer}
+use Rattle.desk_rules.specs.declared.Reply.the-variants.{Written, Refused}
+use Rattle.desk_rules.specs.Table.{phaseAt}
+use Rattle.desk_rules.specs.Memory.{view}
 
 -- "Each refusal returns its number only"
 abbrev pub number : ℕ → Refusal

@@ -5,10 +5,10 @@ use mathlib.Core.Bool.{Bool}
 use mathlib.Core.List.{List, [], _∷_}
 use lib.IntN.{ℤ}
 use lib.ListN.{length, take, replicate}
-use Rattle.messages.specs.Reading.{Reading, got, refused}
-use Rattle.messages.specs.Fields.{Field}
-use Rattle.messages.specs.Message.{Message, readOf}
-use Rattle.messages.specs.Values.{bodyFields}
+use Rattle.zvt_rules.specs.Reading.{Reading, got, refused}
+use Rattle.zvt_rules.specs.Fields.{Field}
+use Rattle.zvt_rules.specs.Message.{Message, readOf}
+use Rattle.zvt_rules.specs.Values.{bodyFields}
 use Rattle.zvt.specs.declared.ReadAnswer.{ReadAnswer}
 use Rattle.zvt.specs.declared.ReadAnswer.the-variants.{Accepted, Refused as read-refused}
 use Rattle.zvt.specs.declared.ShortenAnswer.{ShortenAnswer}
@@ -16,13 +16,13 @@ use Rattle.zvt.specs.declared.ShortenAnswer.the-variants.{Written as short-writ
 use Rattle.zvt.specs.Answers.{readAnswer}
 use Rattle.zvt.specs.Writing.{shortenAnswer, shortenLeaves}
 use Rattle.zvt.specs.Name.{cardName}
-use Rattle.course.specs.declared.Line.{Line}
-use Rattle.course.specs.declared.Desk.{Desk}
-use Rattle.course.specs.declared.Reply.{Reply}
-use Rattle.course.specs.declared.Reply.the-variants.{Written, Refused}
-use Rattle.course.specs.Course.{Call}
-use Rattle.course.specs.Memory.{freshDesk, linesOfDesk, answerOf, leavesOf}
-use Rattle.course.specs.Turnover.{netOf}
+use Rattle.desk_rules.specs.declared.Line.{Line}
+use Rattle.desk_rules.specs.declared.Desk.{Desk}
+use Rattle.desk_rules.specs.declared.Reply.{Reply}
+use Rattle.desk_rules.specs.declared.Reply.the-variants.{Written, Refused}
+use Rattle.desk_rules.specs.Course.{Call}
+use Rattle.desk_rules.specs.Memory.{freshDesk, linesOfDesk, answerOf, leavesOf}
+use Rattle.desk_rules.specs.Turnover.{netOf}
 use Rattle.promises.specs.Days.{buffer}
 
 -- ---- a row: what is asked, and what the page answers

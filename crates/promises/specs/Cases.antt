@@ -4,12 +4,12 @@ use mathlib.Core.Bool.{true, false}
 use mathlib.Core.List.{List, [], _∷_, _++_}
 use lib.IntN.{pos}
 use lib.ListN.{replicate}
-use Rattle.messages.specs.Objects.{bare, leaf, none, more}
-use Rattle.messages.specs.Fields.{plain, container}
-use Rattle.course.specs.declared.Kind.the-variants.{Sale}
-use Rattle.course.specs.declared.Outcome.the-variants.{Declined, Approved}
-use Rattle.course.specs.declared.Line.{Line}
-use Rattle.course.specs.Course.{Call, sale, reversal, message}
+use Rattle.zvt_rules.specs.Objects.{bare, leaf, none, more}
+use Rattle.zvt_rules.specs.Fields.{plain, container}
+use Rattle.desk_rules.specs.declared.Kind.the-variants.{Sale}
+use Rattle.desk_rules.specs.declared.Outcome.the-variants.{Declined, Approved}
+use Rattle.desk_rules.specs.declared.Line.{Line}
+use Rattle.desk_rules.specs.Course.{Call, sale, reversal, message}
 use Rattle.promises.specs.Asking.{Row, _⟶_, read, list, name, short, call, day, accepted, fields, bytes, book, no, status}
 
 -- so many bytes, written as one number

@@ -3,14 +3,14 @@
 use mathlib.Core.Path.{_≡_}
 use Prim.Native.Nat.{ℕ}
 use mathlib.Core.List.{List, [], _∷_, _++_}
-use Rattle.messages.specs.Reading.{got}
-use Rattle.messages.specs.Message.{Message, readOf}
-use Rattle.messages.specs.Values.{statusOf}
-use Rattle.messages.specs.declared.Status.{Status}
-use Rattle.messages.specs.declared.ToldCode.the-variants.{Code}
-use Rattle.course.specs.declared.Line.{Line}
-use Rattle.course.specs.Course.{amountBy, Call, message}
-use Rattle.course.specs.Payments.{askOf, remembered, lineOf}
+use Rattle.zvt_rules.specs.Reading.{got}
+use Rattle.zvt_rules.specs.Message.{Message, readOf}
+use Rattle.zvt_rules.specs.Values.{statusOf}
+use Rattle.zvt_rules.specs.declared.Status.{Status}
+use Rattle.zvt_rules.specs.declared.ToldCode.the-variants.{Code}
+use Rattle.desk_rules.specs.declared.Line.{Line}
+use Rattle.desk_rules.specs.Course.{amountBy, Call, message}
+use Rattle.desk_rules.specs.Payments.{askOf, remembered, lineOf}
 
 -- "06 0F: ends.": the bytes of a completion
 pub record Completes (s : List ℕ) : Type 0 where

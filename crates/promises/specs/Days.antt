@@ -3,16 +3,16 @@
 use Prim.Native.Nat.{ℕ}
 use mathlib.Core.List.{List, [], _∷_}
 use lib.ListN.{length, take, replicate}
-use Rattle.messages.specs.Reading.{pick}
-use Rattle.course.specs.declared.Desk.{Desk}
-use Rattle.course.specs.declared.Reply.{Reply}
-use Rattle.course.specs.declared.Reply.the-variants.{Written, Refused}
-use Rattle.course.specs.declared.Answer.{Answer}
-use Rattle.course.specs.declared.Line.{Line}
-use Rattle.course.specs.Course.{Call, laneOf, opens, NumbersFit}
-use Rattle.course.specs.Memory.{freshDesk, linesOfDesk, answerOf, leavesOf}
-use Rattle.course.specs.Runs.{having, Exchange, replies}
-use Rattle.course.specs.Payments.{oneByOne}
+use Rattle.zvt_rules.specs.Reading.{pick}
+use Rattle.desk_rules.specs.declared.Desk.{Desk}
+use Rattle.desk_rules.specs.declared.Reply.{Reply}
+use Rattle.desk_rules.specs.declared.Reply.the-variants.{Written, Refused}
+use Rattle.desk_rules.specs.declared.Answer.{Answer}
+use Rattle.desk_rules.specs.declared.Line.{Line}
+use Rattle.desk_rules.specs.Course.{Call, laneOf, opens, NumbersFit}
+use Rattle.desk_rules.specs.Memory.{freshDesk, linesOfDesk, answerOf, leavesOf}
+use Rattle.desk_rules.specs.Runs.{having, Exchange, replies}
+use Rattle.desk_rules.specs.Payments.{oneByOne}
 use Rattle.promises.specs.Answers.{Takes}
 
 -- a call, and what it is lent for its command or reply; a lost link needs none

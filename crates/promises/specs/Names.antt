@@ -3,8 +3,8 @@ use mathlib.Core.Path.{_≡_}
 use Prim.Native.Nat.{ℕ, _+_, _≤_}
 use mathlib.Core.List.{List, [], _∷_}
 use lib.ListN.{length}
-use Rattle.messages.specs.Reading.{part}
-use Rattle.messages.specs.Values.{Found, missing, found}
+use Rattle.zvt_rules.specs.Reading.{part}
+use Rattle.zvt_rules.specs.Values.{Found, missing, found}
 use Rattle.zvt.specs.Name.{upToZero}
 
 -- ".. or the name is empty, the whole of the till's own name"

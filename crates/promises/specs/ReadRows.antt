@@ -6,10 +6,10 @@ use Prim.Native.Nat.{ℕ, _+_, _*_, _<_, _≤_}
 use mathlib.Core.Bool.{Bool, true, false}
 use mathlib.Core.List.{List}
 use lib.ListN.{length, getD}
-use Rattle.messages.specs.declared.Fault.{Fault}
-use Rattle.messages.specs.Reading.{Reading, got, refused, noHeader, part}
-use Rattle.messages.specs.Message.{Header, headerSize, start, end, layoutOf, bodyOf}
-use Rattle.messages.specs.Shortest.{shorten}
+use Rattle.zvt_rules.specs.declared.Fault.{Fault}
+use Rattle.zvt_rules.specs.Reading.{Reading, got, refused, noHeader, part}
+use Rattle.zvt_rules.specs.Message.{Header, headerSize, start, end, layoutOf, bodyOf}
+use Rattle.zvt_rules.specs.Shortest.{shorten}
 
 -- "A length byte 00 to FE is the length. FF means that two more bytes hold it, low byte first.": they are there, and say v
 abbrev pub Says : List ℕ → Bool → ℕ → Type 0

@@ -4,12 +4,12 @@ use mathlib.Core.Path.{_≡_}
 use mathlib.Core.Logic.{_⊎_}
 use Prim.Native.Nat.{ℕ, _≤_}
 use mathlib.Core.List.{List, [], _∷_}
-use Rattle.messages.specs.Reading.{got}
-use Rattle.messages.specs.Message.{Message, readOf}
-use Rattle.messages.specs.Grammar.{Bytes}
-use Rattle.course.specs.Course.{Call, refund, reversal, message}
-use Rattle.blocks.specs.Records.{Record, Alike, Hidden}
-use Rattle.blocks.specs.Taping.{Turn}
+use Rattle.zvt_rules.specs.Reading.{got}
+use Rattle.zvt_rules.specs.Message.{Message, readOf}
+use Rattle.zvt_rules.specs.Grammar.{Bytes}
+use Rattle.desk_rules.specs.Course.{Call, refund, reversal, message}
+use Rattle.tape_rules.specs.Records.{Record, Alike, Hidden}
+use Rattle.tape_rules.specs.Taping.{Turn}
 
 -- what the turns of a day call
 unfoldable pub callsPlayed : List Turn → List Call

@@ -5,8 +5,8 @@ use mathlib.Core.Bool.{Bool, false}
 use mathlib.Core.List.{List}
 use lib.ListN.{length, getD, take, drop}
 use lib.Dec.{leb}
-use Rattle.messages.specs.Reading.{got}
-use Rattle.blocks.specs.Block.{checkOf, numberIn, usedIn, checkIn, readBlock}
+use Rattle.zvt_rules.specs.Reading.{got}
+use Rattle.tape_rules.specs.Block.{checkOf, numberIn, usedIn, checkIn, readBlock}
 
 -- ---- a block
 

@@ -2,8 +2,8 @@
 // theorems in proofs/.
 //
 // The wrong programs that document 01 rules out by name, and the must-fail edits that show that each breaks a promise:
-// a desk that refuses everything          course/must-fail/refuses_everything
+// a desk that refuses everything          desk_rules/must-fail/refuses_everything
 // one that always says 80 00 00           desk/must-fail/always_replies
 // one that does nothing at an end         desk/must-fail/nothing_at_an_end
 // one that books only the first payment   desk/must-fail/first_payment_only
-// a reader with an invented object count  messages/must-fail/count_constant, counts_leaves_only; zvt/must-fail/count_without_inner
+// a reader with an invented object count  zvt_rules/must-fail/count_constant, counts_leaves_only; zvt/must-fail/count_without_inner

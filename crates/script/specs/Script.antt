@@ -1,6 +1,6 @@
 -- What the functions of a script promise one another. Definitions only.
 use Prim.Native.Nat.{ℕ, _≤_}
-use Rattle.course.specs.Memory.{Valid}
+use Rattle.desk_rules.specs.Memory.{Valid}
 use Rattle.script.specs.declared.notation.Bytes.{Bytes}
 use Rattle.script.specs.declared.notation.Bytes.the-variants.{Bad, Size}
 use Rattle.script.specs.declared.orders.Asked.{Asked}

@@ -1,11 +1,10 @@
 // The text of answers, each line with its end. Text goes behind the first at bytes of out; each function answers where it then ends.
-use blocks::Block;
-use course::Kind;
-use course::Lane;
-use course::Line;
-use course::Outcome;
-use course::Phase;
-use course::Reply;
+use desk_rules::Kind;
+use desk_rules::Lane;
+use desk_rules::Line;
+use desk_rules::Outcome;
+use desk_rules::Phase;
+use desk_rules::Reply;
 use filling::fill;
 use listing::add_ids;
 use listing::text::add;
@@ -13,11 +12,12 @@ use listing::text::add_all;
 use listing::text::add_bytes;
 use listing::text::add_decimal;
 use listing::text::add_hex;
-use messages::Status;
-use messages::ToldAmount;
-use messages::ToldCode;
-use messages::ToldReceipt;
+use tape_rules::Block;
 use zvt::Message;
+use zvt_rules::Status;
+use zvt_rules::ToldAmount;
+use zvt_rules::ToldCode;
+use zvt_rules::ToldReceipt;
 ghost use mathlib.Core.Path.{_≡_};
 ghost use lib.IntN.{natAbs};
 

@@ -2,10 +2,10 @@
 use crate::answers;
 use crate::notation::Bytes;
 use crate::notation::bytes_of;
-use blocks::Block;
-use blocks::BlockAnswer;
 use check::same;
-use course::Reply;
+use desk_rules::Reply;
+use tape_rules::Block;
+use tape_rules::BlockAnswer;
 ghost use mathlib.Core.Path.{_≡_};
 ghost use Prim.Native.Nat.{_<_, _≤_};
 ghost use lib.ListN.{length};

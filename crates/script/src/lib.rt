@@ -6,8 +6,8 @@ mod orders;
 mod turns;
 mod words;
 
-use blocks::Block;
 use libc::STDOUT_FILENO;
+use tape_rules::Block;
 use turns::State;
 use turns::Turn;
 ghost use Prim.Native.Nat.{_≤_};

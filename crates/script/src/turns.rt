@@ -4,19 +4,19 @@ use crate::orders::Call;
 use crate::orders::Order;
 use crate::orders::Question;
 use crate::orders::Reading;
-use blocks::Taped;
-use blocks::TapedAnswer;
-use course::Book;
-use course::Desk;
-use course::Lane;
-use course::LaneAnswer;
-use course::LineAnswer;
-use course::Reply;
+use desk_rules::Book;
+use desk_rules::Desk;
+use desk_rules::Lane;
+use desk_rules::LaneAnswer;
+use desk_rules::LineAnswer;
+use desk_rules::Reply;
 use listing::text::add_bytes;
+use tape_rules::Taped;
+use tape_rules::TapedAnswer;
 use zvt::ReadAnswer;
 use zvt::ShortenAnswer;
 ghost use Prim.Native.Nat.{_≤_};
-ghost use Rattle.course.specs.Memory.{Valid};
+ghost use Rattle.desk_rules.specs.Memory.{Valid};
 ghost use Rattle.script.specs.Script.{Ready};
 
 // The desk with its tape, and how many bytes are lent to a call that writes.

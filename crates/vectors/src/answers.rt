@@ -7,15 +7,15 @@ use listing::text::add_all;
 use listing::text::add_bytes;
 use listing::text::add_decimal;
 use listing::text::add_hex;
-use messages::ToldAmount;
-use messages::ToldCode;
-use messages::ToldReceipt;
 use zvt::FieldAnswer;
 use zvt::FirstAnswer;
 use zvt::HeaderAnswer;
 use zvt::Message;
 use zvt::ReadAnswer;
 use zvt::ShortenAnswer;
+use zvt_rules::ToldAmount;
+use zvt_rules::ToldCode;
+use zvt_rules::ToldReceipt;
 ghost use Prim.Native.Nat.{_<_};
 ghost use lib.ListN.{length};
 

@@ -5,18 +5,18 @@ use Prim.Native.Nat.{ℕ, _+_, _-_, _<_, _≤_}
 use native.Mathlib.Omega.{arith}
 use lib.ListN.{length, take, drop, length-append}
 use borrow.Author.Tests.{lt-ltb, le-ltb}
-use Rattle.messages.specs.declared.Fault.{Fault}
-use Rattle.messages.specs.declared.Layout.the-variants.{Plain, List as FieldList, Secured}
-use Rattle.messages.specs.Reading.{Reading, got, refused, no, unless, andThen}
-use Rattle.messages.specs.Fields.{unlessUndecimal, countFields, ListRead, listOf}
-use Rattle.messages.specs.Message.{listed, bodyOf, securedOf, countBody}
-use Rattle.messages.specs.Writing.{listBytes, bodyBytes}
-use Rattle.messages.specs.Shortest.{shortList, shortBody}
-use Rattle.messages.specs.Grammar.{Bytes}
-use Rattle.messages.proofs.Readings.{unless-on, then-on, then-stop}
-use Rattle.messages.proofs.ObjectSteps.{tail}
-use Rattle.messages.proofs.ObjectBytes.{bytes-drop}
-use Rattle.messages.proofs.FieldBytes.{list-sound}
+use Rattle.zvt_rules.specs.declared.Fault.{Fault}
+use Rattle.zvt_rules.specs.declared.Layout.the-variants.{Plain, List as FieldList, Secured}
+use Rattle.zvt_rules.specs.Reading.{Reading, got, refused, no, unless, andThen}
+use Rattle.zvt_rules.specs.Fields.{unlessUndecimal, countFields, ListRead, listOf}
+use Rattle.zvt_rules.specs.Message.{listed, bodyOf, securedOf, countBody}
+use Rattle.zvt_rules.specs.Writing.{listBytes, bodyBytes}
+use Rattle.zvt_rules.specs.Shortest.{shortList, shortBody}
+use Rattle.zvt_rules.specs.Grammar.{Bytes}
+use Rattle.zvt_rules.proofs.Readings.{unless-on, then-on, then-stop}
+use Rattle.zvt_rules.proofs.ObjectSteps.{tail}
+use Rattle.zvt_rules.proofs.ObjectBytes.{bytes-drop}
+use Rattle.zvt_rules.proofs.FieldBytes.{list-sound}
 use Rattle.zvt.specs.declared.objects.Tally.{Tally}
 use Rattle.zvt.specs.declared.objects.PartRead.the-variants.{Part, Refused as part-refused}
 use Rattle.zvt.specs.declared.fields.Decimals.the-variants.{All, Refused as decimals-refused}

@@ -7,15 +7,15 @@ use native.Mathlib.Omega.{arith}
 use lib.ListN.{length, getD, take, drop, length-drop}
 use lib.Dec.{leb}
 use borrow.Author.Tests.{leb-true}
-use Rattle.messages.specs.declared.Fault.{Fault}
-use Rattle.messages.specs.declared.Format.{Format}
-use Rattle.messages.specs.declared.Format.the-variants.{Unknown, Fixed, Digits, Container}
-use Rattle.messages.specs.Reading.{Reading, got, refused, no, unless, andThen, among, part}
-use Rattle.messages.specs.Fields.{formatOf, decimal, unlessUndecimal, holdsDigits, digitsIn, plain}
-use Rattle.messages.specs.Shortest.{shortField}
-use Rattle.messages.proofs.Readings.{then-on, then-stop, pick-true, pick-false}
-use Rattle.messages.proofs.ObjectSteps.{tail, len-in}
-use Rattle.messages.proofs.FieldSteps.{digits-in}
+use Rattle.zvt_rules.specs.declared.Fault.{Fault}
+use Rattle.zvt_rules.specs.declared.Format.{Format}
+use Rattle.zvt_rules.specs.declared.Format.the-variants.{Unknown, Fixed, Digits, Container}
+use Rattle.zvt_rules.specs.Reading.{Reading, got, refused, no, unless, andThen, among, part}
+use Rattle.zvt_rules.specs.Fields.{formatOf, decimal, unlessUndecimal, holdsDigits, digitsIn, plain}
+use Rattle.zvt_rules.specs.Shortest.{shortField}
+use Rattle.zvt_rules.proofs.Readings.{then-on, then-stop, pick-true, pick-false}
+use Rattle.zvt_rules.proofs.ObjectSteps.{tail, len-in}
+use Rattle.zvt_rules.proofs.FieldSteps.{digits-in}
 use Rattle.zvt.specs.declared.objects.LenRead.the-variants.{Len as len-read, Refused as len-refused}
 use Rattle.zvt.specs.declared.objects.Bounds.{Bounds}
 use Rattle.zvt.specs.declared.objects.BoundsRead.the-variants.{Refused as bounds-refused}

@@ -6,19 +6,19 @@ use Prim.Native.Nat.{ℕ, _+_, _≤_}
 use native.Mathlib.Omega.{arith}
 use lib.ListN.{length, getD, drop}
 use borrow.Author.Tests.{ltb-false}
-use Rattle.messages.specs.declared.Fault.{Fault}
-use Rattle.messages.specs.declared.Format.{Format}
-use Rattle.messages.specs.declared.Format.the-variants.{Unknown, Fixed, Digits, Container}
-use Rattle.messages.specs.Reading.{Reading, got, refused, no, unless, andThen, part}
-use Rattle.messages.specs.Objects.{formSize, Len, lenOf, RunRead, runOf}
-use Rattle.messages.specs.Fields.{formatOf, unknown, digitsOf, digitsIn, plain, container, FieldRead, valueOf, plainOf, containerOf, fieldBy}
-use Rattle.messages.specs.Writing.{runBytes, fieldBytes}
-use Rattle.messages.specs.Shortest.{formFor, shortRun, shortField}
-use Rattle.messages.specs.Grammar.{Bytes}
-use Rattle.messages.proofs.Readings.{got-same, got-not-refused, unless-got, unless-on, then-got, then-on, then-stop}
-use Rattle.messages.proofs.ObjectSteps.{part-length}
-use Rattle.messages.proofs.ObjectBytes.{bytes-drop, bytes-part}
-use Rattle.messages.proofs.Lengths.{sized-size, len-sound}
+use Rattle.zvt_rules.specs.declared.Fault.{Fault}
+use Rattle.zvt_rules.specs.declared.Format.{Format}
+use Rattle.zvt_rules.specs.declared.Format.the-variants.{Unknown, Fixed, Digits, Container}
+use Rattle.zvt_rules.specs.Reading.{Reading, got, refused, no, unless, andThen, part}
+use Rattle.zvt_rules.specs.Objects.{formSize, Len, lenOf, RunRead, runOf}
+use Rattle.zvt_rules.specs.Fields.{formatOf, unknown, digitsOf, digitsIn, plain, container, FieldRead, valueOf, plainOf, containerOf, fieldBy}
+use Rattle.zvt_rules.specs.Writing.{runBytes, fieldBytes}
+use Rattle.zvt_rules.specs.Shortest.{formFor, shortRun, shortField}
+use Rattle.zvt_rules.specs.Grammar.{Bytes}
+use Rattle.zvt_rules.proofs.Readings.{got-same, got-not-refused, unless-got, unless-on, then-got, then-on, then-stop}
+use Rattle.zvt_rules.proofs.ObjectSteps.{part-length}
+use Rattle.zvt_rules.proofs.ObjectBytes.{bytes-drop, bytes-part}
+use Rattle.zvt_rules.proofs.Lengths.{sized-size, len-sound}
 use Rattle.zvt.specs.declared.objects.Bounds.{Bounds}
 use Rattle.zvt.specs.declared.objects.BoundsRead.the-variants.{Bounds as bounds-read, Refused as bounds-refused}
 use Rattle.zvt.specs.declared.objects.Tally.{Tally}

@@ -7,11 +7,11 @@ use native.Mathlib.Omega.{arith}
 use lib.ListN.{length, getD}
 use lib.Dec.{ltb}
 use borrow.Author.Tests.{lt-ltb, le-ltb, ne-eqb}
-use Rattle.messages.specs.declared.Fault.{Fault}
-use Rattle.messages.specs.Reading.{Reading, got, refused, noHeader, unless, andThen}
-use Rattle.messages.specs.Message.{BodyLength, longLength, lengthOf, Header as MessageHeader, headerSize, end, headerWith, headerOf, wholeHeader}
-use Rattle.messages.proofs.Readings.{unless-got, then-got, then-on, then-stop}
-use Rattle.messages.proofs.FieldSteps.{header-in}
+use Rattle.zvt_rules.specs.declared.Fault.{Fault}
+use Rattle.zvt_rules.specs.Reading.{Reading, got, refused, noHeader, unless, andThen}
+use Rattle.zvt_rules.specs.Message.{BodyLength, longLength, lengthOf, Header as MessageHeader, headerSize, end, headerWith, headerOf, wholeHeader}
+use Rattle.zvt_rules.proofs.Readings.{unless-got, then-got, then-on, then-stop}
+use Rattle.zvt_rules.proofs.FieldSteps.{header-in}
 use Rattle.zvt.specs.declared.Header.{Header}
 use Rattle.zvt.specs.declared.headers.HeaderRead.{HeaderRead}
 use Rattle.zvt.specs.declared.headers.HeaderRead.the-variants.{Header as header-read, Refused as header-refused}

@@ -9,18 +9,18 @@ use lib.ListN.{length, getD, take, drop, set, length-set, replicate, length-repl
 use lib.Seq.{getD-set-same, getD-set-other, getD-drop, drop-drop, length-take-le}
 use lib.Dec.{eqb}
 use borrow.Author.Tests.{eqb-true, eqb-false}
-use Rattle.messages.specs.declared.Fault.{Fault}
-use Rattle.messages.specs.Reading.{Reading, got, refused, andThen, among}
-use Rattle.messages.specs.Fields.{Field, FieldRead, ListRead, fieldOf, listOf}
-use Rattle.messages.specs.Writing.{fieldBytes, listBytes}
-use Rattle.messages.specs.Shortest.{shortField, shortList}
-use Rattle.messages.specs.Grammar.{Bytes, FieldOk, ListOk}
-use Rattle.messages.proofs.Readings.{then-on, then-stop}
-use Rattle.messages.proofs.ObjectSteps.{tail}
-use Rattle.messages.proofs.ObjectBytes.{bytes-drop}
-use Rattle.messages.proofs.FieldSteps.{field-in, list-none, list-step}
-use Rattle.messages.proofs.FieldBytes.{field-sound, list-sound}
-use Rattle.messages.proofs.FieldShort.{field-shorter, list-shorter}
+use Rattle.zvt_rules.specs.declared.Fault.{Fault}
+use Rattle.zvt_rules.specs.Reading.{Reading, got, refused, andThen, among}
+use Rattle.zvt_rules.specs.Fields.{Field, FieldRead, ListRead, fieldOf, listOf}
+use Rattle.zvt_rules.specs.Writing.{fieldBytes, listBytes}
+use Rattle.zvt_rules.specs.Shortest.{shortField, shortList}
+use Rattle.zvt_rules.specs.Grammar.{Bytes, FieldOk, ListOk}
+use Rattle.zvt_rules.proofs.Readings.{then-on, then-stop}
+use Rattle.zvt_rules.proofs.ObjectSteps.{tail}
+use Rattle.zvt_rules.proofs.ObjectBytes.{bytes-drop}
+use Rattle.zvt_rules.proofs.FieldSteps.{field-in, list-none, list-step}
+use Rattle.zvt_rules.proofs.FieldBytes.{field-sound, list-sound}
+use Rattle.zvt_rules.proofs.FieldShort.{field-shorter, list-shorter}
 use Rattle.zvt.specs.declared.objects.Tally.{Tally}
 use Rattle.zvt.specs.declared.objects.PartRead.{PartRead}
 use Rattle.zvt.specs.declared.objects.PartRead.the-variants.{Part, Refused as part-refused}

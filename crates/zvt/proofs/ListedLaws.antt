@@ -8,15 +8,15 @@ use native.Mathlib.Omega.{arith}
 use lib.ListN.{length, getD, take, drop, length-drop}
 use lib.Seq.{length-take-le, take-add, take-take, drop-at, drop-drop, getD-take, getD-drop}
 use borrow.Author.Tests.{eq-eqb, ne-eqb}
-use Rattle.messages.specs.declared.Fault.{Fault}
-use Rattle.messages.specs.Reading.{got, part}
-use Rattle.messages.specs.Fields.{Field, fieldId, listOf}
-use Rattle.messages.specs.Writing.{fieldBytes}
-use Rattle.messages.specs.Grammar.{Bytes}
-use Rattle.messages.proofs.ObjectSteps.{part-length}
-use Rattle.messages.proofs.ObjectBytes.{bytes-part}
-use Rattle.messages.proofs.FieldSteps.{list-none}
-use Rattle.messages.specs.Values.{fieldValue}
+use Rattle.zvt_rules.specs.declared.Fault.{Fault}
+use Rattle.zvt_rules.specs.Reading.{got, part}
+use Rattle.zvt_rules.specs.Fields.{Field, fieldId, listOf}
+use Rattle.zvt_rules.specs.Writing.{fieldBytes}
+use Rattle.zvt_rules.specs.Grammar.{Bytes}
+use Rattle.zvt_rules.proofs.ObjectSteps.{part-length}
+use Rattle.zvt_rules.proofs.ObjectBytes.{bytes-part}
+use Rattle.zvt_rules.proofs.FieldSteps.{list-none}
+use Rattle.zvt_rules.specs.Values.{fieldValue}
 use Rattle.zvt.specs.declared.Listed.{Listed}
 use Rattle.zvt.specs.declared.FieldAnswer.the-variants.{Field as listed-field, End}
 use Rattle.zvt.specs.declared.objects.Bounds.{Bounds}

@@ -6,8 +6,8 @@ use native.Mathlib.Omega.{arith}
 use native.Mathlib.Nat.{mod-eq-of-lt}
 use lib.Bits.{bitAnd, and-mask, and-high}
 use borrow.Author.Tests.{eq-eqb, ne-eqb, le-leb, lt-leb}
-use Rattle.messages.specs.Objects.{longTag, topBit, nested}
-use Rattle.messages.specs.Fields.{decimal}
+use Rattle.zvt_rules.specs.Objects.{longTag, topBit, nested}
+use Rattle.zvt_rules.specs.Fields.{decimal}
 
 -- ---- the first byte of a tag and the second
 pub long-tag : (b : ℕ) → bitAnd b 0x1F ≡ 0x1F → longTag b ≡ true

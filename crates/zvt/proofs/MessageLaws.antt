@@ -7,22 +7,22 @@ use native.Mathlib.Omega.{arith}
 use lib.ListN.{length}
 use lib.Dec.{leb, eqb}
 use borrow.Author.Tests.{eq-eqb, ne-eqb, le-leb, lt-leb}
-use Rattle.messages.specs.declared.Fault.{Fault}
-use Rattle.messages.specs.declared.Layout.{Layout}
-use Rattle.messages.specs.Reading.{got, refused, part}
-use Rattle.messages.specs.Message.{Header as MessageHeader, headerSize, start, end, layoutOf, Body, bodyOf, Message as MessageTree, messageOf, headerOf, readOf, firstOf, countOf}
-use Rattle.messages.specs.Writing.{bodyBytes, messageBytes}
-use Rattle.messages.specs.Shortest.{isShortBody, isShort}
-use Rattle.messages.specs.Grammar.{Bytes, LayoutOk}
-use Rattle.messages.proofs.Readings.{then-on, then-stop}
-use Rattle.messages.proofs.ObjectSteps.{part-length}
-use Rattle.messages.proofs.ObjectBytes.{bytes-part}
-use Rattle.messages.proofs.FieldSteps.{header-in}
-use Rattle.messages.proofs.MessageBytes.{body-sound, message-size}
-use Rattle.messages.proofs.MessageShort.{body-shorter, body-exactly}
+use Rattle.zvt_rules.specs.declared.Fault.{Fault}
+use Rattle.zvt_rules.specs.declared.Layout.{Layout}
+use Rattle.zvt_rules.specs.Reading.{got, refused, part}
+use Rattle.zvt_rules.specs.Message.{Header as MessageHeader, headerSize, start, end, layoutOf, Body, bodyOf, Message as MessageTree, messageOf, headerOf, readOf, firstOf, countOf}
+use Rattle.zvt_rules.specs.Writing.{bodyBytes, messageBytes}
+use Rattle.zvt_rules.specs.Shortest.{isShortBody, isShort}
+use Rattle.zvt_rules.specs.Grammar.{Bytes, LayoutOk}
+use Rattle.zvt_rules.proofs.Readings.{then-on, then-stop}
+use Rattle.zvt_rules.proofs.ObjectSteps.{part-length}
+use Rattle.zvt_rules.proofs.ObjectBytes.{bytes-part}
+use Rattle.zvt_rules.proofs.FieldSteps.{header-in}
+use Rattle.zvt_rules.proofs.MessageBytes.{body-sound, message-size}
+use Rattle.zvt_rules.proofs.MessageShort.{body-shorter, body-exactly}
 use Rattle.zvt.specs.declared.Header.{Header}
 use Rattle.zvt.specs.declared.Message.{Message}
-use Rattle.messages.specs.declared.Refusal.{Refusal}
+use Rattle.zvt_rules.specs.declared.Refusal.{Refusal}
 use Rattle.zvt.specs.declared.headers.HeaderRead.the-variants.{Header as header-read, Refused as header-refused}
 use Rattle.zvt.specs.declared.objects.Tally.{Tally}
 use Rattle.zvt.specs.declared.objects.PartRead.the-variants.{Part, Refused as part-refused}

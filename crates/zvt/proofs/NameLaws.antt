@@ -9,8 +9,8 @@ use lib.ListN.{length, getD, take, drop, drop-of-length-le}
 use lib.Seq.{drop-cons, take-take}
 use lib.Dec.{eqb}
 use borrow.Author.Tests.{eq-eqb, ne-eqb}
-use Rattle.messages.specs.Reading.{pick, part}
-use Rattle.messages.proofs.ObjectSteps.{part-length}
+use Rattle.zvt_rules.specs.Reading.{pick, part}
+use Rattle.zvt_rules.proofs.ObjectSteps.{part-length}
 use Rattle.zvt.specs.declared.Listed.{Listed}
 use Rattle.zvt.specs.declared.FieldAnswer.the-variants.{Field as listed-field, End}
 use Rattle.zvt.specs.List.{namedListed, listedIn}

@@ -6,14 +6,14 @@ use Prim.Native.Nat.{ℕ, _+_, _-_, _*_, _<_, _≤_}
 use native.Mathlib.Omega.{arith}
 use lib.ListN.{length, getD, take, drop, length-drop}
 use borrow.Author.Tests.{lt-ltb, le-ltb, ne-eqb}
-use Rattle.messages.specs.declared.Fault.{Fault}
-use Rattle.messages.specs.Reading.{Reading, got, refused, no, unless, andThen}
-use Rattle.messages.specs.Objects.{longTag, topBit, nested, formSize, secondTag, tagSize, Len, oneByte, twoBytes, lenOf}
-use Rattle.messages.specs.Objects.{Head, headWith, headOf}
-use Rattle.messages.specs.Shortest.{formFor}
+use Rattle.zvt_rules.specs.declared.Fault.{Fault}
+use Rattle.zvt_rules.specs.Reading.{Reading, got, refused, no, unless, andThen}
+use Rattle.zvt_rules.specs.Objects.{longTag, topBit, nested, formSize, secondTag, tagSize, Len, oneByte, twoBytes, lenOf}
+use Rattle.zvt_rules.specs.Objects.{Head, headWith, headOf}
+use Rattle.zvt_rules.specs.Shortest.{formFor}
 use Rattle.zvt.specs.declared.objects.TagRead.the-variants.{Size, Refused as tag-refused}
-use Rattle.messages.proofs.Readings.{then-on, then-stop}
-use Rattle.messages.proofs.ObjectSteps.{tail, tag-in, len-in}
+use Rattle.zvt_rules.proofs.Readings.{then-on, then-stop}
+use Rattle.zvt_rules.proofs.ObjectSteps.{tail, tag-in, len-in}
 use Rattle.zvt.specs.declared.objects.LenRead.{LenRead}
 use Rattle.zvt.specs.declared.objects.LenRead.the-variants.{Len as len-read, Refused as len-refused}
 use Rattle.zvt.specs.declared.objects.Bounds.{Bounds}

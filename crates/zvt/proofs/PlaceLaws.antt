@@ -9,18 +9,18 @@ use lib.ListN.{length, drop, length-append}
 use lib.Dec.{eqb}
 use borrow.Author.Tests.{ne-eqb}
 use lib.Seq.{drop-append-seam, drop-drop}
-use Rattle.messages.specs.declared.Fault.{Fault}
-use Rattle.messages.specs.declared.Layout.{Layout}
-use Rattle.messages.specs.declared.Layout.the-variants.{Plain, List as FieldList, Secured}
-use Rattle.messages.specs.Reading.{Reading, got, refused, pick, part, among}
-use Rattle.messages.specs.Fields.{Field, listOf}
-use Rattle.messages.specs.Message.{headerSize, layoutOf, Body, bytes, listed, Message as MessageTree, readOf}
-use Rattle.messages.specs.Writing.{listBytes, bodyBytes, lengthBytes, messageBytes}
-use Rattle.messages.specs.Grammar.{Bytes, FieldsOk, LayoutOk, LengthOk, MessageOk}
-use Rattle.messages.proofs.ObjectSteps.{tail}
-use Rattle.messages.proofs.FieldBytes.{list-complete}
-use Rattle.messages.proofs.MessageBytes.{read-sound, message-size}
-use Rattle.messages.specs.declared.Refusal.{Refusal}
+use Rattle.zvt_rules.specs.declared.Fault.{Fault}
+use Rattle.zvt_rules.specs.declared.Layout.{Layout}
+use Rattle.zvt_rules.specs.declared.Layout.the-variants.{Plain, List as FieldList, Secured}
+use Rattle.zvt_rules.specs.Reading.{Reading, got, refused, pick, part, among}
+use Rattle.zvt_rules.specs.Fields.{Field, listOf}
+use Rattle.zvt_rules.specs.Message.{headerSize, layoutOf, Body, bytes, listed, Message as MessageTree, readOf}
+use Rattle.zvt_rules.specs.Writing.{listBytes, bodyBytes, lengthBytes, messageBytes}
+use Rattle.zvt_rules.specs.Grammar.{Bytes, FieldsOk, LayoutOk, LengthOk, MessageOk}
+use Rattle.zvt_rules.proofs.ObjectSteps.{tail}
+use Rattle.zvt_rules.proofs.FieldBytes.{list-complete}
+use Rattle.zvt_rules.proofs.MessageBytes.{read-sound, message-size}
+use Rattle.zvt_rules.specs.declared.Refusal.{Refusal}
 use Rattle.zvt.specs.declared.Message.{Message}
 use Rattle.zvt.specs.declared.ReadAnswer.the-variants.{Accepted, Refused}
 use Rattle.zvt.specs.declared.Listed.{Listed}
@@ -28,7 +28,7 @@ use Rattle.zvt.specs.declared.ListPlace.{ListPlace}
 use Rattle.zvt.specs.declared.ListPlace.the-variants.{Nowhere, Between}
 use Rattle.zvt.specs.Answers.{messageAnswer, asReadAnswer, readAnswer}
 use Rattle.zvt.specs.List.{listedFrom, listedBody, listedMessage, listFields, fieldsBetween, listedIn, ListIn, bodyPlace, messagePlace, listPlace, placeOfStatus, statusPlace, namedListed}
-use Rattle.messages.specs.Values.{isStatus, bodyFields, statusFields}
+use Rattle.zvt_rules.specs.Values.{isStatus, bodyFields, statusFields}
 use Rattle.zvt.specs.Name.{NameAt, own, nameIn, nameOf, nameAt}
 use Rattle.zvt.specs.Writing.{ListReads}
 

@@ -7,18 +7,18 @@ use native.Mathlib.Omega.{arith}
 use lib.ListN.{length, getD, take, drop, length-append}
 use lib.Seq.{length-take-le}
 use borrow.Author.Tests.{le-leb, lt-leb, eq-eqb, ne-eqb}
-use Rattle.messages.specs.declared.Fault.{Fault}
-use Rattle.messages.specs.Reading.{Reading, got, refused, no, unless, andThen, part}
-use Rattle.messages.specs.Objects.{nested, Form, formSize, Head, from, to, headOf}
-use Rattle.messages.specs.Objects.{Obj, Objs, more, OneRead, RunRead, insideOf, oneBy, oneOf, runOf}
-use Rattle.messages.specs.Writing.{objBytes, runBytes}
-use Rattle.messages.specs.Shortest.{formFor, shortObj, shortRun}
-use Rattle.messages.specs.Grammar.{Bytes, FormOk, ObjOk, RunOk}
-use Rattle.messages.proofs.Readings.{then-on, then-stop, pick-true, pick-false}
-use Rattle.messages.proofs.ObjectSteps.{tail, part-length, head-got, head-in, branchOf, leafOf, one-in, run-none, run-step}
-use Rattle.messages.proofs.Lengths.{object-size, len-sound, form-shorter}
-use Rattle.messages.proofs.ObjectShort.{obj-shorter, run-shorter}
-use Rattle.messages.proofs.ObjectBytes.{bytes-drop, bytes-part, run-sound, one-sound}
+use Rattle.zvt_rules.specs.declared.Fault.{Fault}
+use Rattle.zvt_rules.specs.Reading.{Reading, got, refused, no, unless, andThen, part}
+use Rattle.zvt_rules.specs.Objects.{nested, Form, formSize, Head, from, to, headOf}
+use Rattle.zvt_rules.specs.Objects.{Obj, Objs, more, OneRead, RunRead, insideOf, oneBy, oneOf, runOf}
+use Rattle.zvt_rules.specs.Writing.{objBytes, runBytes}
+use Rattle.zvt_rules.specs.Shortest.{formFor, shortObj, shortRun}
+use Rattle.zvt_rules.specs.Grammar.{Bytes, FormOk, ObjOk, RunOk}
+use Rattle.zvt_rules.proofs.Readings.{then-on, then-stop, pick-true, pick-false}
+use Rattle.zvt_rules.proofs.ObjectSteps.{tail, part-length, head-got, head-in, branchOf, leafOf, one-in, run-none, run-step}
+use Rattle.zvt_rules.proofs.Lengths.{object-size, len-sound, form-shorter}
+use Rattle.zvt_rules.proofs.ObjectShort.{obj-shorter, run-shorter}
+use Rattle.zvt_rules.proofs.ObjectBytes.{bytes-drop, bytes-part, run-sound, one-sound}
 use Rattle.zvt.specs.declared.objects.Bounds.{Bounds}
 use Rattle.zvt.specs.declared.objects.BoundsRead.{BoundsRead}
 use Rattle.zvt.specs.declared.objects.BoundsRead.the-variants.{Bounds as bounds-read, Refused as bounds-refused}

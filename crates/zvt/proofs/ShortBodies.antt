@@ -5,19 +5,19 @@ use Prim.Native.Nat.{ℕ, _+_, _≤_}
 use native.Mathlib.Omega.{arith}
 use lib.ListN.{length, take, drop}
 use borrow.Author.Tests.{ltb-false}
-use Rattle.messages.specs.declared.Layout.{Layout}
-use Rattle.messages.specs.declared.Layout.the-variants.{Plain, List as FieldList, Secured}
-use Rattle.messages.specs.Reading.{got}
-use Rattle.messages.specs.Fields.{listOf}
-use Rattle.messages.specs.Message.{Body, bytes, bodyOf, securedOf}
-use Rattle.messages.specs.Writing.{bodyBytes}
-use Rattle.messages.specs.Shortest.{shortBody}
-use Rattle.messages.specs.Grammar.{Bytes}
-use Rattle.messages.proofs.Readings.{got-same, unless-got, then-got}
-use Rattle.messages.proofs.ObjectBytes.{bytes-drop}
-use Rattle.messages.proofs.FieldSteps.{undecimal-got}
-use Rattle.messages.proofs.MessageBytes.{body-sound}
-use Rattle.messages.proofs.MessageShort.{body-shorter}
+use Rattle.zvt_rules.specs.declared.Layout.{Layout}
+use Rattle.zvt_rules.specs.declared.Layout.the-variants.{Plain, List as FieldList, Secured}
+use Rattle.zvt_rules.specs.Reading.{got}
+use Rattle.zvt_rules.specs.Fields.{listOf}
+use Rattle.zvt_rules.specs.Message.{Body, bytes, bodyOf, securedOf}
+use Rattle.zvt_rules.specs.Writing.{bodyBytes}
+use Rattle.zvt_rules.specs.Shortest.{shortBody}
+use Rattle.zvt_rules.specs.Grammar.{Bytes}
+use Rattle.zvt_rules.proofs.Readings.{got-same, unless-got, then-got}
+use Rattle.zvt_rules.proofs.ObjectBytes.{bytes-drop}
+use Rattle.zvt_rules.proofs.FieldSteps.{undecimal-got}
+use Rattle.zvt_rules.proofs.MessageBytes.{body-sound}
+use Rattle.zvt_rules.proofs.MessageShort.{body-shorter}
 use Rattle.zvt.specs.Writing.{ListReads, shortListOf, BodyReads, bodyWritten, shortBodyOf}
 use Rattle.zvt.proofs.ShortLists.{list-written, list-alone}
 

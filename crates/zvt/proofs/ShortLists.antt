@@ -8,20 +8,20 @@ use lib.ListN.{length, getD, take, drop}
 use lib.Seq.{take-suc}
 use lib.Dec.{eqb}
 use borrow.Author.Tests.{le-ltb}
-use Rattle.messages.specs.declared.Fault.{Fault}
-use Rattle.messages.specs.declared.Format.{Format}
-use Rattle.messages.specs.declared.Format.the-variants.{Unknown, Fixed, Digits, Container}
-use Rattle.messages.specs.Reading.{got, unless, part, among}
-use Rattle.messages.specs.Objects.{Form, formSize, Objs}
-use Rattle.messages.specs.Fields.{formatOf, digitsOf, Field, plain, container, fieldId, countFields, FieldRead, ListRead, fieldBy, fieldOf, listOf}
-use Rattle.messages.specs.Writing.{sized, fieldBytes, listBytes}
-use Rattle.messages.specs.Shortest.{shortField, shortList}
-use Rattle.messages.specs.Grammar.{Bytes, ListOk}
-use Rattle.messages.proofs.Readings.{got-same, got-not-refused, then-got, then-on}
-use Rattle.messages.proofs.ObjectBytes.{bytes-drop, bytes-part, run-sound}
-use Rattle.messages.proofs.FieldSteps.{plain-got, container-got, field-got, list-none, list-step}
-use Rattle.messages.proofs.FieldBytes.{FieldSound, field-sound, list-sound, list-complete}
-use Rattle.messages.specs.Values.{fieldValue}
+use Rattle.zvt_rules.specs.declared.Fault.{Fault}
+use Rattle.zvt_rules.specs.declared.Format.{Format}
+use Rattle.zvt_rules.specs.declared.Format.the-variants.{Unknown, Fixed, Digits, Container}
+use Rattle.zvt_rules.specs.Reading.{got, unless, part, among}
+use Rattle.zvt_rules.specs.Objects.{Form, formSize, Objs}
+use Rattle.zvt_rules.specs.Fields.{formatOf, digitsOf, Field, plain, container, fieldId, countFields, FieldRead, ListRead, fieldBy, fieldOf, listOf}
+use Rattle.zvt_rules.specs.Writing.{sized, fieldBytes, listBytes}
+use Rattle.zvt_rules.specs.Shortest.{shortField, shortList}
+use Rattle.zvt_rules.specs.Grammar.{Bytes, ListOk}
+use Rattle.zvt_rules.proofs.Readings.{got-same, got-not-refused, then-got, then-on}
+use Rattle.zvt_rules.proofs.ObjectBytes.{bytes-drop, bytes-part, run-sound}
+use Rattle.zvt_rules.proofs.FieldSteps.{plain-got, container-got, field-got, list-none, list-step}
+use Rattle.zvt_rules.proofs.FieldBytes.{FieldSound, field-sound, list-sound, list-complete}
+use Rattle.zvt_rules.specs.Values.{fieldValue}
 use Rattle.zvt.specs.declared.objects.Bounds.{Bounds}
 use Rattle.zvt.specs.declared.objects.BoundsRead.the-variants.{Bounds as bounds-read, Refused as bounds-refused}
 use Rattle.zvt.specs.Objects.{asBounds, boundsIn}

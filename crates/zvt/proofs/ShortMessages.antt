@@ -6,18 +6,18 @@ use native.Mathlib.Omega.{arith}
 use lib.ListN.{length, take, drop, length-append}
 use lib.Seq.{length-take-le}
 use borrow.Author.Tests.{lt-ltb, le-ltb}
-use Rattle.messages.specs.declared.Fault.{Fault}
-use Rattle.messages.specs.Reading.{Reading, got, refused, noHeader, unless, part}
-use Rattle.messages.specs.Message.{Header as MessageHeader, start, end, layoutOf, Body, bodyOf, messageOf, wholeHeader, readOf}
-use Rattle.messages.specs.Writing.{bodyBytes, messageBytes}
-use Rattle.messages.specs.Shortest.{shortBody, shortMessage, write, shorten}
-use Rattle.messages.specs.Grammar.{Bytes}
-use Rattle.messages.proofs.Readings.{then-on, then-stop}
-use Rattle.messages.proofs.ObjectSteps.{part-length}
-use Rattle.messages.proofs.ObjectBytes.{bytes-part}
-use Rattle.messages.proofs.FieldSteps.{header-in}
-use Rattle.messages.proofs.MessageBytes.{body-sound, body-complete}
-use Rattle.messages.proofs.MessageShort.{body-shorter}
+use Rattle.zvt_rules.specs.declared.Fault.{Fault}
+use Rattle.zvt_rules.specs.Reading.{Reading, got, refused, noHeader, unless, part}
+use Rattle.zvt_rules.specs.Message.{Header as MessageHeader, start, end, layoutOf, Body, bodyOf, messageOf, wholeHeader, readOf}
+use Rattle.zvt_rules.specs.Writing.{bodyBytes, messageBytes}
+use Rattle.zvt_rules.specs.Shortest.{shortBody, shortMessage, write, shorten}
+use Rattle.zvt_rules.specs.Grammar.{Bytes}
+use Rattle.zvt_rules.proofs.Readings.{then-on, then-stop}
+use Rattle.zvt_rules.proofs.ObjectSteps.{part-length}
+use Rattle.zvt_rules.proofs.ObjectBytes.{bytes-part}
+use Rattle.zvt_rules.proofs.FieldSteps.{header-in}
+use Rattle.zvt_rules.proofs.MessageBytes.{body-sound, body-complete}
+use Rattle.zvt_rules.proofs.MessageShort.{body-shorter}
 use Rattle.zvt.specs.declared.Header.{Header}
 use Rattle.zvt.specs.declared.objects.Tally.{Tally}
 use Rattle.zvt.specs.declared.objects.PartRead.the-variants.{Part, Refused as part-refused}

@@ -6,16 +6,16 @@ use mathlib.Core.Logic.{⊎-elim}
 use Prim.Native.Nat.{ℕ, _+_, _-_, _<_, _≤_}
 use native.Mathlib.Omega.{arith}
 use lib.ListN.{length, getD, take, drop}
-use Rattle.messages.specs.declared.Fault.{Fault}
-use Rattle.messages.specs.Reading.{got, pick, part}
-use Rattle.messages.specs.Objects.{nested, Head, from, to, Obj, leaf, branch, Objs, none, more, OneRead, RunRead, oneOf, runOf, countObjs}
-use Rattle.messages.specs.Writing.{lenBytes, sized, objBytes, runBytes}
-use Rattle.messages.specs.Shortest.{formFor, shortObj, shortRun}
-use Rattle.messages.specs.Grammar.{Bytes, ObjOk, RunOk}
-use Rattle.messages.proofs.Readings.{then-on}
-use Rattle.messages.proofs.ObjectSteps.{Inside, head-in, one-got, run-none, run-got}
-use Rattle.messages.proofs.ObjectBytes.{bytes-drop, bytes-part, one-sound, run-sound, run-complete}
-use Rattle.messages.proofs.ObjectShort.{run-shorter}
+use Rattle.zvt_rules.specs.declared.Fault.{Fault}
+use Rattle.zvt_rules.specs.Reading.{got, pick, part}
+use Rattle.zvt_rules.specs.Objects.{nested, Head, from, to, Obj, leaf, branch, Objs, none, more, OneRead, RunRead, oneOf, runOf, countObjs}
+use Rattle.zvt_rules.specs.Writing.{lenBytes, sized, objBytes, runBytes}
+use Rattle.zvt_rules.specs.Shortest.{formFor, shortObj, shortRun}
+use Rattle.zvt_rules.specs.Grammar.{Bytes, ObjOk, RunOk}
+use Rattle.zvt_rules.proofs.Readings.{then-on}
+use Rattle.zvt_rules.proofs.ObjectSteps.{Inside, head-in, one-got, run-none, run-got}
+use Rattle.zvt_rules.proofs.ObjectBytes.{bytes-drop, bytes-part, one-sound, run-sound, run-complete}
+use Rattle.zvt_rules.proofs.ObjectShort.{run-shorter}
 use Rattle.zvt.specs.declared.objects.Bounds.{Bounds}
 use Rattle.zvt.specs.declared.objects.BoundsRead.the-variants.{Bounds as bounds-read, Refused as bounds-refused}
 use Rattle.zvt.specs.Objects.{asBounds, boundsOf, headAnswer}

@@ -9,23 +9,23 @@ use native.Mathlib.Omega.{arith}
 use lib.ListN.{length, getD}
 use lib.Dec.{eqb}
 use borrow.Author.Tests.{eqb-true}
-use Rattle.messages.specs.declared.Format.the-variants.{Fixed, Container}
-use Rattle.messages.specs.Reading.{pick, part, among}
-use Rattle.messages.specs.Digits.{numberOf}
-use Rattle.messages.specs.Fields.{formatOf, holdsDigits, Field, plain, container, fieldId}
-use Rattle.messages.specs.Grammar.{Bytes, Decimals, SizeOk, FieldOk, ListOk}
-use Rattle.messages.proofs.Readings.{pick-test}
-use Rattle.messages.proofs.ObjectSteps.{part-length}
-use Rattle.messages.proofs.ObjectBytes.{bytes-part}
-use Rattle.messages.proofs.FieldBytes.{list-sound}
-use Rattle.messages.proofs.DigitLaws.{number-fits}
+use Rattle.zvt_rules.specs.declared.Format.the-variants.{Fixed, Container}
+use Rattle.zvt_rules.specs.Reading.{pick, part, among}
+use Rattle.zvt_rules.specs.Digits.{numberOf}
+use Rattle.zvt_rules.specs.Fields.{formatOf, holdsDigits, Field, plain, container, fieldId}
+use Rattle.zvt_rules.specs.Grammar.{Bytes, Decimals, SizeOk, FieldOk, ListOk}
+use Rattle.zvt_rules.proofs.Readings.{pick-test}
+use Rattle.zvt_rules.proofs.ObjectSteps.{part-length}
+use Rattle.zvt_rules.proofs.ObjectBytes.{bytes-part}
+use Rattle.zvt_rules.proofs.FieldBytes.{list-sound}
+use Rattle.zvt_rules.proofs.DigitLaws.{number-fits}
 use Rattle.zvt.specs.declared.values.NumberFound.the-variants.{Missing as no-number, Number}
 use Rattle.zvt.specs.Numbers.{numberFound}
 use Rattle.zvt.specs.declared.Listed.{Listed}
 use Rattle.zvt.specs.declared.FieldAnswer.{FieldAnswer}
 use Rattle.zvt.specs.declared.FieldAnswer.the-variants.{Field as listed-field, End}
 use Rattle.zvt.specs.List.{namedListed, listFields, fieldsBetween, listedIn, ListIn}
-use Rattle.messages.specs.Values.{fieldValue, Found, missing, found, valueIn}
+use Rattle.zvt_rules.specs.Values.{fieldValue, Found, missing, found, valueIn}
 use Rattle.zvt.specs.Writing.{ListReads}
 use Rattle.zvt.proofs.ListedLaws.{no-fields, list-empty, first-in}
 

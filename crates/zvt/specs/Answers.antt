@@ -1,13 +1,13 @@
--- What the public functions answer of a message: the definitions of crate messages, with document 01's numbers. Definitions only.
+-- What the public functions answer of a message: the definitions of crate zvt_rules, with document 01's numbers. Definitions only.
 use Prim.Native.Nat.{ℕ}
 use mathlib.Core.List.{List}
 use lib.ListN.{length}
-use Rattle.messages.specs.declared.Fault.{Fault}
-use Rattle.messages.specs.Reading.{Reading, got, refused}
-use Rattle.messages.specs.Message.{Header as MessageHeader, headerSize, wholeHeader, Message as MessageTree, readOf, firstOf, countOf}
-use Rattle.messages.specs.Writing.{bodyBytes, messageBytes}
-use Rattle.messages.specs.Shortest.{isShort}
-use Rattle.messages.specs.declared.Refusal.{Refusal}
+use Rattle.zvt_rules.specs.declared.Fault.{Fault}
+use Rattle.zvt_rules.specs.Reading.{Reading, got, refused}
+use Rattle.zvt_rules.specs.Message.{Header as MessageHeader, headerSize, wholeHeader, Message as MessageTree, readOf, firstOf, countOf}
+use Rattle.zvt_rules.specs.Writing.{bodyBytes, messageBytes}
+use Rattle.zvt_rules.specs.Shortest.{isShort}
+use Rattle.zvt_rules.specs.declared.Refusal.{Refusal}
 use Rattle.zvt.specs.declared.Message.{Message}
 use Rattle.zvt.specs.declared.HeaderAnswer.{HeaderAnswer}
 use Rattle.zvt.specs.declared.HeaderAnswer.the-variants.{Header as header-got, Refused as header-refused}

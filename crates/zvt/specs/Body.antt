@@ -1,14 +1,14 @@
--- What the readers of a body answer, by the definitions of crate messages. Definitions only.
+-- What the readers of a body answer, by the definitions of crate zvt_rules. Definitions only.
 use Prim.Native.Nat.{ℕ, _+_, _-_}
 use mathlib.Core.Bool.{_&&_, _||_}
 use mathlib.Core.List.{List}
 use lib.ListN.{length}
 use lib.Dec.{leb, eqb}
-use Rattle.messages.specs.declared.Layout.{Layout}
-use Rattle.messages.specs.Reading.{part}
-use Rattle.messages.specs.Message.{Body, bodyOf, securedOf, layoutOf, countBody}
-use Rattle.messages.specs.Writing.{bodyBytes}
-use Rattle.messages.specs.Shortest.{shortBody}
+use Rattle.zvt_rules.specs.declared.Layout.{Layout}
+use Rattle.zvt_rules.specs.Reading.{part}
+use Rattle.zvt_rules.specs.Message.{Body, bodyOf, securedOf, layoutOf, countBody}
+use Rattle.zvt_rules.specs.Writing.{bodyBytes}
+use Rattle.zvt_rules.specs.Shortest.{shortBody}
 use Rattle.zvt.specs.declared.Header.{Header}
 use Rattle.zvt.specs.declared.Message.{Message}
 use Rattle.zvt.specs.declared.objects.Tally.{Tally}

@@ -1,15 +1,15 @@
--- What the readers of fields answer, by the definitions of crate messages. Definitions only.
+-- What the readers of fields answer, by the definitions of crate zvt_rules. Definitions only.
 use Prim.Native.Nat.{ℕ, _+_, _-_}
 use mathlib.Core.Bool.{Bool, true, false}
 use mathlib.Core.List.{List, []}
 use lib.ListN.{length, getD, drop}
-use Rattle.messages.specs.declared.Format.{Format}
-use Rattle.messages.specs.declared.Format.the-variants.{Unknown, Fixed, Digits, Container}
-use Rattle.messages.specs.Reading.{Reading, got, refused, no, unless, andThen, part}
-use Rattle.messages.specs.Objects.{formSize, lenOf}
-use Rattle.messages.specs.Fields.{formatOf, unknown, digitsOf, unlessUndecimal, digitsIn, Field, plain, FieldRead, ListRead, fieldBy, listOf}
-use Rattle.messages.specs.Writing.{fieldBytes, listBytes}
-use Rattle.messages.specs.Shortest.{shortField, shortList}
+use Rattle.zvt_rules.specs.declared.Format.{Format}
+use Rattle.zvt_rules.specs.declared.Format.the-variants.{Unknown, Fixed, Digits, Container}
+use Rattle.zvt_rules.specs.Reading.{Reading, got, refused, no, unless, andThen, part}
+use Rattle.zvt_rules.specs.Objects.{formSize, lenOf}
+use Rattle.zvt_rules.specs.Fields.{formatOf, unknown, digitsOf, unlessUndecimal, digitsIn, Field, plain, FieldRead, ListRead, fieldBy, listOf}
+use Rattle.zvt_rules.specs.Writing.{fieldBytes, listBytes}
+use Rattle.zvt_rules.specs.Shortest.{shortField, shortList}
 use Rattle.zvt.specs.declared.objects.Bounds.{Bounds}
 use Rattle.zvt.specs.declared.objects.BoundsRead.{BoundsRead}
 use Rattle.zvt.specs.declared.objects.Tally.{Tally}

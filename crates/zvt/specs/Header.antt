@@ -1,10 +1,10 @@
--- What the readers of a header answer, by the definitions of crate messages. Definitions only.
+-- What the readers of a header answer, by the definitions of crate zvt_rules. Definitions only.
 use Prim.Native.Nat.{ℕ, _+_}
 use mathlib.Core.List.{List}
 use lib.ListN.{length}
 use lib.Dec.{ltb}
-use Rattle.messages.specs.Reading.{Reading, got, refused, noHeader, unless, andThen}
-use Rattle.messages.specs.Message.{Header as MessageHeader, start, headerOf, wholeHeader}
+use Rattle.zvt_rules.specs.Reading.{Reading, got, refused, noHeader, unless, andThen}
+use Rattle.zvt_rules.specs.Message.{Header as MessageHeader, start, headerOf, wholeHeader}
 use Rattle.zvt.specs.declared.Header.{Header}
 use Rattle.zvt.specs.declared.headers.HeaderRead.{HeaderRead}
 use Rattle.zvt.specs.declared.headers.HeaderRead.the-variants.{Header as header-read, Refused as header-refused}

@@ -1,5 +1,5 @@
 -- What each function of the reader answers. Answers, List, Name and the end of Writing speak of the public functions; the rest of
--- the steps behind them. Values and digits stand in crate messages.
+-- the steps behind them. Values and digits stand in crate zvt_rules.
 pub mod Objects
 pub mod Fields
 pub mod Header

@@ -3,11 +3,11 @@ use Prim.Native.Nat.{ℕ, zero, suc, _+_, _-_, _≤_}
 use mathlib.Core.List.{List, [], _∷_}
 use lib.ListN.{length}
 use lib.Dec.{eqb}
-use Rattle.messages.specs.Reading.{Reading, got, refused, pick, part}
-use Rattle.messages.specs.Fields.{Field, fieldId, ListRead, listOf}
-use Rattle.messages.specs.Message.{headerSize, Body, bytes, listed, Message, readOf}
-use Rattle.messages.specs.Writing.{fieldBytes, messageBytes}
-use Rattle.messages.specs.Values.{fieldValue, isStatus}
+use Rattle.zvt_rules.specs.Reading.{Reading, got, refused, pick, part}
+use Rattle.zvt_rules.specs.Fields.{Field, fieldId, ListRead, listOf}
+use Rattle.zvt_rules.specs.Message.{headerSize, Body, bytes, listed, Message, readOf}
+use Rattle.zvt_rules.specs.Writing.{fieldBytes, messageBytes}
+use Rattle.zvt_rules.specs.Values.{fieldValue, isStatus}
 use Rattle.zvt.specs.declared.Listed.{Listed}
 use Rattle.zvt.specs.declared.FieldAnswer.{FieldAnswer}
 use Rattle.zvt.specs.declared.FieldAnswer.the-variants.{Field as listed-field, End}

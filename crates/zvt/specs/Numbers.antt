@@ -1,10 +1,10 @@
 -- The number in a field of a list. Definitions only.
 use mathlib.Core.Path.{_≡_}
 use Prim.Native.Nat.{ℕ, _≤_}
-use Rattle.messages.specs.declared.Format.the-variants.{Fixed}
-use Rattle.messages.specs.Digits.{numberOf}
-use Rattle.messages.specs.Fields.{formatOf}
-use Rattle.messages.specs.Values.{Found, missing, found}
+use Rattle.zvt_rules.specs.declared.Format.the-variants.{Fixed}
+use Rattle.zvt_rules.specs.Digits.{numberOf}
+use Rattle.zvt_rules.specs.Fields.{formatOf}
+use Rattle.zvt_rules.specs.Values.{Found, missing, found}
 use Rattle.zvt.specs.declared.values.NumberFound.{NumberFound}
 use Rattle.zvt.specs.declared.values.NumberFound.the-variants.{Missing, Number}
 

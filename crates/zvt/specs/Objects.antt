@@ -1,13 +1,13 @@
--- What the readers of data objects answer, by the definitions of crate messages. Definitions only.
+-- What the readers of data objects answer, by the definitions of crate zvt_rules. Definitions only.
 use Prim.Native.Nat.{ℕ, _+_, _-_}
 use mathlib.Core.Bool.{Bool}
 use mathlib.Core.List.{List}
 use lib.ListN.{length, getD}
 use lib.Dec.{ltb}
-use Rattle.messages.specs.Reading.{Reading, got, refused, no, unless, andThen}
-use Rattle.messages.specs.Objects.{nested, formSize, tagSize, Len, lenOf, Head, from, to, headOf, Obj, Objs, OneRead, RunRead, oneOf, runOf}
-use Rattle.messages.specs.Writing.{objBytes, runBytes}
-use Rattle.messages.specs.Shortest.{formFor, shortObj, shortRun}
+use Rattle.zvt_rules.specs.Reading.{Reading, got, refused, no, unless, andThen}
+use Rattle.zvt_rules.specs.Objects.{nested, formSize, tagSize, Len, lenOf, Head, from, to, headOf, Obj, Objs, OneRead, RunRead, oneOf, runOf}
+use Rattle.zvt_rules.specs.Writing.{objBytes, runBytes}
+use Rattle.zvt_rules.specs.Shortest.{formFor, shortObj, shortRun}
 use Rattle.zvt.specs.declared.objects.TagRead.{TagRead}
 use Rattle.zvt.specs.declared.objects.TagRead.the-variants.{Size, Refused as tag-refused}
 use Rattle.zvt.specs.declared.objects.LenRead.{LenRead}

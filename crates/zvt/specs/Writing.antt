@@ -4,13 +4,13 @@ use Prim.Native.Nat.{ℕ, _+_, _-_}
 use mathlib.Core.List.{List, [], _∷_, _++_}
 use lib.ListN.{length, take, drop}
 use lib.Dec.{leb, ltb}
-use Rattle.messages.specs.declared.Layout.{Layout}
-use Rattle.messages.specs.Reading.{Reading, got, refused, noHeader, pick, unless, andThen, part}
-use Rattle.messages.specs.Objects.{RunRead, runOf}
-use Rattle.messages.specs.Fields.{ListRead, listOf}
-use Rattle.messages.specs.Message.{Body, bodyOf, layoutOf}
-use Rattle.messages.specs.Writing.{lenBytes, runBytes, listBytes, bodyBytes, lengthBytes}
-use Rattle.messages.specs.Shortest.{formFor, shortRun, shortList, shortBody, shorten}
+use Rattle.zvt_rules.specs.declared.Layout.{Layout}
+use Rattle.zvt_rules.specs.Reading.{Reading, got, refused, noHeader, pick, unless, andThen, part}
+use Rattle.zvt_rules.specs.Objects.{RunRead, runOf}
+use Rattle.zvt_rules.specs.Fields.{ListRead, listOf}
+use Rattle.zvt_rules.specs.Message.{Body, bodyOf, layoutOf}
+use Rattle.zvt_rules.specs.Writing.{lenBytes, runBytes, listBytes, bodyBytes, lengthBytes}
+use Rattle.zvt_rules.specs.Shortest.{formFor, shortRun, shortList, shortBody, shorten}
 use Rattle.zvt.specs.declared.Header.{Header}
 use Rattle.zvt.specs.declared.objects.Bounds.{Bounds}
 use Rattle.zvt.specs.declared.ShortenAnswer.{ShortenAnswer}

@@ -2,7 +2,7 @@
 ghost use mathlib.Core.Path.{_≡_};
 ghost use Prim.Native.Nat.{_≤_};
 ghost use lib.ListN.{length};
-ghost use Rattle.messages.specs.Digits.{digitBytesOf, numberOf};
+ghost use Rattle.zvt_rules.specs.Digits.{digitBytesOf, numberOf};
 
 // Fills out with the last digits of n.
 pub(crate) fn put_digits(n: u64, out: &mut [u8])

@@ -11,13 +11,13 @@ use crate::objects::bounds_in;
 use crate::objects::len_of;
 use crate::objects::read_run;
 use crate::objects::tally_of;
-use messages::Fault;
-use messages::Format;
-use messages::Place;
+use zvt_rules::Fault;
+use zvt_rules::Format;
+use zvt_rules::Place;
 ghost use mathlib.Core.Path.{_≡_};
 ghost use Prim.Native.Nat.{_+_, _<_, _≤_};
 ghost use lib.ListN.{length, getD};
-ghost use Rattle.messages.specs.Fields.{formatOf};
+ghost use Rattle.zvt_rules.specs.Fields.{formatOf};
 ghost use Rattle.zvt.specs.Fields.{digitsAnswer, decimalsAnswer, fieldBounds, plainAnswer, fieldAnswer, listAnswer};
 
 // A length in digits.

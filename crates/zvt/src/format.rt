@@ -1,9 +1,9 @@
 // What follows from an id, and from the pair of class and instruction.
-use messages::Format;
-use messages::Layout;
+use zvt_rules::Format;
+use zvt_rules::Layout;
 ghost use mathlib.Core.Path.{_≡_};
-ghost use Rattle.messages.specs.Fields.{formatOf, holdsDigits};
-ghost use Rattle.messages.specs.Message.{layoutOf};
+ghost use Rattle.zvt_rules.specs.Fields.{formatOf, holdsDigits};
+ghost use Rattle.zvt_rules.specs.Message.{layoutOf};
 
 pub(crate) fn format_of(id: u8) -> Format
     ensures { λ r. ⌜ r ≡ formatOf id ⌝ }

@@ -1,8 +1,8 @@
 // The header of a message: class byte, instruction byte, length.
 use crate::Header;
 use crate::Message;
-use messages::Fault;
-use messages::Place;
+use zvt_rules::Fault;
+use zvt_rules::Place;
 ghost use mathlib.Core.Path.{_≡_};
 ghost use Rattle.zvt.specs.Header.{fitting, firstHeader, wholeAnswer};
 

@@ -12,20 +12,20 @@ mod values;
 mod writing;
 
 use headers::HeaderRead;
-use messages::Layout;
-use messages::Refusal;
-use messages::Status;
-use messages::ToldAmount;
-use messages::ToldCode;
-use messages::ToldReceipt;
 use objects::PartRead;
+use zvt_rules::Layout;
+use zvt_rules::Refusal;
+use zvt_rules::Status;
+use zvt_rules::ToldAmount;
+use zvt_rules::ToldCode;
+use zvt_rules::ToldReceipt;
 ghost use mathlib.Core.Path.{_≡_};
 ghost use lib.ListN.{length};
 ghost use Rattle.zvt.specs.Answers.{headerAnswer, readAnswer, firstAnswer};
-ghost use Rattle.messages.specs.Digits.{digitBytesOf};
+ghost use Rattle.zvt_rules.specs.Digits.{digitBytesOf};
 ghost use Rattle.zvt.specs.List.{fieldAnswer, listPlace, namedAnswer};
 ghost use Rattle.zvt.specs.Name.{nameAt, cardName, namePlace};
-ghost use Rattle.messages.specs.Values.{statusOf};
+ghost use Rattle.zvt_rules.specs.Values.{statusOf};
 ghost use Rattle.zvt.specs.Writing.{shortenAnswer, shortenLeaves};
 
 // The pair of class and instruction, where the body starts and how long it is.

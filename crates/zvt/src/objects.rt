@@ -1,12 +1,12 @@
 // Data objects: a run of objects, each tag, length, value; the value of some is again a run.
 use crate::Message;
-use messages::Fault;
-use messages::Place;
+use zvt_rules::Fault;
+use zvt_rules::Place;
 ghost use mathlib.Core.Path.{_≡_};
 ghost use Prim.Native.Nat.{_+_, _-_, _≤_};
 ghost use lib.ListN.{length};
-ghost use Rattle.messages.specs.Objects.{formSize};
-ghost use Rattle.messages.specs.Shortest.{formFor};
+ghost use Rattle.zvt_rules.specs.Objects.{formSize};
+ghost use Rattle.zvt_rules.specs.Shortest.{formFor};
 ghost use Rattle.zvt.specs.Objects.{tagAnswer, lenAnswer, within, headAnswer, tallyOf, oneAnswer, runAnswer};
 
 // How many bytes a tag takes.

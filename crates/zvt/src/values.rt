@@ -2,13 +2,13 @@
 use crate::FieldAnswer;
 use crate::digits::number;
 use crate::list::named;
-use messages::ToldAmount;
-use messages::ToldCode;
-use messages::ToldReceipt;
+use zvt_rules::ToldAmount;
+use zvt_rules::ToldCode;
+use zvt_rules::ToldReceipt;
 ghost use mathlib.Core.Path.{_≡_};
 ghost use Rattle.zvt.specs.List.{ListIn, fieldsBetween};
 ghost use Rattle.zvt.specs.Numbers.{numberFound, Few};
-ghost use Rattle.messages.specs.Values.{valueIn, codeIn, amountIn, receiptIn};
+ghost use Rattle.zvt_rules.specs.Values.{valueIn, codeIn, amountIn, receiptIn};
 
 pub(crate) fn code_in(s: &[u8], from: usize, end: usize) -> ToldCode
     requires { ⌜ ListIn from end (now s) ⌝ }

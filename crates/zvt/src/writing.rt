@@ -7,14 +7,14 @@ use crate::format::layout_of;
 use crate::objects::Bounds;
 use crate::objects::BoundsRead;
 use crate::objects::head_of;
-use messages::Layout;
+use zvt_rules::Layout;
 ghost use mathlib.Core.Path.{_≡_};
 ghost use mathlib.Core.Bool.{true};
 ghost use Prim.Native.Nat.{_+_, _<_, _≤_};
 ghost use lib.ListN.{length};
-ghost use Rattle.messages.specs.Reading.{part};
-ghost use Rattle.messages.specs.Writing.{lenBytes};
-ghost use Rattle.messages.specs.Shortest.{formFor};
+ghost use Rattle.zvt_rules.specs.Reading.{part};
+ghost use Rattle.zvt_rules.specs.Writing.{lenBytes};
+ghost use Rattle.zvt_rules.specs.Shortest.{formFor};
 ghost use Rattle.zvt.specs.Writing.{Put, headBytes, valueBytes, RunReads, shortRunOf, shortFieldOf, ListReads, shortListOf, BodyReads, shortBodyOf, headerBytes, bodyPart, headerLayout, shortMessageOf};
 
 // Puts v at the end of out. Here and below, the answer is how many bytes of out are left before what was put.

@@ -1,8 +1,8 @@
 -- `desk::close` meets its contract. Assumes nothing.
 use mathlib.Core.Path.{_≡_, sym, _∙_}
 use borrow.Author.Tests.{ne-eqb}
-use Rattle.course.specs.Desk.{places}
-use Rattle.course.specs.Memory.{closeAnswer}
+use Rattle.desk_rules.specs.Desk.{places}
+use Rattle.desk_rules.specs.Memory.{closeAnswer}
 use borrow.Author.Needs.{needs}
 use Rattle.desk.proofs.close.Statement.{statement}
 use Rattle.desk.proofs.close.Tie as tie

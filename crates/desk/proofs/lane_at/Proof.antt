@@ -1,6 +1,6 @@
 -- `desk::lane_at` meets its contract. Assumes nothing.
 use borrow.Author.Tests.{lt-ltb, le-ltb}
-use Rattle.course.specs.Memory.{laneAnswer}
+use Rattle.desk_rules.specs.Memory.{laneAnswer}
 use borrow.Author.Needs.{needs}
 use Rattle.desk.proofs.lane_at.Statement.{statement}
 use Rattle.desk.proofs.lane_at.Tie as tie

@@ -4,8 +4,8 @@ use native.Mathlib.Omega.{arith}
 use lib.ListN.{length}
 use lib.Seq.{length-take-le, getD-take}
 use borrow.Author.Tests.{lt-ltb, le-ltb}
-use Rattle.course.specs.Lanes.{blankLine}
-use Rattle.course.specs.Memory.{linesOfDesk, lineAnswer}
+use Rattle.desk_rules.specs.Lanes.{blankLine}
+use Rattle.desk_rules.specs.Memory.{linesOfDesk, lineAnswer}
 use borrow.Author.Needs.{needs}
 use Rattle.desk.proofs.line_at.Statement.{statement}
 use Rattle.desk.proofs.line_at.Tie as tie

@@ -1,6 +1,6 @@
 -- `desk::link_lost` meets its contract. Assumes nothing.
 use mathlib.Core.Path.{_≡_, sym, _∙_}
-use Rattle.course.specs.Desk.{laneAt, place}
+use Rattle.desk_rules.specs.Desk.{laneAt, place}
 use Rattle.desk.proofs.Opening.{lost-12, lost-14, lost-taken, room-left}
 use borrow.Author.Needs.{needs}
 use Rattle.desk.proofs.link_lost.Statement.{statement}

@@ -4,11 +4,11 @@ use Prim.Native.Nat.{_≤_, _<_, _-_, _^_}
 use native.Mathlib.Omega.{arith}
 use lib.ListN.{getD, take}
 use mir.Facts.{toZ-ofZ}
-use Rattle.course.specs.declared.Desk.{Desk}
-use Rattle.course.specs.Lanes.{blankLine}
-use Rattle.course.specs.Memory.{Valid}
-use Rattle.course.specs.Turnover.{gains, losses, netOf}
-use Rattle.course.proofs.Sums.{gainOf, lossOf, gains-take, losses-take, gain-small, loss-small, gains-most, losses-most}
+use Rattle.desk_rules.specs.declared.Desk.{Desk}
+use Rattle.desk_rules.specs.Lanes.{blankLine}
+use Rattle.desk_rules.specs.Memory.{Valid}
+use Rattle.desk_rules.specs.Turnover.{gains, losses, netOf}
+use Rattle.desk_rules.proofs.Sums.{gainOf, lossOf, gains-take, losses-take, gain-small, loss-small, gains-most, losses-most}
 use Rattle.desk.proofs.DeskLaws.{signed, difference-fits}
 use Rattle.desk.proofs.net.Statement.{statement}
 use Rattle.desk.proofs.net.Tie as tie

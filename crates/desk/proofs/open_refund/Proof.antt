@@ -2,7 +2,7 @@
 use mathlib.Core.Path.{_≡_, _∙_}
 use mathlib.Core.Bool.{_&&_}
 use lib.ListN.{length}
-use Rattle.course.specs.Numbers.{amountOk, passwordOk}
+use Rattle.desk_rules.specs.Numbers.{amountOk, passwordOk}
 use Rattle.desk.proofs.Opening.{refund-open, refund-leaves}
 use borrow.Author.Needs.{needs}
 use Rattle.desk.proofs.open_refund.Statement.{statement}

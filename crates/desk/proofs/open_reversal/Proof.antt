@@ -2,7 +2,7 @@
 use mathlib.Core.Path.{_≡_, _∙_}
 use mathlib.Core.Bool.{_&&_}
 use lib.ListN.{length}
-use Rattle.course.specs.Numbers.{receiptOk, passwordOk}
+use Rattle.desk_rules.specs.Numbers.{receiptOk, passwordOk}
 use Rattle.desk.proofs.Opening.{reversal-open, reversal-leaves}
 use borrow.Author.Needs.{needs}
 use Rattle.desk.proofs.open_reversal.Statement.{statement}

@@ -1,6 +1,6 @@
 -- `desk::refused` meets its contract. Assumes nothing.
 use mathlib.Core.Path.{refl}
-use Rattle.course.specs.Memory.{refusedAnswer}
+use Rattle.desk_rules.specs.Memory.{refusedAnswer}
 use Rattle.desk.proofs.refused.Statement.{statement}
 use Rattle.desk.proofs.refused.Tie as tie
 

@@ -1,9 +1,9 @@
 -- `desk::terminal` meets its contract. Assumes nothing.
 use mathlib.Core.Path.{sym, _∙_}
 use Prim.Native.Nat.{_<_}
-use Rattle.course.specs.Course.{heard}
-use Rattle.course.specs.Desk.{laneAt}
-use Rattle.course.proofs.Calls.{Passes}
+use Rattle.desk_rules.specs.Course.{heard}
+use Rattle.desk_rules.specs.Desk.{laneAt}
+use Rattle.desk_rules.proofs.Calls.{Passes}
 use Rattle.desk.proofs.Opening.{passes-tag, message-12, message-refused, message-11, message-taken, room-left, heard-open}
 use Rattle.desk.proofs.DeskLaws.{replied-is}
 use borrow.Author.Needs.{needs}

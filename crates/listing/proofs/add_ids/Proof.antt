@@ -4,7 +4,7 @@ use mathlib.Core.Path.{_≡_, refl, sym, ap, _∙_}
 use lib.ListN.{length, drop}
 use native.Mathlib.Omega.{arith}
 use borrow.Author.Needs.{needs}
-use Rattle.messages.specs.Message.{readOf}
+use Rattle.zvt_rules.specs.Message.{readOf}
 use Rattle.zvt.specs.List.{listedMessage, fieldAnswer}
 use Rattle.zvt.proofs.Slices.{bytes-known}
 use Rattle.listing.specs.Text.{Text, text, write}

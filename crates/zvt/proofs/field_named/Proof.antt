@@ -1,7 +1,7 @@
 -- `zvt::field_named` meets its contract. Assumes nothing.
 use mathlib.Core.Path.{_≡_, sym, ap, _∙_}
 use borrow.Author.Needs.{needs}
-use Rattle.messages.specs.Message.{readOf}
+use Rattle.zvt_rules.specs.Message.{readOf}
 use Rattle.zvt.specs.List.{ListIn, listedIn, listedMessage, namedListed, namedAnswer}
 use Rattle.zvt.proofs.Slices.{bytes-known}
 use Rattle.zvt.proofs.PlaceLaws.{list-at, list-nowhere}

@@ -1,7 +1,7 @@
 -- `zvt::read_status` meets its contract. Assumes nothing.
 use mathlib.Core.Path.{sym, ap, _∙_}
 use borrow.Author.Needs.{needs}
-use Rattle.messages.specs.Values.{codeIn, codeOf, amountIn, amountOf, receiptIn, receiptOf, valueIn, statusIn, statusOf}
+use Rattle.zvt_rules.specs.Values.{codeIn, codeOf, amountIn, amountOf, receiptIn, receiptOf, valueIn, statusIn, statusOf}
 use Rattle.zvt.proofs.Slices.{bytes-known}
 use Rattle.zvt.proofs.PlaceLaws.{StatusIn, status-at, status-nowhere}
 use Rattle.zvt.proofs.read_status.Statement.{statement}

@@ -1,6 +1,6 @@
 -- `desk::commands::refund_bytes` meets its contract. Assumes nothing.
-use Rattle.messages.specs.Digits.{digitBytesOf}
-use Rattle.course.proofs.Commands.{refund-bytes}
+use Rattle.zvt_rules.specs.Digits.{digitBytesOf}
+use Rattle.desk_rules.proofs.Commands.{refund-bytes}
 use borrow.Author.Needs.{needs}
 use Rattle.desk.proofs.commands.refund_bytes.Statement.{statement}
 use Rattle.desk.proofs.commands.refund_bytes.Tie as tie

@@ -1,6 +1,6 @@
 -- `desk::commands::sale_bytes` meets its contract. Assumes nothing.
-use Rattle.messages.specs.Digits.{digitBytesOf}
-use Rattle.course.proofs.Commands.{sale-bytes}
+use Rattle.zvt_rules.specs.Digits.{digitBytesOf}
+use Rattle.desk_rules.proofs.Commands.{sale-bytes}
 use borrow.Author.Needs.{needs}
 use Rattle.desk.proofs.commands.sale_bytes.Statement.{statement}
 use Rattle.desk.proofs.commands.sale_bytes.Tie as tie

@@ -1,5 +1,5 @@
 -- `desk::hear::amount_by` meets its contract. Assumes nothing.
-use Rattle.course.specs.Course.{amountBy}
+use Rattle.desk_rules.specs.Course.{amountBy}
 use borrow.Author.Needs.{needs}
 use Rattle.desk.proofs.hear.amount_by.Statement.{statement}
 use Rattle.desk.proofs.hear.amount_by.Tie as tie

@@ -1,5 +1,5 @@
 -- `desk::hear::approved` meets its contract. Assumes nothing.
-use Rattle.course.specs.Course.{isApproved}
+use Rattle.desk_rules.specs.Course.{isApproved}
 use borrow.Author.Needs.{needs}
 use Rattle.desk.proofs.hear.approved.Statement.{statement}
 use Rattle.desk.proofs.hear.approved.Tie as tie

@@ -1,6 +1,6 @@
 -- `desk::hear::completed` meets its contract. Assumes nothing.
 use borrow.Author.Tests.{ne-eqb}
-use Rattle.course.specs.Course.{completedBy}
+use Rattle.desk_rules.specs.Course.{completedBy}
 use borrow.Author.Needs.{needs}
 use Rattle.desk.proofs.hear.completed.Statement.{statement}
 use Rattle.desk.proofs.hear.completed.Tie as tie

@@ -2,8 +2,8 @@
 use mathlib.Core.Path.{_≡_}
 use mathlib.Core.Bool.{_&&_, and-false}
 use borrow.Author.Tests.{ne-eqb}
-use Rattle.messages.specs.Reading.{pick}
-use Rattle.course.specs.Course.{isApproved, isSale, concerns}
+use Rattle.zvt_rules.specs.Reading.{pick}
+use Rattle.desk_rules.specs.Course.{isApproved, isSale, concerns}
 use Rattle.desk.proofs.HearLaws.{concerns-same}
 use borrow.Author.Needs.{needs}
 use Rattle.desk.proofs.hear.concerns.Statement.{statement}

@@ -1,5 +1,5 @@
 -- `desk::hear::ending_line` meets its contract. Assumes nothing.
-use Rattle.course.specs.Lanes.{lineAt}
+use Rattle.desk_rules.specs.Lanes.{lineAt}
 use borrow.Author.Needs.{needs}
 use Rattle.desk.proofs.hear.ending_line.Statement.{statement}
 use Rattle.desk.proofs.hear.ending_line.Tie as tie

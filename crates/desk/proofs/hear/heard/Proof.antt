@@ -2,7 +2,7 @@
 use mathlib.Core.Path.{_≡_, sym, _∙_}
 use Rattle.zvt.specs.declared.HeaderAnswer.the-variants.{Header}
 use Rattle.zvt.specs.Answers.{headerAnswer}
-use Rattle.course.specs.Course.{isIdle, heard}
+use Rattle.desk_rules.specs.Course.{isIdle, heard}
 use Rattle.desk.proofs.HearLaws.{heard-refused, heard-running, heard-waiting}
 use borrow.Author.Needs.{needs}
 use Rattle.desk.proofs.hear.heard.Statement.{statement}

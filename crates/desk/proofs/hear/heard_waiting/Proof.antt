@@ -1,6 +1,6 @@
 -- `desk::hear::heard_waiting` meets its contract. Assumes nothing.
 use borrow.Author.Tests.{ne-eqb}
-use Rattle.course.specs.Course.{heardWaiting}
+use Rattle.desk_rules.specs.Course.{heardWaiting}
 use Rattle.desk.specs.Hear.{headerBy, waitingMoved}
 use borrow.Author.Needs.{needs}
 use Rattle.desk.proofs.hear.heard_waiting.Statement.{statement}

@@ -1,5 +1,5 @@
 -- `desk::hear::is_reversal` meets its contract. Assumes nothing.
-use Rattle.course.specs.Course.{isReversal}
+use Rattle.desk_rules.specs.Course.{isReversal}
 use borrow.Author.Needs.{needs}
 use Rattle.desk.proofs.hear.is_reversal.Statement.{statement}
 use Rattle.desk.proofs.hear.is_reversal.Tie as tie

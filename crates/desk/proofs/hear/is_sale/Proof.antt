@@ -1,5 +1,5 @@
 -- `desk::hear::is_sale` meets its contract. Assumes nothing.
-use Rattle.course.specs.Course.{isSale}
+use Rattle.desk_rules.specs.Course.{isSale}
 use borrow.Author.Needs.{needs}
 use Rattle.desk.proofs.hear.is_sale.Statement.{statement}
 use Rattle.desk.proofs.hear.is_sale.Tie as tie

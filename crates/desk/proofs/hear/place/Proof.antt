@@ -1,6 +1,6 @@
 -- `desk::hear::place` meets its contract. Assumes nothing.
-use Rattle.course.specs.Course.{isIdle}
-use Rattle.course.specs.Desk.{place}
+use Rattle.desk_rules.specs.Course.{isIdle}
+use Rattle.desk_rules.specs.Desk.{place}
 use borrow.Author.Needs.{needs}
 use Rattle.desk.proofs.hear.place.Statement.{statement}
 use Rattle.desk.proofs.hear.place.Tie as tie

@@ -1,6 +1,6 @@
 -- `desk::hear::receipt_by` meets its contract. Assumes nothing.
 use mathlib.Core.Path.{sym, _∙_}
-use Rattle.course.specs.Lanes.{toldReceipt}
+use Rattle.desk_rules.specs.Lanes.{toldReceipt}
 use Rattle.desk.proofs.HearLaws.{receipt-kind}
 use borrow.Author.Needs.{needs}
 use Rattle.desk.proofs.hear.receipt_by.Statement.{statement}

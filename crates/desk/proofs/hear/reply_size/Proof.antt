@@ -1,5 +1,5 @@
 -- `desk::hear::reply_size` meets its contract. Assumes nothing.
-use Rattle.course.specs.Course.{answered}
+use Rattle.desk_rules.specs.Course.{answered}
 use borrow.Author.Needs.{needs}
 use Rattle.desk.proofs.hear.reply_size.Statement.{statement}
 use Rattle.desk.proofs.hear.reply_size.Tie as tie

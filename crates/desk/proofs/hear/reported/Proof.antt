@@ -1,7 +1,7 @@
 -- `desk::hear::reported` meets its contract. Assumes nothing.
 use mathlib.Core.Path.{sym, ap, _∙_}
-use Rattle.course.specs.declared.Moved.the-variants.{Becomes}
-use Rattle.course.specs.Course.{reportedBy}
+use Rattle.desk_rules.specs.declared.Moved.the-variants.{Becomes}
+use Rattle.desk_rules.specs.Course.{reportedBy}
 use Rattle.desk.specs.Hear.{reportedAs}
 use Rattle.desk.proofs.HearLaws.{reported-code}
 use borrow.Author.Needs.{needs}

@@ -1,7 +1,7 @@
 -- `desk::hear::settled_as` meets its contract. Assumes nothing.
 use mathlib.Core.Path.{sym, _∙_}
 use borrow.Author.Tests.{eq-eqb, ne-eqb}
-use Rattle.course.specs.Course.{settledAs}
+use Rattle.desk_rules.specs.Course.{settledAs}
 use borrow.Author.Needs.{needs}
 use Rattle.desk.proofs.hear.settled_as.Statement.{statement}
 use Rattle.desk.proofs.hear.settled_as.Tie as tie

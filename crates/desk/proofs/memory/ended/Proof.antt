@@ -1,5 +1,5 @@
 -- `desk::memory::ended` meets its contract. Assumes nothing.
-use Rattle.course.specs.Memory.{endedDesk}
+use Rattle.desk_rules.specs.Memory.{endedDesk}
 use borrow.Author.Needs.{needs}
 use Rattle.desk.proofs.memory.ended.Statement.{statement}
 use Rattle.desk.proofs.memory.ended.Tie as tie

@@ -4,9 +4,9 @@ use mathlib.Core.Logic.{⊎-elim}
 use Prim.Native.Nat.{_≤_, _<_, _-_}
 use native.Mathlib.Omega.{arith}
 use lib.ListN.{length, getD, take}
-use Rattle.course.specs.Lanes.{blankLine}
-use Rattle.course.specs.Course.{concerns, lastFrom, lastLine}
-use Rattle.course.proofs.Sums.{last-take}
+use Rattle.desk_rules.specs.Lanes.{blankLine}
+use Rattle.desk_rules.specs.Course.{concerns, lastFrom, lastLine}
+use Rattle.desk_rules.proofs.Sums.{last-take}
 use Rattle.desk.proofs.memory.last_line.Statement.{statement}
 use Rattle.desk.proofs.memory.last_line.Tie as tie
 

@@ -1,5 +1,5 @@
 -- `desk::memory::moved` meets its contract. Assumes nothing.
-use Rattle.course.specs.Memory.{movedDesk}
+use Rattle.desk_rules.specs.Memory.{movedDesk}
 use borrow.Author.Needs.{needs}
 use Rattle.desk.proofs.memory.moved.Statement.{statement}
 use Rattle.desk.proofs.memory.moved.Tie as tie

@@ -3,7 +3,7 @@ use mathlib.Core.Path.{_≡_, sym, _∙_}
 use Prim.Native.Nat.{_<_}
 use native.Mathlib.Omega.{arith}
 use borrow.Author.Tests.{not-true, not-false}
-use Rattle.course.specs.Desk.{laneAt, place}
+use Rattle.desk_rules.specs.Desk.{laneAt, place}
 use Rattle.desk.proofs.Opening.{on-12, on-13, on-16, on-17, on-18, on-11, on-0}
 use borrow.Author.Needs.{needs}
 use Rattle.desk.proofs.memory.opening.Statement.{statement}

@@ -4,9 +4,9 @@ use Prim.Native.Nat.{_≤_, _-_}
 use native.Mathlib.Omega.{arith}
 use lib.ListN.{take}
 use lib.Seq.{take-all}
-use Rattle.course.specs.Desk.{laneAt, place, places}
-use Rattle.course.proofs.Memory.{place-most}
-use Rattle.course.proofs.Sums.{places-take, places-most}
+use Rattle.desk_rules.specs.Desk.{laneAt, place, places}
+use Rattle.desk_rules.proofs.Memory.{place-most}
+use Rattle.desk_rules.proofs.Sums.{places-take, places-most}
 use Rattle.desk.proofs.memory.places_in.Statement.{statement}
 use Rattle.desk.proofs.memory.places_in.Tie as tie
 

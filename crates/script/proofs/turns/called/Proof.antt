@@ -1,8 +1,8 @@
 -- Every call leaves a valid desk. Assumes nothing.
 use native.Mathlib.Omega.{arith}
-use Rattle.messages.specs.Grammar.{Bytes}
-use Rattle.course.specs.Course.{NumbersFit}
-use Rattle.blocks.proofs.Taping.{taped-valid, close-taped-valid}
+use Rattle.zvt_rules.specs.Grammar.{Bytes}
+use Rattle.desk_rules.specs.Course.{NumbersFit}
+use Rattle.tape_rules.proofs.Taping.{taped-valid, close-taped-valid}
 use borrow.Author.Needs.{needs}
 use Rattle.script.proofs.turns.called.Statement.{statement}
 use Rattle.script.proofs.turns.called.Tie as tie

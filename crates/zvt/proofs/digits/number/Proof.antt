@@ -4,8 +4,8 @@ use mathlib.Core.Path.{_≡_, refl, sym, _∙_}
 use Prim.Native.Nat.{_-_, _≤_}
 use native.Mathlib.Omega.{arith}
 use lib.ListN.{length, drop, getD}
-use Rattle.messages.specs.Digits.{numberFrom, numberOf}
-use Rattle.messages.proofs.DigitLaws.{number-step, number-end, Small, small-step, small-six}
+use Rattle.zvt_rules.specs.Digits.{numberFrom, numberOf}
+use Rattle.zvt_rules.proofs.DigitLaws.{number-step, number-end, Small, small-step, small-six}
 use Rattle.zvt.proofs.digits.number.Statement.{statement}
 use Rattle.zvt.proofs.digits.number.Tie as tie
 

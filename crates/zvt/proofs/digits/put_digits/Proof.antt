@@ -6,8 +6,8 @@ use Prim.Native.Nat.{suc, _-_, _<_, _≤_}
 use native.Mathlib.Omega.{arith}
 use lib.ListN.{length, drop, length-set}
 use lib.Seq.{drop-length}
-use Rattle.messages.specs.Digits.{digitBytesOf}
-use Rattle.messages.proofs.DigitLaws.{digits-put}
+use Rattle.zvt_rules.specs.Digits.{digitBytesOf}
+use Rattle.zvt_rules.proofs.DigitLaws.{digits-put}
 use Rattle.zvt.proofs.digits.put_digits.Statement.{statement}
 use Rattle.zvt.proofs.digits.put_digits.Tie as tie
 

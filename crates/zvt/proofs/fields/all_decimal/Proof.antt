@@ -8,9 +8,9 @@ use native.Mathlib.Omega.{arith}
 use lib.ListN.{length, getD, drop}
 use lib.Bits.{bitAnd}
 use borrow.Author.Tests.{ltb-true, ltb-false}
-use Rattle.messages.specs.Reading.{got}
-use Rattle.messages.specs.Fields.{decimal, unlessUndecimal}
-use Rattle.messages.proofs.FieldSteps.{undecimal-end, undecimal-on, undecimal-stop}
+use Rattle.zvt_rules.specs.Reading.{got}
+use Rattle.zvt_rules.specs.Fields.{decimal, unlessUndecimal}
+use Rattle.zvt_rules.proofs.FieldSteps.{undecimal-end, undecimal-on, undecimal-stop}
 use Rattle.zvt.specs.Fields.{asDecimals, decimalsAnswer}
 use Rattle.zvt.proofs.Masks.{undecimal-high, undecimal-low, both-decimal}
 use Rattle.zvt.proofs.fields.all_decimal.Statement.{statement}

@@ -4,8 +4,8 @@ use native.Mathlib.Omega.{arith}
 use mathlib.Core.Bool.{true, false}
 use Prim.Native.Nat.{_+_}
 use lib.ListN.{getD}
-use Rattle.messages.specs.declared.Format.the-variants.{Digits, Container}
-use Rattle.messages.specs.Fields.{formatOf}
+use Rattle.zvt_rules.specs.declared.Format.the-variants.{Digits, Container}
+use Rattle.zvt_rules.specs.Fields.{formatOf}
 use Rattle.zvt.proofs.FieldLaws.{Begins, digits-few, bounds-unknown, bounds-fixed, bounds-no-digits, bounds-digits}
 use Rattle.zvt.proofs.FieldLaws.{bounds-no-length, bounds-length}
 use borrow.Author.Needs.{needs}

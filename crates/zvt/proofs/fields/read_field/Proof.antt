@@ -8,10 +8,10 @@ use lib.ListN.{length}
 use lib.Dec.{eqb}
 use borrow.Author.Tests.{not-true, not-false}
 use denote.Enum.Declared.{tagOf}
-use Rattle.messages.specs.declared.Format.{Format}
-use Rattle.messages.specs.declared.Format.the-variants.{Unknown, Fixed, Digits, Container}
-use Rattle.messages.specs.Fields.{unknown}
-use Rattle.messages.proofs.Format.{the-type}
+use Rattle.zvt_rules.specs.declared.Format.{Format}
+use Rattle.zvt_rules.specs.declared.Format.the-variants.{Unknown, Fixed, Digits, Container}
+use Rattle.zvt_rules.specs.Fields.{unknown}
+use Rattle.zvt_rules.proofs.Format.{the-type}
 use Rattle.zvt.specs.declared.objects.Bounds.{Bounds}
 use Rattle.zvt.specs.declared.objects.BoundsRead.the-variants.{Bounds as bounds-read}
 use Rattle.zvt.specs.declared.objects.PartRead.the-variants.{Part}

@@ -4,10 +4,10 @@ use mathlib.Core.List.{List, [], _∷_}
 use Prim.Native.Nat.{ℕ, _+_, _*_, _/_, _%_}
 use native.Mathlib.Omega.{arith}
 use lib.Dec.{eqb}
-use Rattle.messages.specs.declared.Format.{Format}
-use Rattle.messages.specs.declared.Format.the-variants.{Unknown, Fixed, Digits, Container}
-use Rattle.messages.specs.Reading.{among, pick}
-use Rattle.messages.specs.Fields.{formatOf}
+use Rattle.zvt_rules.specs.declared.Format.{Format}
+use Rattle.zvt_rules.specs.declared.Format.the-variants.{Unknown, Fixed, Digits, Container}
+use Rattle.zvt_rules.specs.Reading.{among, pick}
+use Rattle.zvt_rules.specs.Fields.{formatOf}
 use Rattle.zvt.proofs.Tables.{allIn, allFrom, anyOf, Table, keyed, ranged}
 use Rattle.zvt.proofs.format.format_of.Statement.{statement}
 use Rattle.zvt.proofs.format.format_of.Tie as tie

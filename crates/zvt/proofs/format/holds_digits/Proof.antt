@@ -5,8 +5,8 @@ use mathlib.Core.List.{List, [], _∷_}
 use Prim.Native.Nat.{ℕ}
 use native.Mathlib.Omega.{arith}
 use lib.Dec.{eqb}
-use Rattle.messages.specs.Reading.{among, pick}
-use Rattle.messages.specs.Fields.{holdsDigits}
+use Rattle.zvt_rules.specs.Reading.{among, pick}
+use Rattle.zvt_rules.specs.Fields.{holdsDigits}
 use Rattle.zvt.proofs.Tables.{allIn, allFrom, anyOf, Table, keyed, ranged}
 use Rattle.zvt.proofs.format.holds_digits.Statement.{statement}
 use Rattle.zvt.proofs.format.holds_digits.Tie as tie

@@ -7,10 +7,10 @@ use lib.Dec.{leb, ltb}
 use borrow.Author.Needs.{needs}
 use borrow.Author.Tests.{lt-leb, le-ltb, not-true, ne-eqb}
 use types.Run.{OneOf}
-use Rattle.messages.specs.declared.Layout.the-variants.{Plain, List as FieldList, Secured}
-use Rattle.messages.specs.Reading.{among}
-use Rattle.messages.specs.Message.{layoutOf}
-use Rattle.messages.proofs.Readings.{pick-true, pick-false}
+use Rattle.zvt_rules.specs.declared.Layout.the-variants.{Plain, List as FieldList, Secured}
+use Rattle.zvt_rules.specs.Reading.{among}
+use Rattle.zvt_rules.specs.Message.{layoutOf}
+use Rattle.zvt_rules.proofs.Readings.{pick-true, pick-false}
 use Rattle.zvt.proofs.Tables.{allIn, allFrom, at-key, at-from, NoneOf, anyOf, not-any}
 use Rattle.zvt.proofs.format.layout_of.Statement.{statement}
 use Rattle.zvt.proofs.format.layout_of.Tie as tie

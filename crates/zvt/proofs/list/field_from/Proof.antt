@@ -4,7 +4,7 @@ use Prim.Native.Nat.{_+_, _<_, _≤_}
 use native.Mathlib.Omega.{arith}
 use lib.ListN.{getD}
 use borrow.Author.Needs.{needs}
-use Rattle.messages.proofs.ObjectSteps.{part-length}
+use Rattle.zvt_rules.proofs.ObjectSteps.{part-length}
 use Rattle.zvt.specs.declared.FieldAnswer.the-variants.{Field}
 use Rattle.zvt.specs.List.{firstListed, listedIn}
 use Rattle.zvt.proofs.Slices.{bytes-known}

@@ -2,10 +2,10 @@
 use mathlib.Core.Path.{refl, sym, ap, _∙_}
 use native.Mathlib.Omega.{arith}
 use borrow.Author.Needs.{needs}
-use Rattle.messages.specs.Reading.{among}
-use Rattle.messages.specs.Fields.{formatOf}
-use Rattle.messages.specs.declared.ToldAmount.the-variants.{Amount}
-use Rattle.messages.specs.Values.{amountOf, amountIn}
+use Rattle.zvt_rules.specs.Reading.{among}
+use Rattle.zvt_rules.specs.Fields.{formatOf}
+use Rattle.zvt_rules.specs.declared.ToldAmount.the-variants.{Amount}
+use Rattle.zvt_rules.specs.Values.{amountOf, amountIn}
 use Rattle.zvt.proofs.ValueLaws.{number-none, number-some}
 use Rattle.zvt.proofs.values.amount_in.Statement.{statement}
 use Rattle.zvt.proofs.values.amount_in.Tie as tie

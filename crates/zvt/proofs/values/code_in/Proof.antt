@@ -2,11 +2,11 @@
 use mathlib.Core.Path.{sym, ap, _∙_}
 use native.Mathlib.Omega.{arith}
 use borrow.Author.Needs.{needs}
-use Rattle.messages.specs.Reading.{among}
-use Rattle.messages.specs.Fields.{formatOf}
-use Rattle.messages.specs.Grammar.{SizeOk}
-use Rattle.messages.specs.declared.ToldCode.the-variants.{Code}
-use Rattle.messages.specs.Values.{codeOf, codeIn}
+use Rattle.zvt_rules.specs.Reading.{among}
+use Rattle.zvt_rules.specs.Fields.{formatOf}
+use Rattle.zvt_rules.specs.Grammar.{SizeOk}
+use Rattle.zvt_rules.specs.declared.ToldCode.the-variants.{Code}
+use Rattle.zvt_rules.specs.Values.{codeOf, codeIn}
 use Rattle.zvt.proofs.Slices.{bytes-known}
 use Rattle.zvt.proofs.ListedLaws.{part-first}
 use Rattle.zvt.proofs.ValueLaws.{Here, not-here, is-here}

@@ -2,10 +2,10 @@
 use mathlib.Core.Path.{refl, sym, ap, _∙_}
 use native.Mathlib.Omega.{arith}
 use borrow.Author.Needs.{needs}
-use Rattle.messages.specs.Reading.{among}
-use Rattle.messages.specs.Fields.{formatOf}
-use Rattle.messages.specs.declared.ToldReceipt.the-variants.{Receipt}
-use Rattle.messages.specs.Values.{receiptOf, receiptIn}
+use Rattle.zvt_rules.specs.Reading.{among}
+use Rattle.zvt_rules.specs.Fields.{formatOf}
+use Rattle.zvt_rules.specs.declared.ToldReceipt.the-variants.{Receipt}
+use Rattle.zvt_rules.specs.Values.{receiptOf, receiptIn}
 use Rattle.zvt.proofs.Slices.{bytes-known}
 use Rattle.zvt.proofs.ValueLaws.{number-none, number-some, number-small}
 use Rattle.zvt.proofs.values.receipt_in.Statement.{statement}

@@ -9,7 +9,7 @@ use lib.Seq.{length-take-le}
 use borrow.Author.Needs.{needs}
 use borrow.Fn.Kinds.{In}
 use borrow.Fn.PlainCycle.{Measures, is, falls, and}
-use Rattle.messages.proofs.ObjectSteps.{tail, part-length}
+use Rattle.zvt_rules.proofs.ObjectSteps.{tail, part-length}
 use Rattle.zvt.specs.declared.objects.Bounds.{Bounds}
 use Rattle.zvt.specs.Writing.{Put, headBytes, valueBytes, shortRunOf}
 use Rattle.zvt.proofs.Slices.{bytes-known}

@@ -8,7 +8,7 @@ use lib.ListN.{length}
 use borrow.Author.Needs.{needs}
 use borrow.Fn.Kinds.{In}
 use borrow.Fn.PlainCycle.{Measures, is, falls, and}
-use Rattle.messages.proofs.ObjectSteps.{tail}
+use Rattle.zvt_rules.proofs.ObjectSteps.{tail}
 use Rattle.zvt.specs.declared.objects.Bounds.{Bounds}
 use Rattle.zvt.specs.Writing.{shortFieldOf, shortListOf}
 use Rattle.zvt.proofs.Slices.{bytes-known}

@@ -6,8 +6,8 @@ use Prim.Native.Nat.{ℕ}
 use native.Mathlib.Omega.{arith}
 use lib.ListN.{take}
 use lib.Seq.{length-take-le}
-use Rattle.messages.specs.Reading.{part}
-use Rattle.messages.proofs.ObjectSteps.{part-length}
+use Rattle.zvt_rules.specs.Reading.{part}
+use Rattle.zvt_rules.proofs.ObjectSteps.{part-length}
 use Rattle.zvt.specs.declared.objects.Bounds.{Bounds}
 use Rattle.zvt.specs.Writing.{valueBytes, shortRunOf, shortFieldOf}
 use Rattle.zvt.proofs.Back.{fits-as, put-as}

@@ -1,8 +1,8 @@
 -- `put_head` meets its contract: the length, and the tag before it. Assumes nothing.
 use native.Mathlib.Omega.{arith}
 use lib.ListN.{length-append}
-use Rattle.messages.specs.Writing.{lenBytes}
-use Rattle.messages.specs.Shortest.{formFor}
+use Rattle.zvt_rules.specs.Writing.{lenBytes}
+use Rattle.zvt_rules.specs.Shortest.{formFor}
 use Rattle.zvt.specs.Writing.{headBytes}
 use Rattle.zvt.proofs.Back.{lent-all, room, then-put}
 use borrow.Author.Needs.{needs}

@@ -1,5 +1,5 @@
 -- The fresh desk is a valid one. Assumes nothing.
-use Rattle.course.proofs.Memory.{fresh-valid}
+use Rattle.desk_rules.proofs.Memory.{fresh-valid}
 use borrow.Author.Needs.{needs}
 use Rattle.script.proofs.turns.State.start.Statement.{statement}
 use Rattle.script.proofs.turns.State.start.Tie as tie

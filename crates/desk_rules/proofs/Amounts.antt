@@ -1,0 +1,131 @@
+-- The amounts that a call brings to a lane or a line have at most twelve digits. Assumes nothing.
+use mathlib.Core.Path.{_≡_, refl}
+use mathlib.Core.Bool.{true, not, _&&_, and-eq-true-iff}
+use mathlib.Core.List.{List, [], _∷_}
+use Prim.Native.Nat.{ℕ, suc, _+_, _*_, _≤_}
+use native.Mathlib.Omega.{arith}
+use lib.ListN.{getD}
+use lib.Dec.{eqb}
+use Rattle.zvt_rules.specs.Reading.{Reading, got, refused, among}
+use Rattle.zvt_rules.specs.Grammar.{Bytes}
+use Rattle.zvt_rules.specs.Message.{Header, wholeHeader, Body, bytes, listed, Message, readOf}
+use Rattle.zvt_rules.specs.Values.{Found, missing, found, valueIn, amountOf, amountIn, statusIn, bodyFields}
+use Rattle.zvt_rules.specs.declared.Status.{Status}
+use Rattle.zvt_rules.specs.declared.ToldCode.{ToldCode}
+use Rattle.zvt_rules.specs.declared.ToldCode.the-variants.{Missing as no-code, Code}
+use Rattle.zvt_rules.specs.declared.ToldAmount.{ToldAmount}
+use Rattle.zvt_rules.specs.declared.ToldAmount.the-variants.{Missing as no-amount, Amount}
+use Rattle.zvt_rules.proofs.Readings.{pick-test}
+use Rattle.zvt_rules.proofs.Numbers.{between}
+use Rattle.zvt_rules.proofs.Told.{Twelve, told-twelve}
+use Rattle.desk_rules.specs.declared.Phase.{Phase}
+use Rattle.desk_rules.specs.declared.Phase.the-variants.{Idle, Waiting, Running}
+use Rattle.desk_rules.specs.declared.Lane.{Lane}
+use Rattle.desk_rules.specs.declared.Line.{Line}
+use Rattle.desk_rules.specs.declared.Moved.{Moved}
+use Rattle.desk_rules.specs.declared.Moved.the-variants.{Refused, Stays, Becomes, Ends}
+use Rattle.desk_rules.specs.Numbers.{amountOk, passwordOk}
+use Rattle.desk_rules.specs.Lanes.{blankLine}
+use Rattle.desk_rules.specs.Course.{runningPairs, pairIs, heardWaiting, amountBy, isReversal, settledAs, completedBy, abortedBy, reportedBy, movedBy, afterBody, heardRunning, heardBy, afterHeader, isIdle, heard, lostBy, concerns, lastFrom, lastLine, Ask, askSale, askRefund, askReversal, openedBy, Call, sale, refund, reversal, message, lost, NumbersFit, moves}
+use Rattle.desk_rules.specs.Memory.{toldSmall}
+
+abbrev pub Small : ℕ → Type 0
+Small n = n ≤ 999_999_999_999
+
+abbrev pub LaneFits : Lane → Type 0
+LaneFits l = Small (l .asked) × toldSmall (l .status .amount)
+
+abbrev pub LinesFit : List Line → Type 0
+LinesFit ls = (k : ℕ) → Small (getD ls k blankLine .settled)
+
+abbrev pub Fits : Moved → Type 0
+Fits (Refused r) = Unit {0}
+Fits Stays = Unit {0}
+Fits (Becomes l) = LaneFits l
+Fits (Ends outcome settled code) = Small settled
+
+told-fits : (f : Found) → Twelve f → toldSmall (amountOf f)
+unfolding Twelve toldSmall amountOf
+told-fits missing h = tt
+told-fits (found value) h = h
+
+amount-fits : (t : ToldAmount) (asked : ℕ) → Small asked → toldSmall t → Small (amountBy t asked)
+unfolding amountBy toldSmall
+amount-fits no-amount asked h k = h
+amount-fits (Amount a) asked h k = k
+
+aborted-fits : (b : Body) → Fits (abortedBy b)
+unfolding abortedBy
+aborted-fits (bytes []) = tt
+aborted-fits (bytes (b ∷ s)) = omega arith
+aborted-fits (listed password fs) = tt
+
+module _ (l : Lane) (h : LaneFits l) where
+  completed-fits : (t : ToldCode) → Fits (completedBy l t)
+  unfolding completedBy settledAs
+  completed-fits no-code = omega arith
+  completed-fits (Code c) =
+      let amount = amountBy (l .status .amount) (l .asked) in
+      pick-test Fits (eqb c 0)
+      (λ _. pick-test Fits (isReversal (l .kind) && not (eqb amount (l .asked))) (λ _. omega arith) (λ _. amount-fits (l .status .amount) (l .asked) (h .0) (h .1)))
+      (λ _. omega arith)
+
+  reported-fits : (status : Status) (t : ToldCode) → toldSmall (status .amount) → Fits (reportedBy l status t)
+  unfolding reportedBy
+  reported-fits status no-code k = tt
+  reported-fits status (Code c) k = (h .0, k)
+
+  module _ (s : List ℕ) (b : Bytes s) where
+    read-fits : (r : Reading Message) → readOf s ≡ r → Fits (afterBody l r)
+    unfolding afterBody movedBy statusIn amountIn
+    read-fits (refused f) e = tt
+    read-fits (got m) e =
+        pick-test Fits (pairIs (m .class) (m .instruction) 0x06 0x0F) (λ _. completed-fits (l .status .code))
+        (λ _. pick-test Fits (pairIs (m .class) (m .instruction) 0x06 0x1E) (λ _. aborted-fits (m .body))
+        (λ _. pick-test Fits (pairIs (m .class) (m .instruction) 0x04 0x0F)
+        (λ _. reported-fits (statusIn (bodyFields (m .body))) _ (told-fits (valueIn 0x04 (bodyFields (m .body))) (told-twelve s m b e)))
+        (λ _. tt)))
+
+    header-fits : (p : Phase) (x : Header) → Fits (heardBy p l s x)
+    unfolding heardBy heardWaiting heardRunning
+    header-fits Idle x = tt
+    header-fits Waiting x =
+        pick-test Fits (eqb (x .size) 0)
+        (λ _. pick-test Fits (pairIs (x .class) (x .instruction) 0x80 0x00) (λ _. h)
+        (λ _. pick-test Fits (eqb (x .class) 0x84) (λ _. omega arith) (λ _. tt)))
+        (λ _. tt)
+    header-fits Running x =
+        pick-test Fits (among runningPairs (x .class * 256 + x .instruction))
+        (λ _. read-fits (readOf s) refl)
+        (λ _. tt)
+
+    heard-fits : Fits (heard l s)
+    unfolding heard afterHeader
+    heard-fits = pick-test Fits (isIdle (l .phase)) (λ _. tt) (λ _. go (wholeHeader s))
+      where
+        go : (r : Reading Header) → Fits (afterHeader l s r)
+        go (refused f) = tt
+        go (got x) = header-fits (l .phase) x
+
+opened-fits : (l : Lane) (a : Ask) → (a .within ≡ true → Small (a .asked)) → Fits (openedBy l a)
+unfolding openedBy toldSmall
+opened-fits l a h =
+    pick-test Fits (isIdle (l .phase))
+    (λ _. pick-test Fits (a .within) (λ e. pick-test Fits (a .sale) (λ _. (h e, tt)) (λ _. tt)) (λ _. tt))
+    (λ _. tt)
+
+last-fits : (i receipt : ℕ) (last : Line) (ls : List Line) → Small (last .settled) → LinesFit ls → Small (lastFrom i receipt last ls .settled)
+unfolding lastFrom
+last-fits i receipt last [] h k = h
+last-fits i receipt last (l ∷ ls) h k =
+    last-fits i receipt _ ls (pick-test (λ (x : Line). Small (x .settled)) (concerns i receipt l) (λ _. k 0) (λ _. h)) (λ j. k (suc j))
+
+pub moves-fit : (l : Lane) (ls : List Line) (c : Call) → LaneFits l → LinesFit ls → NumbersFit c → Fits (moves l ls c)
+unfolding moves NumbersFit lostBy lastLine
+moves-fit l ls (sale i amount) h k n = opened-fits l (askSale amount) (λ e. between amount 999_999_999_999 .0 e .1)
+moves-fit l ls (refund i password amount) h k n =
+    opened-fits l (askRefund password amount) (λ e. between amount 999_999_999_999 .0 (and-eq-true-iff (passwordOk password) (amountOk amount) .0 e .1) .1)
+moves-fit l ls (reversal i password receipt) h k n =
+    opened-fits l (askReversal password receipt (lastLine i receipt ls)) (λ _. last-fits i receipt blankLine ls (omega arith) k)
+moves-fit l ls (message i s) h k n = heard-fits l h s n
+moves-fit l ls (lost i) h k n = pick-test Fits (isIdle (l .phase)) (λ _. tt) (λ _. omega arith)

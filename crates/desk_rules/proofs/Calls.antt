@@ -1,0 +1,323 @@
+-- What a call that is not refused does to its lane, by cases on the calls. Assumes nothing.
+use mathlib.Core.Path.{_≡_, refl, ap, sym, _∙_}
+use mathlib.Core.Bool.{Bool, true, false, _&&_}
+use mathlib.Core.List.{List, [], _∷_}
+use Prim.Native.Nat.{ℕ, _+_, _*_, _<_}
+use native.Mathlib.Omega.{arith}
+use lib.Dec.{eqb}
+use borrow.Author.Tests.{eqb-true, ne-eqb}
+use Rattle.zvt_rules.specs.Reading.{Reading, got, refused, pick, andThen, part, among}
+use Rattle.zvt_rules.specs.Message.{Header, wholeHeader, Body, bytes, listed, Message, readOf, messageOf, bodyOf, layoutOf, start, end}
+use Rattle.zvt_rules.specs.Values.{isStatus, statusOf, statusIn, statusFields, bodyFields, codeIn, codeOf, valueIn}
+use Rattle.zvt_rules.specs.declared.Refusal.{Refusal}
+use Rattle.zvt_rules.specs.declared.Status.{Status}
+use Rattle.zvt_rules.specs.declared.ToldCode.{ToldCode}
+use Rattle.zvt_rules.specs.declared.ToldCode.the-variants.{Missing as no-code, Code}
+use Rattle.zvt_rules.proofs.Readings.{then-on, then-got, got-same, pick-test}
+use Rattle.desk_rules.specs.declared.Outcome.the-variants.{Declined}
+use Rattle.desk_rules.specs.declared.Phase.{Phase}
+use Rattle.desk_rules.specs.declared.Phase.the-variants.{Idle, Waiting, Running}
+use Rattle.desk_rules.specs.declared.Lane.{Lane}
+use Rattle.desk_rules.specs.declared.Line.{Line}
+use Rattle.desk_rules.specs.declared.Moved.{Moved}
+use Rattle.desk_rules.specs.declared.Moved.the-variants.{Refused, Stays, Becomes, Ends}
+use Rattle.desk_rules.specs.Lanes.{waitingLane, runningLane, reportedLane}
+use Rattle.desk_rules.specs.Course.{runningPairs, pairIs, heardWaiting, settledAs, completedBy, abortedBy, reportedBy, movedBy, afterBody, heardRunning, heardBy, afterHeader, isIdle, heard, lostBy, Ask, openedBy, Call, sale, refund, reversal, message, lost, opens, moves}
+use Rattle.desk_rules.specs.Payments.{endsBy, ends, askOf, orElse, remembered, verdictOf, verdict}
+
+-- not refused
+abbrev pub Passes : Moved → Type 0
+Passes (Refused r) = ⊥
+Passes Stays = Unit {0}
+Passes (Becomes l) = Unit {0}
+Passes (Ends outcome settled code) = Unit {0}
+
+-- ---- an opening finds its lane idle and makes it wait for what it asks
+
+abbrev pub askedFor : Ask → Lane
+askedFor a = waitingLane (a .kind) (a .asked) (a .named)
+
+abbrev Opened : Lane → Ask → Moved → Type 0
+Opened l a m = (isIdle (l .phase) ≡ true) × (m ≡ Becomes (askedFor a))
+
+by-ask : (l : Lane) (a : Ask) → Passes (openedBy l a) → Opened l a (openedBy l a)
+unfolding openedBy
+by-ask l a =
+    pick-test P (isIdle (l .phase))
+    (λ e. pick-test P (a .within) (λ _. pick-test P (a .sale) (λ _ _. (e, refl)) (λ _ h. absurd h)) (λ _ h. absurd h))
+    (λ _ h. absurd h)
+  where
+    P : Moved → Type 0
+    P m = Passes m → Opened l a m
+
+pub opened : (l : Lane) (ls : List Line) (c : Call) → opens c ≡ true → Passes (moves l ls c) → Opened l (askOf ls c) (moves l ls c)
+unfolding opens moves askOf
+opened l ls (sale i amount) e h = by-ask l _ h
+opened l ls (refund i password amount) e h = by-ask l _ h
+opened l ls (reversal i password receipt) e h = by-ask l _ h
+opened l ls (message i s) e h = let z : _≡_ {A = ℕ} 0 1 = cc in absurd (omega arith)
+opened l ls (lost i) e h = let z : _≡_ {A = ℕ} 0 1 = cc in absurd (omega arith)
+
+-- ---- any other call finds it open, and goes on with what it remembers or ends by its verdict
+
+-- the lane as a payment's later calls leave it, but for its phase
+abbrev pub retold : Lane → Call → Lane
+retold l c = reportedLane (runningLane l) (remembered (l .status) c)
+
+abbrev pub Later : Lane → Call → Moved → Type 0
+Later l c (Refused r) = ⊥
+Later l c Stays = runningLane l ≡ retold l c
+Later l c (Becomes n) = (isIdle (n .phase) ≡ false) × (runningLane n ≡ retold l c)
+Later l c (Ends outcome settled code) = verdict (runningLane l) c ≡ Ends outcome settled code
+
+-- the header's class is the message's
+of-header : (s : List ℕ) (h : Header) (m : Message) → messageOf s h ≡ got m → m .class ≡ h .class
+unfolding messageOf
+of-header s h m e =
+    let t = then-got (bodyOf (start h) _ (layoutOf (h .class) (h .instruction))) _ m e in
+    ap (λ (x : Message). x .class) (sym (got-same (t .2)))
+
+both : (a b x y : ℕ) → pairIs a b x y ≡ true → (a ≡ x) × (b ≡ y)
+both a b x y = go (eqb a x) refl (eqb b y) refl
+  where
+    go : (p : Bool) → eqb a x ≡ p → (q : Bool) → eqb b y ≡ q → p && q ≡ true → (a ≡ x) × (b ≡ y)
+    go true e true f h = (eqb-true a x e, eqb-true b y f)
+    go true e false f h = let z : _≡_ {A = ℕ} 0 1 = cc in absurd (omega arith)
+    go false e q f h = let z : _≡_ {A = ℕ} 0 1 = cc in absurd (omega arith)
+
+-- a number above all of a list is not among them
+abbrev Under : List ℕ → ℕ → Type 0
+Under [] x = Unit {0}
+Under (k ∷ ks) x = (k < x) × Under ks x
+
+above : (ks : List ℕ) (x : ℕ) → Under ks x → among ks x ≡ false
+unfolding among
+above [] x u = refl
+above (k ∷ ks) x u = rw (ne-eqb k x (λ e. omega arith)) (above ks x (u .1))
+
+-- 84 xx is read as plain bytes
+plain-read : (s : List ℕ) (h : Header) → wholeHeader s ≡ got h → h .class ≡ 0x84
+    → readOf s ≡ got (record { class = h .class; instruction = h .instruction; long = h .long; body = bytes (part (start h) (end h) s) })
+unfolding readOf messageOf layoutOf bodyOf andThen
+plain-read s h w e =
+    let pair = h .class * 256 + h .instruction in
+    rw (w, andThen, above (0x0601 ∷ 0x040F ∷ 0x060F ∷ 0x06D3 ∷ []) pair (omega arith), above (0x0621 ∷ 0x0630 ∷ 0x0631 ∷ 0x0650 ∷ []) pair (omega arith))
+
+-- refused, or an end
+abbrev Closing : Moved → Type 0
+Closing (Refused r) = Unit {0}
+Closing Stays = ⊥
+Closing (Becomes l) = ⊥
+Closing (Ends outcome settled code) = Unit {0}
+
+either-closes : (t : Bool) (x y : Moved) → Closing x → Closing y → Closing (pick t x y)
+either-closes true x y p q = p
+either-closes false x y p q = q
+
+completed-closes : (l : Lane) (t : ToldCode) → Closing (completedBy l t)
+unfolding completedBy settledAs
+completed-closes l no-code = tt
+completed-closes l (Code c) = search (either-closes, tt)
+
+completed-running : (l : Lane) (t : ToldCode) → completedBy (runningLane l) t ≡ completedBy l t
+unfolding completedBy
+completed-running l no-code = refl
+completed-running l (Code c) = refl
+
+aborted-closes : (b : Body) → Closing (abortedBy b)
+unfolding abortedBy
+aborted-closes (bytes []) = tt
+aborted-closes (bytes (b ∷ s)) = tt
+aborted-closes (listed password fs) = tt
+
+module _ (l : Lane) (i : ℕ) (s : List ℕ) where
+  Goes : Moved → Type 0
+  Goes m = Passes m → Later l (message i s) m
+
+  refuses : (r : Refusal) → Goes (Refused r)
+  unfolding Goes
+  refuses r h = absurd h
+
+  stays : runningLane l ≡ retold l (message i s) → Goes Stays
+  unfolding Goes
+  stays e h = e
+
+  becomes : (n : Lane) → isIdle (n .phase) ≡ false → runningLane n ≡ retold l (message i s) → Goes (Becomes n)
+  unfolding Goes
+  becomes n p e h = (p, e)
+
+  closes : (m : Moved) → Closing m → verdict (runningLane l) (message i s) ≡ m → Goes m
+  unfolding Goes
+  closes (Refused r) c v h = absurd h
+  closes Stays c v h = absurd c
+  closes (Becomes n) c v h = absurd c
+  closes (Ends outcome settled code) c v h = v
+
+  -- what tells no status leaves what is remembered
+  same : ((m : Message) → readOf s ≡ got m → isStatus m ≡ false) → runningLane l ≡ retold l (message i s)
+  unfolding remembered statusOf statusFields statusIn codeIn valueIn codeOf orElse
+  same n = ap (reportedLane (runningLane l)) (go (readOf s) refl)
+    where
+      go : (r : Reading Message) → readOf s ≡ r → l .status ≡ orElse (statusIn (statusFields r) .code) (statusIn (statusFields r)) (l .status)
+      go (refused f) e = refl
+      go (got m) e = rw (n m e)
+
+  waiting : (h : Header) → wholeHeader s ≡ got h → Goes (heardWaiting l h)
+  unfolding heardWaiting verdict verdictOf readOf isIdle
+  waiting h w =
+      pick-test Goes (eqb (h .size) 0)
+      (λ _. pick-test Goes (pairIs (h .class) (h .instruction) 0x80 0x00)
+      (λ e. becomes (runningLane l) refl (same λ m f. rw (of-header s h m (sym (then-on _ h w) ∙ f), both (h .class) (h .instruction) 0x80 0x00 e .0)))
+      (λ _. pick-test Goes (eqb (h .class) 0x84)
+      (λ e. closes (Ends Declined 0 (h .instruction)) tt (rw (plain-read s h w (eqb-true _ _ e), e)))
+      (λ _. refuses _)))
+      (λ _. refuses _)
+
+  reported : (st : Status) → remembered (l .status) (message i s) ≡ orElse (st .code) st (l .status)
+      → isIdle (l .phase) ≡ false → Goes (reportedBy l st (st .code))
+  unfolding reportedBy orElse
+  reported st e idle = go (st .code) e
+    where
+      go : (t : ToldCode) → remembered (l .status) (message i s) ≡ orElse t st (l .status) → Goes (reportedBy l st t)
+      go no-code f = stays (rw f)
+      go (Code c) f = becomes (reportedLane l st) idle (rw f)
+
+  moved : (m : Message) → readOf s ≡ got m → isIdle (l .phase) ≡ false → Goes (movedBy l m)
+  unfolding movedBy verdict verdictOf remembered statusOf statusFields
+  moved m r idle =
+      pick-test Goes (pairIs (m .class) (m .instruction) 0x06 0x0F)
+      (λ e. let p = both (m .class) (m .instruction) 0x06 0x0F e in
+      closes (completedBy l (l .status .code)) (completed-closes l _) (rw (r, p .0, p .1) (completed-running l _)))
+      (λ _. pick-test Goes (pairIs (m .class) (m .instruction) 0x06 0x1E)
+      (λ e. let p = both (m .class) (m .instruction) 0x06 0x1E e in closes (abortedBy (m .body)) (aborted-closes (m .body)) (rw (r, p .0, p .1)))
+      (λ _. pick-test Goes (pairIs (m .class) (m .instruction) 0x04 0x0F)
+      (λ e. reported (statusIn (bodyFields (m .body))) (rw (r, e)) idle)
+      (λ e. stays (same λ k f. rw (got-same (sym f ∙ r)) e))))
+
+  running : (h : Header) → isIdle (l .phase) ≡ false → Goes (heardRunning l s h)
+  unfolding heardRunning afterBody
+  running h idle =
+      pick-test Goes (among runningPairs (h .class * 256 + h .instruction))
+      (λ _. go (readOf s) refl) (λ _. refuses _)
+    where
+      go : (r : Reading Message) → readOf s ≡ r → Goes (afterBody l r)
+      go (refused f) e = refuses _
+      go (got m) e = moved m e idle
+
+  heard-goes : isIdle (l .phase) ≡ false → (r : Reading Header) → wholeHeader s ≡ r → Goes (afterHeader l s r)
+  unfolding afterHeader heardBy
+  heard-goes idle (refused f) w = refuses _
+  heard-goes idle (got h) w = go (l .phase)
+    where
+      go : (p : Phase) → Goes (heardBy p l s h)
+      go Idle = refuses _
+      go Waiting = waiting h w
+      go Running = running h idle
+
+pub later : (l : Lane) (ls : List Line) (c : Call) → opens c ≡ false → Passes (moves l ls c) → (isIdle (l .phase) ≡ false) × Later l c (moves l ls c)
+unfolding opens moves heard lostBy verdict Goes
+later l ls (sale i amount) e = let z : _≡_ {A = ℕ} 0 1 = cc in absurd (omega arith)
+later l ls (refund i password amount) e = let z : _≡_ {A = ℕ} 0 1 = cc in absurd (omega arith)
+later l ls (reversal i password receipt) e = let z : _≡_ {A = ℕ} 0 1 = cc in absurd (omega arith)
+later l ls (message i s) e = pick-test (λ m. Passes m → (isIdle (l .phase) ≡ false) × Later l (message i s) m)
+    (isIdle (l .phase)) (λ _ h. absurd h) (λ o h. (o, heard-goes l i s o (wholeHeader s) refl h))
+later l ls (lost i) e = pick-test (λ m. Passes m → (isIdle (l .phase) ≡ false) × Later l (lost i) m)
+    (isIdle (l .phase)) (λ _ h. absurd h) (λ o _. (o, refl))
+
+-- ---- whether a call ends its payment can be seen from the call alone
+
+unfoldable pub endsIn : Moved → Bool
+endsIn (Refused r) = false
+endsIn Stays = false
+endsIn (Becomes l) = false
+endsIn (Ends outcome settled code) = true
+
+closing-ends : (m : Moved) → Closing m → Passes m → endsIn m ≡ true
+unfolding endsIn
+closing-ends (Refused r) c p = absurd p
+closing-ends Stays c p = absurd c
+closing-ends (Becomes l) c p = absurd c
+closing-ends (Ends outcome settled code) c p = refl
+
+reported-open : (l : Lane) (st : Status) (t : ToldCode) → endsIn (reportedBy l st t) ≡ false
+unfolding endsIn reportedBy
+reported-open l st no-code = refl
+reported-open l st (Code c) = refl
+
+module _ (l : Lane) (s : List ℕ) where
+  Right : Moved → Type 0
+  Right m = Passes m → endsIn m ≡ endsBy (readOf s)
+
+  refused-right : (r : Refusal) → Right (Refused r)
+  unfolding Right
+  refused-right r p = absurd p
+
+  open-right : (m : Moved) → endsIn m ≡ false → endsBy (readOf s) ≡ false → Right m
+  unfolding Right
+  open-right m e f p = e ∙ sym f
+
+  end-right : (m : Moved) → Closing m → endsBy (readOf s) ≡ true → Right m
+  unfolding Right
+  end-right m c f p = closing-ends m c p ∙ sym f
+
+  waiting-ends : (h : Header) → wholeHeader s ≡ got h → Right (heardWaiting l h)
+  unfolding heardWaiting endsIn endsBy readOf
+  waiting-ends h w =
+      pick-test Right (eqb (h .size) 0)
+      (λ _. pick-test Right (pairIs (h .class) (h .instruction) 0x80 0x00)
+      (λ e. open-right _ refl (go (readOf s) refl (both (h .class) (h .instruction) 0x80 0x00 e .0)))
+      (λ _. pick-test Right (eqb (h .class) 0x84)
+      (λ e. end-right (Ends Declined 0 (h .instruction)) tt (ap endsBy (plain-read s h w (eqb-true _ _ e)) ∙ rw e))
+      (λ _. refused-right _)))
+      (λ _. refused-right _)
+    where
+      go : (r : Reading Message) → readOf s ≡ r → h .class ≡ 0x80 → endsBy r ≡ false
+      go (refused f) e c = refl
+      go (got m) e c = rw (of-header s h m (sym (then-on _ h w) ∙ e), c)
+
+  moved-ends : (m : Message) → readOf s ≡ got m → eqb (m .class) 0x84 ≡ false → Right (movedBy l m)
+  unfolding movedBy endsIn endsBy
+  moved-ends m r n =
+      pick-test Right (pairIs (m .class) (m .instruction) 0x06 0x0F)
+      (λ e. let q = both (m .class) (m .instruction) 0x06 0x0F e in end-right _ (completed-closes l _) (ap endsBy r ∙ rw (q .0, q .1)))
+      (λ a. pick-test Right (pairIs (m .class) (m .instruction) 0x06 0x1E)
+      (λ e. let q = both (m .class) (m .instruction) 0x06 0x1E e in end-right _ (aborted-closes (m .body)) (ap endsBy r ∙ rw (q .0, q .1)))
+      (λ b. pick-test Right (pairIs (m .class) (m .instruction) 0x04 0x0F)
+      (λ e. let q = both (m .class) (m .instruction) 0x04 0x0F e in open-right _ (reported-open l _ _) (ap endsBy r ∙ rw (q .0)))
+      (λ _. open-right Stays refl (ap endsBy r ∙ rw (n, b, a)))))
+
+  running-ends : (h : Header) → wholeHeader s ≡ got h → Right (heardRunning l s h)
+  unfolding heardRunning afterBody readOf
+  running-ends h w =
+      pick-test Right (among runningPairs (h .class * 256 + h .instruction))
+      (λ t. go (readOf s) refl t) (λ _. refused-right _)
+    where
+      -- none of the six begins with 84
+      not-84 : among runningPairs (h .class * 256 + h .instruction) ≡ true → h .class ≡ 0x84 → ⊥
+      not-84 t c =
+          let u = above runningPairs (h .class * 256 + h .instruction) (omega arith) in
+          let z : _≡_ {A = ℕ} 0 1 = cc in omega arith
+
+      go : (r : Reading Message) → readOf s ≡ r
+          → among runningPairs (h .class * 256 + h .instruction) ≡ true → Right (afterBody l r)
+      go (refused f) e t = refused-right _
+      go (got m) e t = moved-ends m e (rw (of-header s h m (sym (then-on _ h w) ∙ e)) (ne-eqb (h .class) 0x84 (not-84 t)))
+
+  heard-ends : (r : Reading Header) → wholeHeader s ≡ r → Right (afterHeader l s r)
+  unfolding afterHeader heardBy
+  heard-ends (refused f) w = refused-right _
+  heard-ends (got h) w = go (l .phase)
+    where
+      go : (p : Phase) → Right (heardBy p l s h)
+      go Idle = refused-right _
+      go Waiting = waiting-ends h w
+      go Running = running-ends h w
+
+pub ends-same : (l : Lane) (ls : List Line) (c : Call) → Passes (moves l ls c) → endsIn (moves l ls c) ≡ ends c
+unfolding moves ends endsIn heard lostBy Right
+ends-same l ls (sale i amount) = λ h. rw (by-ask l _ h .1)
+ends-same l ls (refund i password amount) = λ h. rw (by-ask l _ h .1)
+ends-same l ls (reversal i password receipt) = λ h. rw (by-ask l _ h .1)
+ends-same l ls (message i s) = pick-test (λ m. Passes m → endsIn m ≡ endsBy (readOf s))
+    (isIdle (l .phase)) (λ _ h. absurd h) (λ _. heard-ends l s (wholeHeader s) refl)
+ends-same l ls (lost i) = pick-test (λ m. Passes m → endsIn m ≡ true) (isIdle (l .phase)) (λ _ h. absurd h) (λ _ _. refl)

@@ -1,0 +1,229 @@
+-- A call sees and changes its own lane and that lane's lines alone; what an accepted call tells. Assumes nothing.
+use mathlib.Core.Path.{_≡_, refl, ap, sym, subst}
+use mathlib.Core.Bool.{Bool, true, false, _&&_}
+use mathlib.Core.List.{List, [], _∷_, _++_, append-nil}
+use Prim.Native.Nat.{ℕ, zero, suc, _+_, _<_}
+use native.Mathlib.Omega.{arith}
+use lib.Dec.{eqb, leb}
+use lib.ListN.{length, getD, set, length-append, length-set}
+use lib.Seq.{getD-set-same, getD-set-other}
+use borrow.Author.Tests.{eqb-true, eqb-false, eq-eqb, ne-eqb, leb-false, lt-leb, le-ltb}
+use Rattle.zvt_rules.specs.Reading.{pick}
+use Rattle.desk_rules.specs.declared.Lane.{Lane}
+use Rattle.desk_rules.specs.declared.Line.{Line}
+use Rattle.desk_rules.specs.declared.Moved.{Moved}
+use Rattle.desk_rules.specs.declared.Moved.the-variants.{Refused, Stays, Becomes, Ends}
+use Rattle.desk_rules.specs.Lanes.{idleLane, lineAt}
+use Rattle.desk_rules.specs.Course.{isIdle, concerns, lastFrom, lastLine, openedBy, askReversal, Call, sale, refund, reversal, message, lost, laneOf, opens, moves, writes}
+use Rattle.desk_rules.specs.Desk.{State, laneAt, place, places, load, Decision, refuse, accept, unlessRefused, decide, laneAfter, linesFrom, step, Accepts}
+use Rattle.desk_rules.specs.Runs.{having, ofLane, Own, own, total, opening}
+use Rattle.desk_rules.specs.Payments.{askOf}
+use Rattle.desk_rules.proofs.Calls.{Passes, opened, Later, later}
+
+-- ---- lists: the elements with a number, and sums
+
+pub having-append : {A : Type 0} (f : A → ℕ) (k : ℕ) (xs ys : List A) → having f k (xs ++ ys) ≡ having f k xs ++ having f k ys
+unfolding having
+having-append f k [] ys = refl
+having-append f k (x ∷ xs) ys = rw (having-append f k xs ys) (go (eqb (f x) k))
+  where
+    go : (b : Bool) → pick b (x ∷ (having f k xs ++ having f k ys)) (having f k xs ++ having f k ys)
+        ≡ pick b (x ∷ having f k xs) (having f k xs) ++ having f k ys
+    go true = refl
+    go false = refl
+
+-- no element, whatever the test
+pub none : {A : Type 0} (b : Bool) → _≡_ {A = List A} [] (pick b [] [])
+none true = refl
+none false = refl
+
+pub total-append : {A : Type 0} (f : A → ℕ) (xs ys : List A) → total f (xs ++ ys) ≡ total f xs + total f ys
+unfolding total
+total-append f [] ys = omega arith
+total-append f (x ∷ xs) ys = omega (arith, total-append f xs ys)
+
+pub total-set : {A : Type 0} (f : A → ℕ) (xs : List A) (i : ℕ) (x d : A) → i < length xs → total f (set xs i x) + f (getD xs i d) ≡ total f xs + f x
+unfolding total
+total-set f [] i x d h = absurd (omega arith)
+total-set f (y ∷ xs) zero x d h = omega arith
+total-set f (y ∷ xs) (suc i) x d h = omega (arith, total-set f xs i x d (omega arith))
+
+-- ---- a call depends on its lane's own lines
+
+last-local : (i receipt : ℕ) (last : Line) (ls : List Line) → lastFrom i receipt last ls ≡ lastFrom i receipt last (ofLane i ls)
+unfolding lastFrom having concerns
+last-local i receipt last [] = refl
+last-local i receipt last (l ∷ ls) = go (eqb (l .lane) i) refl (λ x. last-local i receipt x ls)
+  where
+    go : (b : Bool) → eqb (l .lane) i ≡ b → ((x : Line) → lastFrom i receipt x ls ≡ lastFrom i receipt x (ofLane i ls))
+        → lastFrom i receipt (pick (concerns i receipt l) l last) ls ≡ lastFrom i receipt last (pick b (l ∷ ofLane i ls) (ofLane i ls))
+    go true e ih = ih _
+    go false e ih = rw e (ih last)
+
+pub ask-local : (ls : List Line) (c : Call) → askOf ls c ≡ askOf (ofLane (laneOf c) ls) c
+unfolding askOf laneOf lastLine
+ask-local ls (sale i amount) = refl
+ask-local ls (refund i password amount) = refl
+ask-local ls (reversal i password receipt) = ap (askReversal password receipt) (last-local i receipt _ ls)
+ask-local ls (message i s) = refl
+ask-local ls (lost i) = refl
+
+pub moves-local : (l : Lane) (ls : List Line) (c : Call) → moves l ls c ≡ moves l (ofLane (laneOf c) ls) c
+unfolding moves askOf
+moves-local l ls (sale i amount) = refl
+moves-local l ls (refund i password amount) = refl
+moves-local l ls (reversal i password receipt) = ap (openedBy l) (ask-local ls (reversal i password receipt))
+moves-local l ls (message i s) = refl
+moves-local l ls (lost i) = refl
+
+-- ---- a call changes its lane and that lane's lines
+
+-- what a call makes of its own
+unfoldable pub after : Own → Call → Own
+after o c =
+    let m = moves (o .lane) (o .lines) c in
+    record { lane = laneAfter (o .lane) m; lines = o .lines ++ linesFrom (laneOf c) (o .lane) m }
+
+lines-own : (i k : ℕ) (l : Lane) (m : Moved) → ofLane k (linesFrom i l m) ≡ pick (eqb i k) (linesFrom i l m) []
+unfolding linesFrom having lineAt
+lines-own i k l (Refused r) = none (eqb i k)
+lines-own i k l Stays = none (eqb i k)
+lines-own i k l (Becomes n) = none (eqb i k)
+lines-own i k l (Ends outcome settled code) = refl
+
+own-same : (s : State) (c : Call) → laneOf c < length (s .lanes) → own (laneOf c) (step s c) ≡ after (own (laneOf c) s) c
+unfolding step after
+own-same s c h =
+    let l = laneAt (s .lanes) (laneOf c) in
+    rw (
+      getD-set-same (s .lanes) (laneOf c) (laneAfter l (moves l (s .lines) c)) idleLane h,
+      having-append,
+      lines-own,
+      eq-eqb (laneOf c) (laneOf c) refl,
+      moves-local l (s .lines) c,
+    )
+
+own-other : (s : State) (c : Call) (k : ℕ) → (laneOf c ≡ k → ⊥) → own k (step s c) ≡ own k s
+unfolding step
+own-other s c k n =
+    let l = laneAt (s .lanes) (laneOf c) in
+    rw (
+      getD-set-other (s .lanes) (laneOf c) k (laneAfter l (moves l (s .lines) c)) idleLane (λ e. n (sym e)),
+      having-append,
+      lines-own,
+      ne-eqb (laneOf c) k n,
+      append-nil,
+    )
+
+pub isolation : (s : State) (c : Call) (k : ℕ) → (laneOf c ≡ k → ⊥)
+    → (laneAt (step s c .lanes) k ≡ laneAt (s .lanes) k) × (ofLane k (step s c .lines) ≡ ofLane k (s .lines))
+isolation s c k n = let e = own-other s c k n in (ap (λ (o : Own). o .lane) e, ap (λ (o : Own). o .lines) e)
+
+-- what holds of the call's lane as the call leaves it, and of the other lanes as they were, holds of every lane after the call
+pub by-lane : (s : State) (c : Call) → laneOf c < length (s .lanes) → (P : ℕ → Bool → Own → Type 0) → P (laneOf c) true (after (own (laneOf c) s) c)
+    → ((k : ℕ) → (laneOf c ≡ k → ⊥) → P k false (own k s)) → (k : ℕ) → P k (eqb (laneOf c) k) (own k (step s c))
+by-lane s c h P mine other k = go (eqb (laneOf c) k) refl
+  where
+    go : (b : Bool) → eqb (laneOf c) k ≡ b → P k b (own k (step s c))
+    go true e = subst (λ (j : ℕ). P j true (own j (step s c))) (eqb-true _ _ e) (subst (P (laneOf c) true) (sym (own-same s c h)) mine)
+    go false e = rw (own-other s c k (eqb-false _ _ e)) (other k (eqb-false _ _ e))
+
+-- ---- accepted calls
+
+-- what an accepted call tells
+pub record Told (s : State) (c : Call) : Type 0 where
+  pub lane : laneOf c < 8
+  pub moved : Passes (moves (laneAt (s .lanes) (laneOf c)) (s .lines) c)
+  pub room : opens c ≡ true → load s < 64
+
+pub not-refused : (t : Bool) (n : ℕ) (d : Decision) → pick t (refuse n) d ≡ accept → (t ≡ false) × (d ≡ accept)
+not-refused true n d e = let z : _≡_ {A = ℕ} 0 1 = cc in absurd (omega arith)
+not-refused false n d e = (refl, e)
+
+pub passed : (m : Moved) (d : Decision) → unlessRefused m d ≡ accept → Passes m × (d ≡ accept)
+unfolding unlessRefused
+passed (Refused r) d e = let z : _≡_ {A = ℕ} 0 1 = cc in absurd (omega arith)
+passed Stays d e = (tt, e)
+passed (Becomes l) d e = (tt, e)
+passed (Ends outcome settled code) d e = (tt, e)
+
+pub passing : (m : Moved) (d : Decision) → Passes m → unlessRefused m d ≡ d
+unfolding unlessRefused
+passing (Refused r) d h = absurd h
+passing Stays d h = refl
+passing (Becomes l) d h = refl
+passing (Ends outcome settled code) d h = refl
+
+room-told : (o : Bool) (n : ℕ) → o && leb 64 n ≡ false → o ≡ true → n < 64
+room-told true n e f = leb-false 64 n e
+room-told false n e f = let z : _≡_ {A = ℕ} 0 1 = cc in absurd (omega arith)
+
+pub room-tell : (o : Bool) (n : ℕ) → (o ≡ true → n < 64) → o && leb 64 n ≡ false
+room-tell true n h = lt-leb 64 n (h refl)
+room-tell false n h = refl
+
+pub told : (s : State) (c : Call) → Accepts s c → Told s c
+unfolding Accepts decide
+told s c h =
+    let a = not-refused (leb 8 (laneOf c)) 12 _ h in
+    let b = passed (moves (laneAt (s .lanes) (laneOf c)) (s .lines) c) _ (a .1) in
+    record { lane = leb-false 8 (laneOf c) (a .0); moved = b .0; room = room-told (opens c) (load s) (not-refused (opens c && leb 64 (load s)) 18 _ (b .1) .0) }
+
+pub tell : (s : State) (c : Call) → Told s c → Accepts s c
+unfolding Accepts decide
+tell s c t =
+    let l = laneAt (s .lanes) (laneOf c) in
+    let n = length (writes l c) in
+    rw (lt-leb 8 (laneOf c) (t .lane), passing (moves l (s .lines) c) _ (t .moved), room-tell (opens c) (load s) (t .room), le-ltb n n (omega arith))
+
+-- a call that is accepted in some room is accepted in as much as it writes
+pub accepts-any : (s : State) (c : Call) (room : ℕ) → decide s c room ≡ accept → Accepts s c
+unfolding Accepts decide
+accepts-any s c room e =
+    let l = laneAt (s .lanes) (laneOf c) in
+    let n = length (writes l c) in
+    let a = not-refused (leb 8 (laneOf c)) 12 _ e in
+    let b = passed (moves l (s .lines) c) _ (a .1) in
+    let f = not-refused (opens c && leb 64 (load s)) 18 _ (b .1) in
+    rw (a .0, passing (moves l (s .lines) c) _ (b .0), f .0, le-ltb n n (omega arith))
+
+pub opening-is : (c : Call) (b : Bool) → opens c ≡ b → opening c ≡ pick b 1 0
+unfolding opening
+opening-is c b e = rw e
+
+pub places-total : (ls : List Lane) → places ls ≡ total place ls
+unfolding places total
+places-total [] = refl
+places-total (l ∷ ls) = omega (arith, places-total ls)
+
+-- places are kept: an opening takes one, and an end passes it on to its line
+kept : (i : ℕ) (l : Lane) (ls : List Line) (c : Call) → Passes (moves l ls c)
+    → place (laneAfter l (moves l ls c)) + length (linesFrom i l (moves l ls c)) ≡ place l + opening c
+unfolding place laneAfter linesFrom opening isIdle
+kept i l ls c h = go (opens c) refl
+  where
+    then : (m : Moved) → isIdle (l .phase) ≡ false → Later l c m → place (laneAfter l m) + length (linesFrom i l m) ≡ place l + 0
+    then (Refused r) e f = absurd f
+    then Stays e f = refl
+    then (Becomes n) e f = rw (e, f .0)
+    then (Ends outcome settled code) e f = rw e
+
+    go : (b : Bool) → opens c ≡ b → place (laneAfter l (moves l ls c)) + length (linesFrom i l (moves l ls c)) ≡ place l + pick b 1 0
+    go true e = let o = opened l ls c e h in rw (o .1, o .0)
+    go false e = let t = later l ls c e h in then (moves l ls c) (t .0) (t .1)
+
+pub lanes-step : (s : State) (c : Call) → length (step s c .lanes) ≡ length (s .lanes)
+unfolding step
+lanes-step s c = simp length-set
+
+pub load-step : (s : State) (c : Call) → length (s .lanes) ≡ 8 → Accepts s c → load (step s c) ≡ load s + opening c
+unfolding step load
+load-step s c e h =
+    let l = laneAt (s .lanes) (laneOf c) in
+    let m = moves l (s .lines) c in
+    let t = told s c h in
+    simp (length-append, places-total) (omega (
+      arith,
+      total-set place (s .lanes) (laneOf c) (laneAfter l m) idleLane (omega arith),
+      kept (laneOf c) l (s .lines) c (t .moved),
+    ))

@@ -1,0 +1,223 @@
+-- What every desk is: the fresh one, and each that a call or closing leaves; and each follows the course. Assumes nothing.
+use mathlib.Core.Path.{_≡_, refl, ap, _∙_}
+use mathlib.Core.Bool.{Bool, true, false, _&&_}
+use mathlib.Core.Logic.{_↔_}
+use mathlib.Core.List.{List, [], _∷_, _++_, append-nil}
+use Prim.Native.Nat.{ℕ, zero, suc, _+_, _≤_, _<_}
+use native.Mathlib.Numerals.{add-one}
+use native.Mathlib.Omega.{arith}
+use lib.ListN.{length, getD, set, take, drop, replicate, length-set}
+use lib.Seq.{length-take-le, set-getD, take-suc-set}
+use lib.Dec.{ltb, leb, eqb}
+use borrow.Author.Tests.{leb-false, ltb-false}
+use Rattle.zvt_rules.specs.Reading.{pick}
+use Rattle.zvt_rules.proofs.Readings.{pick-test}
+use Rattle.desk_rules.specs.declared.Lane.{Lane}
+use Rattle.desk_rules.specs.declared.Line.{Line}
+use Rattle.desk_rules.specs.declared.Moved.{Moved}
+use Rattle.desk_rules.specs.declared.Moved.the-variants.{Refused, Stays, Becomes, Ends}
+use Rattle.desk_rules.specs.declared.Book.{Book}
+use Rattle.desk_rules.specs.declared.Desk.{Desk}
+use Rattle.desk_rules.specs.declared.Answer.{Answer}
+use Rattle.desk_rules.specs.declared.Reply.the-variants.{Written}
+use Rattle.desk_rules.specs.Lanes.{blankLine, idleLane, lineAt}
+use Rattle.desk_rules.specs.Course.{isIdle, Call, laneOf, opens, NumbersFit, moves, writes}
+use Rattle.desk_rules.specs.Desk.{fresh, laneAt, place, places, load, Decision, refuse, accept, decide, laneAfter, linesFrom, step}
+use Rattle.desk_rules.specs.Memory.{freshDesk, linesOfDesk, view, laneFor, toldSmall, Valid, withLine, endedDesk, movedDesk, refusedAnswer, answerBy, answerOf, leavesBy, leavesOf, closeAnswer}
+use Rattle.desk_rules.proofs.Calls.{Passes, later}
+use Rattle.desk_rules.proofs.Lanes.{total-set, places-total, not-refused, passed}
+use Rattle.desk_rules.proofs.Amounts.{Small, LaneFits, LinesFit, Fits, moves-fit}
+
+-- ---- lists
+
+-- what holds of all elements holds after one more is put in
+set-all : {A : Type 0} (P : A → Type 0) (ls : List A) (i : ℕ) (a d : A) → P a → ((k : ℕ) → P (getD ls k d)) → (k : ℕ) → P (getD (set ls i a) k d)
+set-all P [] i a d p h k = h k
+set-all P (x ∷ ls) zero a d p h zero = p
+set-all P (x ∷ ls) zero a d p h (suc k) = h (suc k)
+set-all P (x ∷ ls) (suc i) a d p h zero = h 0
+set-all P (x ∷ ls) (suc i) a d p h (suc k) = set-all P ls i a d p (λ j. h (suc j)) k
+
+take-all-fit : (n : ℕ) (ls : List Line) → LinesFit ls → LinesFit (take n ls)
+take-all-fit zero ls h k = omega arith
+take-all-fit (suc n) [] h k = h k
+take-all-fit (suc n) (x ∷ ls) h zero = h 0
+take-all-fit (suc n) (x ∷ ls) h (suc k) = take-all-fit n ls (λ j. h (suc j)) k
+
+replicate-all : {A : Type 0} (P : A → Type 0) (n : ℕ) (d : A) → P d → (k : ℕ) → P (getD (replicate n d) k d)
+replicate-all P zero d p k = p
+replicate-all P (suc n) d p zero = p
+replicate-all P (suc n) d p (suc k) = replicate-all P n d p k
+
+-- ---- the places that lanes take
+
+pub place-most : (l : Lane) → place l ≤ 1
+unfolding place
+place-most l = pick-test (λ (n : ℕ). n ≤ 1) (isIdle (l .phase)) (λ _. omega arith) (λ _. omega arith)
+
+pub place-idle : (l : Lane) → (place l ≡ 0) ↔ (isIdle (l .phase) ≡ true)
+unfolding place
+place-idle l = go (isIdle (l .phase))
+  where
+    go : (b : Bool) → (_≡_ {A = ℕ} (pick b 0 1) 0) ↔ (b ≡ true)
+    go true = (λ _. refl, λ _. refl)
+    go false = (λ e. absurd (omega arith), λ e. cc)
+
+pub place-open : (l : Lane) → isIdle (l .phase) ≡ false → place l ≡ 1
+unfolding place
+place-open l e = rw e
+
+pub place-in : (ls : List Lane) (i : ℕ) → place (getD ls i idleLane) ≤ places ls
+unfolding places place isIdle
+place-in [] i = omega arith
+place-in (l ∷ ls) zero = omega arith
+place-in (l ∷ ls) (suc i) = omega (arith, place-in ls i)
+
+pub places-set : (ls : List Lane) (i : ℕ) (l : Lane) → i < length ls → places (set ls i l) + place (getD ls i idleLane) ≡ places ls + place l
+places-set ls i l h = simp places-total (total-set place ls i l idleLane h)
+
+-- ---- what every desk is
+
+pub fresh-valid : Valid freshDesk
+unfolding places place isIdle toldSmall
+fresh-valid =
+    record {
+      lanes = refl;
+      lines = refl;
+      room = omega arith;
+      asked = replicate-all (λ (l : Lane). Small (l .asked)) 8 idleLane (omega arith);
+      told = replicate-all (λ (l : Lane). toldSmall (l .status .amount)) 8 idleLane tt;
+      settled = replicate-all (λ (l : Line). Small (l .settled)) 64 blankLine (omega arith);
+    }
+
+-- a place is left for lane i: its own, or one more
+abbrev pub Roomy : Desk → ℕ → Type 0
+Roomy d i = d .book .count + places (d .lanes) < 64 + place (laneAt (d .lanes) i)
+
+module _ (d : Desk) (v : Valid d) where
+  pub load-is : load (view d) ≡ d .book .count + places (d .lanes)
+  unfolding load view
+  load-is = ap (λ (n : ℕ). n + places (d .lanes)) (length-take-le (d .book .count) (d .book .lines) (omega (arith, v .room, v .lines)))
+
+  module _ (i : ℕ) (h : i < 8) (r : Roomy d i) where
+    pub roomy-count : d .book .count < 64
+    roomy-count = omega (arith, place-in (d .lanes) i)
+
+    -- another lane, and a book that its place is enough for
+    changed-valid : (l : Lane) (b : Book) → LaneFits l → length (b .lines) ≡ 64 → LinesFit (b .lines)
+        → b .count + place l ≤ d .book .count + 1
+        → Valid (record { lanes = set (d .lanes) i l; book = b })
+    changed-valid l b f n k few =
+        let all = set-all LaneFits (d .lanes) i l idleLane f (λ j. (v .asked j, v .told j)) in
+        record {
+          lanes = simp length-set (v .lanes);
+          lines = n;
+          room = omega (arith, places-set (d .lanes) i l (omega (arith, v .lanes)));
+          asked = λ j. all j .0;
+          told = λ j. all j .1;
+          settled = k;
+        }
+
+    moved-valid : (m : Moved) → Fits m → Valid (movedDesk d i m)
+    unfolding movedDesk endedDesk lineAt place isIdle toldSmall
+    moved-valid (Refused x) f = v
+    moved-valid Stays f = v
+    moved-valid (Becomes l) f = changed-valid l (d .book) f (v .lines) (v .settled) (omega (arith, place-most l))
+    moved-valid (Ends outcome settled code) f =
+        let line = lineAt i (laneAt (d .lanes) i) outcome settled code in
+        changed-valid idleLane (withLine (d .book) line) (omega arith, tt) (simp length-set (v .lines))
+        (set-all (λ (l : Line). Small (l .settled)) (d .book .lines) (d .book .count) line blankLine f (v .settled))
+        (omega arith)
+
+    -- ---- the desk follows the course
+
+    moved-view : (m : Moved) → let l = laneAt (d .lanes) i in
+        view (movedDesk d i m) ≡ record { lanes = set (d .lanes) i (laneAfter l m); lines = linesOfDesk d ++ linesFrom i l m }
+    unfolding view movedDesk endedDesk laneAfter linesFrom
+    moved-view (Refused x) = rw (set-getD, append-nil)
+    moved-view Stays = rw (set-getD, append-nil)
+    moved-view (Becomes l) = rw append-nil
+    moved-view (Ends outcome settled code) =
+        let line = lineAt i (laneAt (d .lanes) i) outcome settled code in
+        rw (add-one, take-suc-set (d .book .lines) (d .book .count) line (omega (arith, roomy-count, v .lines)))
+
+-- what a call does to the lane that it names
+abbrev pub moveOf : Desk → Call → Moved
+moveOf d c = moves (laneFor d c) (linesOfDesk d) c
+
+-- what an accepted call tells
+pub record Taken (d : Desk) (c : Call) (room : ℕ) : Type 0 where
+  pub lane : laneOf c < 8
+  pub passes : Passes (moveOf d c)
+  pub few : opens c && leb 64 (load (view d)) ≡ false
+  pub fits : length (writes (laneFor d c) c) ≤ room
+
+module _ (d : Desk) (c : Call) (room : ℕ) where
+  pub taken : decide (view d) c room ≡ accept → Taken d c room
+  unfolding decide view
+  taken e =
+      let a = not-refused (leb 8 (laneOf c)) 12 _ e in
+      let b = passed (moveOf d c) _ (a .1) in
+      let f = not-refused (opens c && leb 64 (load (view d))) 18 _ (b .1) in
+      let g = not-refused (ltb room (length (writes (laneFor d c) c))) 11 _ (f .1) in
+      record {
+        lane = leb-false 8 (laneOf c) (a .0);
+        passes = b .0;
+        few = f .0;
+        fits = ltb-false room (length (writes (laneFor d c) c)) (g .0);
+      }
+
+  taken-roomy : Valid d → Taken d c room → Roomy d (laneOf c)
+  taken-roomy v t = go (opens c) refl (t .few)
+    where
+      go : (o : Bool) → opens c ≡ o → o && leb 64 (load (view d)) ≡ false → Roomy d (laneOf c)
+      go true o e = omega (arith, leb-false 64 (load (view d)) e, load-is d v)
+      go false o e = omega (arith, v .room, place-open (laneFor d c) (later (laneFor d c) (linesOfDesk d) c o (t .passes) .0))
+
+  -- ---- an answer
+
+  pub refused-same : (n : ℕ) → decide (view d) c room ≡ refuse n → answerOf d c room ≡ refusedAnswer d n
+  unfolding answerOf answerBy
+  refused-same n e = rw (e, answerBy)
+
+  pub accepted-answer : decide (view d) c room ≡ accept
+      → answerOf d c room ≡ record { reply = Written (length (writes (laneFor d c) c)); desk = movedDesk d (laneOf c) (moveOf d c) }
+  unfolding answerOf answerBy
+  accepted-answer e = rw (e, answerBy)
+
+  pub follows : Valid d → decide (view d) c room ≡ accept → view (answerOf d c room .desk) ≡ step (view d) c
+  unfolding step view
+  follows v e =
+      let t = taken e in
+      ap (λ (a : Answer). view (a .desk)) (accepted-answer e) ∙ moved-view d v (laneOf c) (t .lane) (taken-roomy v t) (moveOf d c)
+
+  pub answer-valid : Valid d → NumbersFit c → Valid (answerOf d c room .desk)
+  unfolding refusedAnswer
+  answer-valid v n = go (decide (view d) c room) refl
+    where
+      go : (x : Decision) → decide (view d) c room ≡ x → Valid (answerOf d c room .desk)
+      go (refuse k) e = rw (refused-same k e) v
+      go accept e =
+          let t = taken e in
+          let i = laneOf c in
+          rw (accepted-answer e)
+          (moved-valid d v i (t .lane) (taken-roomy v t) (moveOf d c)
+          (moves-fit (laneFor d c) (linesOfDesk d) c (v .asked i, v .told i) (take-all-fit (d .book .count) (d .book .lines) (v .settled)) n))
+
+module _ (d : Desk) (c : Call) (out : List ℕ) where
+  pub refused-leaves : (n : ℕ) → decide (view d) c (length out) ≡ refuse n → leavesOf d c out ≡ out
+  unfolding leavesOf leavesBy
+  refused-leaves n e = rw (e, leavesBy)
+
+  pub accepted-leaves : decide (view d) c (length out) ≡ accept
+      → let w = writes (laneFor d c) c in leavesOf d c out ≡ w ++ drop (length w) out
+  unfolding leavesOf leavesBy
+  accepted-leaves e = rw (e, leavesBy)
+
+pub view-fresh : view freshDesk ≡ fresh
+unfolding view fresh
+view-fresh = refl
+
+pub close-valid : (d : Desk) → Valid d → Valid (closeAnswer d .desk)
+unfolding closeAnswer refusedAnswer
+close-valid d v = pick-test (λ (a : Answer). Valid (a .desk)) (eqb (places (d .lanes)) 0) (λ _. fresh-valid) (λ _. v)

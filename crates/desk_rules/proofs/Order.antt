@@ -1,0 +1,109 @@
+-- Payments may be read one by one: the run of a list of calls, payment after payment, is accepted, leaves the same state and writes
+-- the same replies. Assumes nothing.
+use mathlib.Core.Path.{_≡_, refl, ap, ap₂, sym, subst, _∙_}
+use mathlib.Core.List.{List, [], _∷_, _++_, append-nil, append-assoc}
+use Prim.Native.Nat.{ℕ, zero, suc}
+use native.Mathlib.Omega.{arith}
+use lib.ListN.{length, getD, length-append, List·getD-eq-default}
+use lib.Seq.{ext-getD}
+use borrow.Author.Tests.{eq-eqb, ne-eqb}
+use Rattle.desk_rules.specs.declared.Lane.{Lane}
+use Rattle.desk_rules.specs.declared.Line.{Line}
+use Rattle.desk_rules.specs.Lanes.{idleLane}
+use Rattle.desk_rules.specs.Course.{isIdle, Call, laneOf}
+use Rattle.desk_rules.specs.Desk.{State, fresh, laneAt, place, places, load, step, Accepted, run}
+use Rattle.desk_rules.specs.Runs.{having, callsOf, Own, own}
+use Rattle.desk_rules.specs.Payments.{paymentsOf, joined, oneByOne, lineOf, linesOf}
+use Rattle.desk_rules.proofs.Lanes.{having-append}
+use Rattle.desk_rules.proofs.Runs.{run-append, lanes-run, count, alone, AcceptedAlone, repliesTo, repliesAlone, run-alone, replies-alone, accepted-alone, accepted-from}
+use Rattle.desk_rules.proofs.Payment.{Brings, idle-again}
+use Rattle.desk_rules.proofs.Kept.{Blocks, all-same, kept}
+use Rattle.desk_rules.proofs.DayBook.{book, openings-same}
+
+-- ---- the calls of a lane are the same, in the same order
+
+-- of lists of which only one has calls of lane k, that one's
+one-of : (k i : ℕ) (os : List (List Call)) → ((j : ℕ) → (j ≡ i → ⊥) → callsOf k (getD os j []) ≡ []) → callsOf k (joined os) ≡ callsOf k (getD os i [])
+unfolding joined having
+one-of k i [] h = refl
+one-of k zero (o ∷ os) h =
+    rw (
+      having-append laneOf k o,
+      one-of k (length os) os (λ j n. h (suc j) (λ e. omega arith)),
+      List·getD-eq-default os [] {n = length os} (omega arith),
+    ) (append-nil _)
+one-of k (suc i) (o ∷ os) h = rw (having-append laneOf k o, h 0 (λ e. omega arith)) (one-of k i os (λ j n. h (suc j) (λ e. n (omega arith))))
+
+pub same-calls : (cs : List Call) → Accepted fresh cs → (k : ℕ) → callsOf k (oneByOne cs) ≡ callsOf k cs
+unfolding oneByOne
+same-calls cs h k =
+    let p = paymentsOf cs in
+    let r = kept cs h in
+    rw (
+      having-append laneOf k (joined (p .ended)),
+      one-of k k (p .ongoing) (λ j n. r .each j .its k ∙ rw (ne-eqb j k n)),
+      r .each k .its k,
+      eq-eqb k k refl,
+    ) (sym (r .calls k))
+
+-- ---- the lines are the same, in the same order
+
+-- ended payments one after the other bring their lines, and leave the lanes idle
+blocks-run : (ps : List (List Call)) (s : State) → length (s .lanes) ≡ 8 → ((k : ℕ) → laneAt (s .lanes) k ≡ idleLane) → Blocks (s .lines) ps
+    → run s (joined ps) ≡ record { lanes = s .lanes; lines = linesOf (s .lines) ps }
+unfolding joined run linesOf Blocks Brings
+blocks-run [] s e idle b = refl
+blocks-run (p ∷ ps) s e idle b =
+    let x = b .0 in
+    rw (run-append s p (joined ps), x .brings s (omega (arith, x .small)) (idle (x .lane)) refl, idle-again (s .lanes) (x .lane) (idle (x .lane)))
+    (blocks-run ps (record { lanes = s .lanes; lines = s .lines ++ (lineOf (s .lines) p ∷ []) }) e idle (b .1))
+
+lines-run : (s : State) (cs : List Call) → (more : List Line) × (run s cs .lines ≡ s .lines ++ more)
+unfolding run step
+lines-run s [] = ([], sym (append-nil (s .lines)))
+lines-run s (c ∷ cs) = let g = lines-run (step s c) cs in (_, g .1 ∙ append-assoc (s .lines) _ (g .0))
+
+as-long : {A : Type 0} (xs ys more : List A) → xs ≡ ys ++ more → length xs ≡ length ys → xs ≡ ys
+as-long xs ys [] e l = e ∙ append-nil ys
+as-long xs ys (m ∷ more) e l = absurd (omega (arith, ap length e, length-append ys (m ∷ more)))
+
+-- the ended payments bring the whole book
+lines-one-by-one : (cs : List Call) → Accepted fresh cs → (more : List Line) × (run fresh (oneByOne cs) .lines ≡ run fresh cs .lines ++ more)
+unfolding oneByOne fresh
+lines-one-by-one cs h =
+    let p = paymentsOf cs in
+    let g = lines-run (run fresh (joined (p .ended))) (joined (p .ongoing)) in (
+      g .0,
+      rw (run-append fresh (joined (p .ended)) (joined (p .ongoing)), book cs h)
+          (g .1 ∙ ap (λ (s : State). s .lines ++ g .0) (blocks-run (p .ended) fresh refl (λ k. all-same 8 k idleLane) (kept cs h .blocks))),
+    )
+
+pub order : (cs : List Call) → Accepted fresh cs
+    → Accepted fresh (oneByOne cs) × (run fresh (oneByOne cs) ≡ run fresh cs) × ((k : ℕ) → repliesTo k fresh (oneByOne cs) ≡ repliesTo k fresh cs)
+unfolding fresh load places place isIdle
+order cs h = (
+  accepted,
+  ap₂ (λ (ls : List Lane) (xs : List Line). record { lanes = ls; lines = xs }) lanes
+      (as-long _ _ (more .0) (more .1) (omega (
+        arith,
+        count cs h .0,
+        count (oneByOne cs) accepted .0,
+        openings-same cs h,
+        ap places lanes,
+      ))),
+  λ k. replies-alone fresh (oneByOne cs) k refl accepted ∙ ap (repliesAlone (own k fresh)) (same-calls cs h k) ∙ sym (replies-alone fresh cs k refl h),
+)
+  where
+    accepted : Accepted fresh (oneByOne cs)
+    accepted =
+        accepted-from fresh (oneByOne cs) refl (λ k. subst (AcceptedAlone (own k fresh)) (sym (same-calls cs h k)) (accepted-alone fresh cs k refl h))
+        (omega (arith, openings-same cs h, count cs h .1))
+
+    each : (k : ℕ) → own k (run fresh (oneByOne cs)) ≡ own k (run fresh cs)
+    each k = run-alone fresh (oneByOne cs) k refl accepted ∙ ap (alone (own k fresh)) (same-calls cs h k) ∙ sym (run-alone fresh cs k refl h)
+
+    lanes : run fresh (oneByOne cs) .lanes ≡ run fresh cs .lanes
+    lanes = ext-getD idleLane _ _ (lanes-run fresh (oneByOne cs) ∙ sym (lanes-run fresh cs)) (λ k _. ap (λ (o : Own). o .lane) (each k))
+
+    more : (xs : List Line) × (run fresh (oneByOne cs) .lines ≡ run fresh cs .lines ++ xs)
+    more = lines-one-by-one cs h

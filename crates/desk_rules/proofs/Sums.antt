@@ -1,0 +1,107 @@
+-- What the loops over lanes and lines have found at each step, and how large it is. Assumes nothing.
+use mathlib.Core.Path.{_≡_, refl}
+use mathlib.Core.List.{List, [], _∷_, _++_}
+use Prim.Native.Nat.{ℕ, zero, suc, _+_, _*_, _≤_, _<_}
+use native.Mathlib.Numerals.{add-one}
+use native.Mathlib.Omega.{arith}
+use lib.ListN.{length, getD, take}
+use lib.Seq.{take-suc}
+use Rattle.zvt_rules.specs.Reading.{pick}
+use Rattle.desk_rules.specs.declared.Kind.{Kind}
+use Rattle.desk_rules.specs.declared.Kind.the-variants.{Sale, Refund, Reversal}
+use Rattle.desk_rules.specs.declared.Outcome.{Outcome}
+use Rattle.desk_rules.specs.declared.Outcome.the-variants.{Unclear, Declined, Approved}
+use Rattle.desk_rules.specs.declared.Lane.{Lane}
+use Rattle.desk_rules.specs.declared.Line.{Line}
+use Rattle.desk_rules.specs.declared.Desk.{Desk}
+use Rattle.desk_rules.specs.Lanes.{blankLine, idleLane}
+use Rattle.desk_rules.specs.Course.{concerns, lastFrom, lastLine}
+use Rattle.desk_rules.specs.Desk.{place, places}
+use Rattle.desk_rules.specs.Memory.{Valid}
+use Rattle.desk_rules.specs.Turnover.{gain, loss, gains, losses}
+use Rattle.desk_rules.proofs.Memory.{place-most}
+
+-- ---- a sum over a list
+
+module _ {A : Type 0} (f : A → ℕ) (sum : List A → ℕ) (none : sum [] ≡ 0) (more : (x : A) (xs : List A) → sum (x ∷ xs) ≡ f x + sum xs) (d : A) where
+  sum-last : (xs : List A) (x : A) → sum (xs ++ (x ∷ [])) ≡ sum xs + f x
+  sum-last [] x = omega (arith, none, more x [])
+  sum-last (y ∷ xs) x = omega (arith, more y (xs ++ (x ∷ [])), more y xs, sum-last xs x)
+
+  sum-take : (xs : List A) (i : ℕ) → i < length xs → sum (take (i + 1) xs) ≡ sum (take i xs) + f (getD xs i d)
+  sum-take xs i h = rw (add-one, take-suc xs i d h) (sum-last (take i xs) (getD xs i d))
+
+  sum-most : (top : ℕ) (i : ℕ) (xs : List A) → ((k : ℕ) → f (getD xs k d) ≤ top) → sum (take i xs) ≤ i * top
+  sum-most top zero xs h = omega (arith, none)
+  sum-most top (suc i) [] h = omega (arith, none)
+  sum-most top (suc i) (x ∷ xs) h = omega (arith, more x (take i xs), h 0, sum-most top i xs (λ k. h (suc k)))
+
+-- ---- open payments
+
+pub places-take : (ls : List Lane) (i : ℕ) → i < length ls → places (take (i + 1) ls) ≡ places (take i ls) + place (getD ls i idleLane)
+unfolding places
+places-take = sum-take place places refl (λ l ls. refl) idleLane
+
+pub places-most : (i : ℕ) (ls : List Lane) → places (take i ls) ≤ i
+unfolding places
+places-most i ls = omega (arith, sum-most place places refl (λ l ls. refl) idleLane 1 i ls (λ k. place-most (getD ls k idleLane)))
+
+-- ---- the last line of a lane with a receipt
+
+last-last : (i receipt : ℕ) (first : Line) (ls : List Line) (l : Line)
+    → lastFrom i receipt first (ls ++ (l ∷ [])) ≡ pick (concerns i receipt l) l (lastFrom i receipt first ls)
+unfolding lastFrom
+last-last i receipt first [] l = refl
+last-last i receipt first (x ∷ ls) l = last-last i receipt _ ls l
+
+pub last-take : (i receipt : ℕ) (ls : List Line) (k : ℕ) → k < length ls → let l = getD ls k blankLine in
+    lastLine i receipt (take (k + 1) ls) ≡ pick (concerns i receipt l) l (lastLine i receipt (take k ls))
+unfolding lastLine
+last-take i receipt ls k h = rw (add-one, take-suc ls k blankLine h) (last-last i receipt blankLine (take k ls) (getD ls k blankLine))
+
+-- ---- the net turnover
+
+abbrev pub gainOf : Line → ℕ
+gainOf l = gain (l .outcome) (l .kind) (l .settled)
+
+abbrev pub lossOf : Line → ℕ
+lossOf l = loss (l .outcome) (l .kind) (l .settled)
+
+pub gains-take : (ls : List Line) (i : ℕ) → i < length ls → gains (take (i + 1) ls) ≡ gains (take i ls) + gainOf (getD ls i blankLine)
+unfolding gains
+gains-take = sum-take gainOf gains refl (λ l ls. refl) blankLine
+
+pub losses-take : (ls : List Line) (i : ℕ) → i < length ls → losses (take (i + 1) ls) ≡ losses (take i ls) + lossOf (getD ls i blankLine)
+unfolding losses
+losses-take = sum-take lossOf losses refl (λ l ls. refl) blankLine
+
+gain-most : (o : Outcome) (k : Kind) (n : ℕ) → gain o k n ≤ n
+unfolding gain
+gain-most Unclear k n = omega arith
+gain-most Declined k n = omega arith
+gain-most Approved Sale n = omega arith
+gain-most Approved Refund n = omega arith
+gain-most Approved Reversal n = omega arith
+
+loss-most : (o : Outcome) (k : Kind) (n : ℕ) → loss o k n ≤ n
+unfolding loss
+loss-most Unclear k n = omega arith
+loss-most Declined k n = omega arith
+loss-most Approved Sale n = omega arith
+loss-most Approved Refund n = omega arith
+loss-most Approved Reversal n = omega arith
+
+module _ (d : Desk) (v : Valid d) where
+  pub gain-small : (k : ℕ) → gainOf (getD (d .book .lines) k blankLine) ≤ 999_999_999_999
+  gain-small k = let l = getD (d .book .lines) k blankLine in omega (arith, gain-most (l .outcome) (l .kind) (l .settled), v .settled k)
+
+  pub loss-small : (k : ℕ) → lossOf (getD (d .book .lines) k blankLine) ≤ 999_999_999_999
+  loss-small k = let l = getD (d .book .lines) k blankLine in omega (arith, loss-most (l .outcome) (l .kind) (l .settled), v .settled k)
+
+  pub gains-most : (i : ℕ) → gains (take i (d .book .lines)) ≤ i * 999_999_999_999
+  unfolding gains
+  gains-most i = sum-most gainOf gains refl (λ l ls. refl) blankLine 999_999_999_999 i (d .book .lines) gain-small
+
+  pub losses-most : (i : ℕ) → losses (take i (d .book .lines)) ≤ i * 999_999_999_999
+  unfolding losses
+  losses-most i = sum-most lossOf losses refl (λ l ls. refl) blankLine 999_999_999_999 i (d .book .lines) loss-small

@@ -1,0 +1,101 @@
+-- The desk's memory, and what each function answers and leaves, by the course. Definitions only.
+use mathlib.Core.Path.{_≡_}
+use Prim.Native.Nat.{ℕ, _+_, _≤_}
+use mathlib.Core.List.{List, _++_}
+use lib.ListN.{length, getD, set, take, drop, replicate}
+use lib.Dec.{ltb, eqb}
+use Rattle.zvt_rules.specs.Reading.{pick}
+use Rattle.zvt_rules.specs.declared.ToldAmount.{ToldAmount}
+use Rattle.zvt_rules.specs.declared.ToldAmount.the-variants.{Missing as no-amount, Amount}
+use Rattle.desk_rules.specs.declared.Lane.{Lane}
+use Rattle.desk_rules.specs.declared.Line.{Line}
+use Rattle.desk_rules.specs.declared.Moved.{Moved}
+use Rattle.desk_rules.specs.declared.Moved.the-variants.{Refused as move-refused, Stays, Becomes, Ends}
+use Rattle.desk_rules.specs.Lanes.{blankLine, idleLane, lineAt}
+use Rattle.desk_rules.specs.Course.{Call, laneOf, moves, writes}
+use Rattle.desk_rules.specs.Desk.{State, laneAt, places, Decision, refuse, accept, decide}
+use Rattle.desk_rules.specs.declared.Book.{Book}
+use Rattle.desk_rules.specs.declared.Desk.{Desk}
+use Rattle.desk_rules.specs.declared.Reply.the-variants.{Written, Refused}
+use Rattle.desk_rules.specs.declared.Answer.{Answer}
+use Rattle.desk_rules.specs.declared.LineAnswer.{LineAnswer}
+use Rattle.desk_rules.specs.declared.LineAnswer.the-variants.{End, Line as line-got}
+use Rattle.desk_rules.specs.declared.LaneAnswer.{LaneAnswer}
+use Rattle.desk_rules.specs.declared.LaneAnswer.the-variants.{Refused as lane-refused, Lane as lane-got}
+
+abbrev pub emptyBook : Book
+emptyBook = record { lines = replicate 64 blankLine; count = 0 }
+
+abbrev pub freshDesk : Desk
+freshDesk = record { lanes = replicate 8 idleLane; book = emptyBook }
+
+-- the lines of the book, and the desk as the course sees it
+abbrev pub linesOfDesk : Desk → List Line
+linesOfDesk d = take (d .book .count) (d .book .lines)
+
+unfoldable pub view : Desk → State
+view d = record { lanes = d .lanes; lines = linesOfDesk d }
+
+-- the lane that a call names
+abbrev pub laneFor : Desk → Call → Lane
+laneFor d c = laneAt (d .lanes) (laneOf c)
+
+-- no amount above twelve digits
+unfoldable pub toldSmall : ToldAmount → Type 0
+toldSmall no-amount = Unit {0}
+toldSmall (Amount a) = a ≤ 999_999_999_999
+
+-- "what holds of all such desks"
+pub record Valid (d : Desk) : Type 0 where
+  pub lanes : length (d .lanes) ≡ 8
+  pub lines : length (d .book .lines) ≡ 64
+  pub room : d .book .count + places (d .lanes) ≤ 64
+  pub asked : (i : ℕ) → getD (d .lanes) i idleLane .asked ≤ 999_999_999_999
+  pub told : (i : ℕ) → toldSmall (getD (d .lanes) i idleLane .status .amount)
+  pub settled : (k : ℕ) → getD (d .book .lines) k blankLine .settled ≤ 999_999_999_999
+
+abbrev pub withLine : Book → Line → Book
+withLine b l = record { lines = set (b .lines) (b .count) l; count = b .count + 1 }
+
+-- "Each end writes one line and makes the lane idle, with nothing remembered."
+unfoldable pub endedDesk : Desk → ℕ → Line → Desk
+endedDesk d i l = record { lanes = set (d .lanes) i idleLane; book = withLine (d .book) l }
+
+-- what a move of lane i leaves
+unfoldable pub movedDesk : Desk → ℕ → Moved → Desk
+movedDesk d i (move-refused r) = d
+movedDesk d i Stays = d
+movedDesk d i (Becomes l) = record { lanes = set (d .lanes) i l; book = d .book }
+movedDesk d i (Ends outcome settled code) = endedDesk d i (lineAt i (laneAt (d .lanes) i) outcome settled code)
+
+unfoldable pub refusedAnswer : Desk → ℕ → Answer
+refusedAnswer d number = record { reply = Refused (record { number = number }); desk = d }
+
+-- "Each refusal returns its number only; desk and buffers are unchanged."
+unfoldable pub answerBy : Decision → Desk → Call → Answer
+answerBy (refuse number) d c = refusedAnswer d number
+answerBy accept d c =
+    let l = laneAt (d .lanes) (laneOf c) in
+    record { reply = Written (length (writes l c)); desk = movedDesk d (laneOf c) (moves l (linesOfDesk d) c) }
+
+unfoldable pub answerOf : Desk → Call → ℕ → Answer
+answerOf d c room = answerBy (decide (view d) c room) d c
+
+-- "Where a call succeeds, buffer bytes beyond those written are unchanged."
+unfoldable pub leavesBy : Decision → Desk → Call → List ℕ → List ℕ
+leavesBy (refuse number) d c out = out
+leavesBy accept d c out = let w = writes (laneAt (d .lanes) (laneOf c)) c in w ++ drop (length w) out
+
+unfoldable pub leavesOf : Desk → Call → List ℕ → List ℕ
+leavesOf d c out = leavesBy (decide (view d) c (length out)) d c out
+
+-- "19 a payment is open at closing"; "Closing the day empties the book." No payment is open, so nothing is remembered: what is
+-- left is a fresh desk
+unfoldable pub closeAnswer : Desk → Answer
+closeAnswer d = pick (eqb (places (d .lanes)) 0) (record { reply = Written 0; desk = freshDesk }) (refusedAnswer d 19)
+
+unfoldable pub lineAnswer : ℕ → List Line → LineAnswer
+lineAnswer k ls = pick (ltb k (length ls)) (line-got (getD ls k blankLine)) End
+
+unfoldable pub laneAnswer : ℕ → List Lane → LaneAnswer
+laneAnswer i ls = pick (ltb i 8) (lane-got (getD ls i idleLane)) (lane-refused (record { number = 12 }))

@@ -1,0 +1,59 @@
+-- What is known of a reading that gave something, step by step. Assumes nothing.
+use mathlib.Core.Path.{_≡_, refl, sym}
+use mathlib.Core.Bool.{Bool, true, false}
+use Prim.Native.Nat.{ℕ}
+use native.Mathlib.Omega.{arith}
+use Rattle.zvt_rules.specs.declared.Fault.{Fault}
+use Rattle.zvt_rules.specs.Reading.{Reading, got, refused, pick, unless, andThen}
+
+-- what was read is one thing
+pub got-same : {A : Type 0} {a b : A} → _≡_ {A = Reading A} (got a) (got b) → a ≡ b
+got-same e = cc
+
+-- it is not refused
+pub got-not-refused : {A : Type 0} {a : A} {r : Fault} → _≡_ {A = Reading A} (got a) (refused r) → ⊥
+got-not-refused e = let z : _≡_ {A = ℕ} 0 1 = cc in omega arith
+
+-- the test did not hold
+pub unless-got : {A : Type 0} (t : Bool) (r : Fault) (x : Reading A) (a : A) → unless t r x ≡ got a → (t ≡ false) × (x ≡ got a)
+unfolding unless
+unless-got true r x a e = absurd (got-not-refused (sym e))
+unless-got false r x a e = (refl, e)
+
+-- a reading goes on where the test did not hold
+pub unless-on : {A : Type 0} {t : Bool} (r : Fault) (x : Reading A) → t ≡ false → unless t r x ≡ x
+unfolding unless
+unless-on r x e = rw e
+
+-- what was read first, and what followed
+pub then-got : {A B : Type 0} (x : Reading A) (f : A → Reading B) (b : B) → andThen x f ≡ got b → (a : A) × (x ≡ got a) × (f a ≡ got b)
+unfolding andThen
+then-got (got a) f b e = (a, refl, e)
+then-got (refused r) f b e = absurd (got-not-refused (sym e))
+
+-- a reading that goes on from what was read, or stops where that stopped
+pub then-on : {A B : Type 0} {x : Reading A} (f : A → Reading B) (a : A) → x ≡ got a → andThen x f ≡ f a
+unfolding andThen
+then-on f a e = rw (e, andThen)
+
+pub then-stop : {A B : Type 0} {x : Reading A} (f : A → Reading B) (r : Fault) → x ≡ refused r → andThen x f ≡ refused r
+unfolding andThen
+then-stop f r e = rw (e, andThen)
+
+-- two that go on alike from all that can be read agree
+pub then-alike : {A B : Type 0} (x : Reading A) (f g : A → Reading B) → ((a : A) → x ≡ got a → f a ≡ g a) → andThen x f ≡ andThen x g
+unfolding andThen
+then-alike (got a) f g h = h a refl
+then-alike (refused r) f g h = refl
+
+-- a choice, by its test
+pub pick-true : {A : Type 0} {t : Bool} (x y : A) → t ≡ true → pick t x y ≡ x
+pick-true x y e = rw e
+
+pub pick-false : {A : Type 0} {t : Bool} (x y : A) → t ≡ false → pick t x y ≡ y
+pick-false x y e = rw e
+
+-- what holds of both sides of a choice, each with its test, holds of the choice
+pub pick-test : {A : Type 0} (P : A → Type 0) (t : Bool) {x y : A} → (t ≡ true → P x) → (t ≡ false → P y) → P (pick t x y)
+pick-test P true p q = p refl
+pick-test P false p q = q refl

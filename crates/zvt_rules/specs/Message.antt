@@ -1,0 +1,109 @@
+-- Document 01, 'A message': class byte, instruction byte, length, body. Definitions only.
+use Prim.Native.Nat.{ℕ, _+_, _*_}
+use mathlib.Core.Bool.{Bool, true, false}
+use mathlib.Core.List.{List, [], _∷_}
+use lib.ListN.{length, take, drop}
+use lib.Dec.{ltb, eqb}
+use Rattle.zvt_rules.specs.declared.Layout.{Layout}
+use Rattle.zvt_rules.specs.declared.Layout.the-variants.{Plain, List as FieldList, Secured}
+use Rattle.zvt_rules.specs.Reading.{Reading, got, refused, no, noHeader, pick, unless, andThen, part, among}
+use Rattle.zvt_rules.specs.Fields.{Field, countFields, unlessUndecimal, listOf}
+
+-- a message's length, and whether it was written as FF and two bytes
+pub record BodyLength : Type 0 where
+  pub long : Bool
+  pub value : ℕ
+
+-- "FF means that two more bytes hold it, low byte first."
+unfoldable pub longLength : List ℕ → Reading BodyLength
+longLength [] = refused (noHeader 1)
+longLength (l ∷ []) = refused (noHeader 1)
+longLength (l ∷ (h ∷ s)) = got (record { long = true; value = h * 256 + l })
+
+-- "A length byte 00 to FE is the length."
+unfoldable pub lengthOf : List ℕ → Reading BodyLength
+lengthOf [] = refused (noHeader 1)
+lengthOf (b ∷ s) = pick (eqb b 0xFF) (longLength s) (got (record { long = false; value = b }))
+
+pub record Header : Type 0 where
+  pub class : ℕ
+  pub instruction : ℕ
+  pub long : Bool
+  pub size : ℕ
+
+-- where the body starts and ends
+abbrev pub headerSize : Bool → ℕ
+headerSize long = pick long 5 3
+
+abbrev pub start : Header → ℕ
+start h = headerSize (h .long)
+
+abbrev pub end : Header → ℕ
+end h = start h + h .size
+
+-- "2, 1 for a body cut short"
+unfoldable pub headerWith : ℕ → ℕ → List ℕ → BodyLength → Reading Header
+headerWith class instruction s l =
+    unless (ltb 4096 (l .value)) (noHeader 2)
+    (unless (ltb (length s) (headerSize (l .long) + l .value)) (noHeader 1)
+    (got (record { class = class; instruction = instruction; long = l .long; size = l .value })))
+
+-- "A header: 1 for a missing header byte, 2, 1 for a body cut short"
+unfoldable pub headerOf : List ℕ → Reading Header
+headerOf [] = refused (noHeader 1)
+headerOf (c ∷ []) = refused (noHeader 1)
+headerOf (c ∷ (i ∷ s)) = andThen (lengthOf s) λ l. headerWith c i (c ∷ (i ∷ s)) l
+
+-- "A body is a field list after nothing (..), a field list after a 3-byte password of decimal digits (..), or plain bytes"
+unfoldable pub layoutOf : ℕ → ℕ → Layout
+layoutOf class instruction =
+    let pair = class * 256 + instruction in
+    pick (among (0x0601 ∷ 0x040F ∷ 0x060F ∷ 0x06D3 ∷ []) pair) FieldList
+    (pick (among (0x0621 ∷ 0x0630 ∷ 0x0631 ∷ 0x0650 ∷ []) pair) Secured Plain)
+
+-- plain bytes; or the password, empty where the layout has none, and the fields
+pub data Body : Type 0 where
+  bytes : List ℕ → Body
+  listed : List ℕ → List Field → Body
+
+-- "A password: 1, 6."
+unfoldable pub securedOf : ℕ → List ℕ → Reading Body
+securedOf at s =
+    unless (ltb (length s) 3) (no 1 (at + length s))
+    (unlessUndecimal at (take 3 s) (andThen (listOf [] 0 (at + 3) (drop 3 s)) λ l. got (listed (take 3 s) (l .fields))))
+
+unfoldable pub bodyOf : ℕ → List ℕ → Layout → Reading Body
+bodyOf at s Plain = got (bytes s)
+bodyOf at s FieldList = andThen (listOf [] 0 at s) λ l. got (listed [] (l .fields))
+bodyOf at s Secured = securedOf at s
+
+pub record Message : Type 0 where
+  pub class : ℕ
+  pub instruction : ℕ
+  pub long : Bool
+  pub body : Body
+
+unfoldable pub messageOf : List ℕ → Header → Reading Message
+messageOf s h =
+    andThen (bodyOf (start h) (part (start h) (end h) s) (layoutOf (h .class) (h .instruction))) λ b.
+    got (record { class = h .class; instruction = h .instruction; long = h .long; body = b })
+
+-- the message that s begins with: "header, body"
+unfoldable pub firstOf : List ℕ → Reading Message
+firstOf s = andThen (headerOf s) λ h. messageOf s h
+
+-- ".., 3": a header behind whose body nothing is left over
+unfoldable pub wholeHeader : List ℕ → Reading Header
+wholeHeader s = andThen (headerOf s) λ h. unless (ltb (end h) (length s)) (noHeader 3) (got h)
+
+-- the message that s is
+unfoldable pub readOf : List ℕ → Reading Message
+readOf s = andThen (wholeHeader s) λ h. messageOf s h
+
+-- "Data objects in one message .. inner ones counted"
+unfoldable pub countBody : Body → ℕ
+countBody (bytes s) = 0
+countBody (listed password fs) = countFields fs
+
+unfoldable pub countOf : Message → ℕ
+countOf m = countBody (m .body)

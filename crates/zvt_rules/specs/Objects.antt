@@ -1,0 +1,145 @@
+-- Document 01, 'Data objects': tag, length, value, and the runs of objects in a container and in an object. Definitions only.
+-- In every reading, at is the place in the message of the first byte of s.
+use Prim.Native.Nat.{ℕ, zero, suc, _+_, _-_, _*_, _/_, _%_}
+use mathlib.Core.Bool.{Bool}
+use mathlib.Core.List.{List, [], _∷_}
+use lib.ListN.{length, getD, take, drop}
+use lib.Dec.{ltb, leb, eqb}
+use Rattle.zvt_rules.specs.Reading.{Reading, got, refused, no, pick, unless, andThen, part}
+
+-- "The tag is one byte, or two when the low five bits of the first are all ones"
+abbrev pub longTag : ℕ → Bool
+longTag b = eqb (b % 32) 31
+
+-- "a second byte with its top bit set is refused"
+abbrev pub topBit : ℕ → Bool
+topBit b = leb 128 b
+
+-- "Bit 20 (hex) of the first byte says that the value is again a run of objects"
+abbrev pub nested : ℕ → Bool
+nested b = eqb (b / 32 % 2) 1
+
+-- "tag 1, 8": how many bytes the tag takes
+unfoldable pub secondTag : ℕ → List ℕ → Reading ℕ
+secondTag at [] = refused (no 1 at)
+secondTag at (b ∷ s) = unless (topBit b) (no 8 at) (got 2)
+
+unfoldable pub tagSize : ℕ → List ℕ → Reading ℕ
+tagSize at [] = refused (no 1 at)
+tagSize at (b ∷ s) = pick (longTag b) (secondTag (at + 1) s) (got 1)
+
+-- "A length is 00 to 7F; or 81 and one byte; or 82 and two bytes, high first."
+pub data Form : Type 0 where
+  bare one two : Form
+
+unfoldable pub formSize : Form → ℕ
+formSize bare = 1
+formSize one = 2
+formSize two = 3
+
+-- how a length is written, and the length
+pub record Len : Type 0 where
+  pub form : Form
+  pub value : ℕ
+
+unfoldable pub oneByte : ℕ → List ℕ → Reading Len
+oneByte at [] = refused (no 1 at)
+oneByte at (v ∷ s) = got (record { form = one; value = v })
+
+unfoldable pub twoBytes : ℕ → List ℕ → Reading Len
+twoBytes at [] = refused (no 1 at)
+twoBytes at (h ∷ []) = refused (no 1 (at + 1))
+twoBytes at (h ∷ (l ∷ s)) = got (record { form = two; value = h * 256 + l })
+
+-- "length 1 or 4", "lengths byte by byte"; 4 is "a first length byte 80, 83 to FF"
+unfoldable pub lenOf : ℕ → List ℕ → Reading Len
+lenOf at [] = refused (no 1 at)
+lenOf at (b ∷ s) =
+    pick (ltb b 0x80) (got (record { form = bare; value = b }))
+    (pick (eqb b 0x81) (oneByte (at + 1) s) (pick (eqb b 0x82) (twoBytes (at + 1) s) (refused (no 4 at))))
+
+-- how many bytes the tag takes, how the length is written, and how many bytes the value takes
+pub record Head : Type 0 where
+  pub tag : ℕ
+  pub form : Form
+  pub value : ℕ
+
+abbrev pub from : Head → ℕ
+from h = h .tag + formSize (h .form)
+
+abbrev pub to : Head → ℕ
+to h = from h + h .value
+
+-- "value 1": a value ends within its run
+unfoldable pub headWith : ℕ → List ℕ → ℕ → Len → Reading Head
+headWith at s tag l =
+    unless (ltb (length s) (tag + formSize (l .form) + l .value)) (no 1 (at + length s))
+    (got (record { tag = tag; form = l .form; value = l .value }))
+
+-- "An object is tag, length, value."
+unfoldable pub headOf : ℕ → List ℕ → Reading Head
+headOf at s = andThen (tagSize at s) λ tag. andThen (lenOf (at + tag) (drop tag s)) λ l. headWith at s tag l
+
+-- An object is the bytes of its tag, the form of its length, and plain bytes or a run of objects. A run may be empty.
+mutual
+  pub data Obj : Type 0 where
+    leaf : List ℕ → Form → List ℕ → Obj
+    branch : List ℕ → Form → Objs → Obj
+
+  pub data Objs : Type 0 where
+    none : Objs
+    more : Obj → Objs → Objs
+
+-- an object with the bytes that it takes and how many objects have begun by its end; a run with the latter
+pub record OneRead : Type 0 where
+  pub obj : Obj
+  pub size : ℕ
+  pub count : ℕ
+
+pub record RunRead : Type 0 where
+  pub objs : Objs
+  pub count : ℕ
+
+-- a reader of runs: levels left, objects so far, place, bytes
+abbrev pub RunReader : Type 0
+RunReader = ℕ → ℕ → ℕ → List ℕ → Reading RunRead
+
+-- "then its inside"
+unfoldable pub insideOf : RunReader → ℕ → ℕ → ℕ → List ℕ → Head → Reading OneRead
+insideOf run left n at s h =
+    pick (nested (getD s 0 0))
+    (andThen (run (left - 1) (n + 1) (at + from h) (part (from h) (to h) s)) λ r.
+    got (record { obj = branch (take (h .tag) s) (h .form) (r .objs); size = to h; count = r .count }))
+    (got (record { obj = leaf (take (h .tag) s) (h .form) (part (from h) (to h) s); size = to h; count = n + 1 }))
+
+-- "An object: 10, 9, tag 1, 8, length 1 or 4, value 1, then its inside."
+unfoldable pub oneBy : RunReader → ℕ → ℕ → ℕ → List ℕ → Reading OneRead
+oneBy run left n at s =
+    unless (leb 64 n) (no 10 at) (unless (eqb left 0) (no 9 at) (andThen (headOf at s) λ h. insideOf run left n at s h))
+
+-- one object after the other, left to right; f bounds their number, which the bytes bound too
+unfoldable pub runBy : ℕ → ℕ → ℕ → ℕ → List ℕ → Reading RunRead
+runBy zero left n at s = got (record { objs = none; count = n })
+runBy (suc f) left n at [] = got (record { objs = none; count = n })
+runBy (suc f) left n at (b ∷ s) =
+    andThen (oneBy (λ l m p t. runBy f l m p t) left n at (b ∷ s)) λ o.
+    andThen (runBy f left (o .count) (at + o .size) (drop (o .size) (b ∷ s))) λ r.
+    got (record { objs = more (o .obj) (r .objs); count = r .count })
+
+-- the objects of a run that is s
+unfoldable pub runOf : ℕ → ℕ → ℕ → List ℕ → Reading RunRead
+runOf left n at s = runBy (length s) left n at s
+
+-- the object that s begins with
+unfoldable pub oneOf : ℕ → ℕ → ℕ → List ℕ → Reading OneRead
+oneOf left n at s = oneBy (λ l m p t. runOf l m p t) left n at s
+
+-- "inner ones counted"
+unfoldable mutual
+  pub countObj : Obj → ℕ
+  countObj (leaf tag form value) = 1
+  countObj (branch tag form os) = suc (countObjs os)
+
+  pub countObjs : Objs → ℕ
+  countObjs none = 0
+  countObjs (more o os) = countObj o + countObjs os

@@ -1,0 +1,120 @@
+-- The same message with every length in its shortest form, and whether it is so already. Definitions only.
+use mathlib.Core.Path.{_≡_}
+use Prim.Native.Nat.{ℕ}
+use mathlib.Core.Bool.{Bool, true, not, _&&_, _||_}
+use mathlib.Core.List.{List, [], _∷_}
+use lib.ListN.{length}
+use lib.Dec.{ltb, leb}
+use Rattle.zvt_rules.specs.Reading.{Reading, got, pick, andThen}
+use Rattle.zvt_rules.specs.Objects.{Form, bare, one, two, Obj, leaf, branch, Objs, none, more}
+use Rattle.zvt_rules.specs.Fields.{Field, plain, container}
+use Rattle.zvt_rules.specs.Message.{Body, bytes, listed, Message, readOf}
+use Rattle.zvt_rules.specs.Writing.{runBytes, bodyBytes, messageBytes}
+
+-- "81 is shortest from 128, 82 from 256."
+unfoldable pub formFor : ℕ → Form
+formFor v = pick (ltb v 128) bare (pick (ltb v 256) one two)
+
+unfoldable pub isShortest : Form → ℕ → Bool
+isShortest bare v = true
+isShortest one v = leb 128 v
+isShortest two v = leb 256 v
+
+-- "the same message with every length shortest, inner ones first"
+unfoldable mutual
+  pub shortObj : Obj → Obj
+  shortObj (leaf tag form value) = leaf tag (formFor (length value)) value
+  shortObj (branch tag form os) = branch tag (formFor (length (runBytes (shortRun os)))) (shortRun os)
+
+  pub shortRun : Objs → Objs
+  shortRun none = none
+  shortRun (more o os) = more (shortObj o) (shortRun os)
+
+unfoldable pub shortField : Field → Field
+shortField (plain id value) = plain id value
+shortField (container form os) = container (formFor (length (runBytes (shortRun os)))) (shortRun os)
+
+unfoldable pub shortList : List Field → List Field
+shortList [] = []
+shortList (f ∷ fs) = shortField f ∷ shortList fs
+
+unfoldable pub shortBody : Body → Body
+shortBody (bytes s) = bytes s
+shortBody (listed password fs) = listed password (shortList fs)
+
+-- "FF with a value under 255 is readable but not shortest."
+unfoldable pub shortMessage : Message → Message
+shortMessage m =
+    record {
+      class = m .class;
+      instruction = m .instruction;
+      long = leb 255 (length (bodyBytes (shortBody (m .body))));
+      body = shortBody (m .body);
+    }
+
+-- every length shortest, as the message was sent
+unfoldable mutual
+  pub isShortObj : Obj → Bool
+  isShortObj (leaf tag form value) = isShortest form (length value)
+  isShortObj (branch tag form os) = isShortest form (length (runBytes os)) && isShortRun os
+
+  pub isShortRun : Objs → Bool
+  isShortRun none = true
+  isShortRun (more o os) = isShortObj o && isShortRun os
+
+unfoldable pub isShortField : Field → Bool
+isShortField (plain id value) = true
+isShortField (container form os) = isShortest form (length (runBytes os)) && isShortRun os
+
+unfoldable pub isShortList : List Field → Bool
+isShortList [] = true
+isShortList (f ∷ fs) = isShortField f && isShortList fs
+
+unfoldable pub isShortBody : Body → Bool
+isShortBody (bytes s) = true
+isShortBody (listed password fs) = isShortList fs
+
+unfoldable pub isShort : Message → Bool
+isShort m = (not (m .long) || leb 255 (length (bodyBytes (m .body)))) && isShortBody (m .body)
+
+-- the shortest writing of a message, and of the message that s is
+unfoldable pub write : Message → List ℕ
+write m = messageBytes (shortMessage m)
+
+unfoldable pub shorten : List ℕ → Reading (List ℕ)
+shorten s = andThen (readOf s) λ m. got (write m)
+
+-- the same values: all but the forms of lengths
+unfoldable mutual
+  pub SameObj : Obj → Obj → Type 0
+  SameObj (leaf tag form value) (leaf tag′ form′ value′) = (tag ≡ tag′) × (value ≡ value′)
+  SameObj (leaf tag form value) (branch tag′ form′ os′) = ⊥
+  SameObj (branch tag form os) (leaf tag′ form′ value′) = ⊥
+  SameObj (branch tag form os) (branch tag′ form′ os′) = (tag ≡ tag′) × SameRun os os′
+
+  pub SameRun : Objs → Objs → Type 0
+  SameRun none none = Unit {0}
+  SameRun none (more o′ os′) = ⊥
+  SameRun (more o os) none = ⊥
+  SameRun (more o os) (more o′ os′) = SameObj o o′ × SameRun os os′
+
+unfoldable pub SameField : Field → Field → Type 0
+SameField (plain id value) (plain id′ value′) = (id ≡ id′) × (value ≡ value′)
+SameField (plain id value) (container form′ os′) = ⊥
+SameField (container form os) (plain id′ value′) = ⊥
+SameField (container form os) (container form′ os′) = SameRun os os′
+
+unfoldable pub SameList : List Field → List Field → Type 0
+SameList [] [] = Unit {0}
+SameList [] (f′ ∷ fs′) = ⊥
+SameList (f ∷ fs) [] = ⊥
+SameList (f ∷ fs) (f′ ∷ fs′) = SameField f f′ × SameList fs fs′
+
+unfoldable pub SameBody : Body → Body → Type 0
+SameBody (bytes s) (bytes s′) = s ≡ s′
+SameBody (bytes s) (listed password′ fs′) = ⊥
+SameBody (listed password fs) (bytes s′) = ⊥
+SameBody (listed password fs) (listed password′ fs′) = (password ≡ password′) × SameList fs fs′
+
+unfoldable pub SameValues : Message → Message → Type 0
+SameValues m m′ = (m .class ≡ m′ .class) × (m .instruction ≡ m′ .instruction) × SameBody (m .body) (m′ .body)
