@@ -24,13 +24,19 @@ use Rattle.desk_rules.specs.declared.Lane.{Lane}
 use Rattle.desk_rules.specs.declared.Line.{Line}
 use Rattle.desk_rules.specs.declared.Moved.{Moved}
 use Rattle.desk_rules.specs.declared.Moved.the-variants.{Refused, Stays, Becomes, Ends}
-use Rattle.desk_rules.specs.Numbers.{amountOk, passwordOk}
+use Rattle.desk_rules.specs.declared.Opening.{Opening}
+use Rattle.desk_rules.specs.declared.Opening.the-variants.{Sale as sale, Refund as refund, Reversal as reversal}
+use Rattle.desk_rules.specs.declared.Reference.{Reference}
+use Rattle.desk_rules.specs.declared.Reference.the-variants.{Nothing, Sold}
+use Rattle.desk_rules.specs.Numbers.{mostAsked, amountOk, passwordOk}
+use Rattle.desk_rules.specs.Kinds.{isReversal, isIdle}
 use Rattle.desk_rules.specs.Lanes.{blankLine}
-use Rattle.desk_rules.specs.Course.{runningPairs, pairIs, heardWaiting, amountBy, isReversal, settledAs, completedBy, abortedBy, reportedBy, movedBy, afterBody, heardRunning, heardBy, afterHeader, isIdle, heard, lostBy, concerns, lastFrom, lastLine, Ask, askSale, askRefund, askReversal, openedBy, Call, sale, refund, reversal, message, lost, NumbersFit, moves}
+use Rattle.desk_rules.specs.Openings.{withinLimits, refersTo, concerns, lastFrom, lastLine, sold, askedBy, openedLane}
+use Rattle.desk_rules.specs.Course.{runningPairs, pairIs, heardWaiting, amountBy, settledAs, completedBy, abortedBy, reportedBy, movedBy, afterBody, heardRunning, heardBy, afterHeader, heard, lostBy, standing, openedBy, Call, opening, message, lost, NumbersFit, moves}
 use Rattle.desk_rules.specs.Memory.{toldSmall}
 
 abbrev pub Small : ℕ → Type 0
-Small n = n ≤ 999_999_999_999
+Small n = n ≤ mostAsked
 
 abbrev pub LaneFits : Lane → Type 0
 LaneFits l = Small (l .asked) × toldSmall (l .status .amount)
@@ -107,25 +113,28 @@ module _ (l : Lane) (h : LaneFits l) where
         go (refused f) = tt
         go (got x) = header-fits (l .phase) x
 
-opened-fits : (l : Lane) (a : Ask) → (a .within ≡ true → Small (a .asked)) → Fits (openedBy l a)
-unfolding openedBy toldSmall
-opened-fits l a h =
-    pick-test Fits (isIdle (l .phase))
-    (λ _. pick-test Fits (a .within) (λ e. pick-test Fits (a .sale) (λ _. (h e, tt)) (λ _. tt)) (λ _. tt))
-    (λ _. tt)
+asked-fits : (o : Opening) (line : Line) → Small (line .settled) → withinLimits o ≡ true → Small (askedBy o line)
+asked-fits (sale amount) line h e = between amount mostAsked .0 e .1
+asked-fits (refund password amount) line h e = between amount mostAsked .0 (and-eq-true-iff (passwordOk password) (amountOk amount) .0 e .1) .1
+asked-fits (reversal password receipt) line h e = h
 
-last-fits : (i receipt : ℕ) (last : Line) (ls : List Line) → Small (last .settled) → LinesFit ls → Small (lastFrom i receipt last ls .settled)
+opened-fits : (l : Lane) (o : Opening) (line : Line) → Small (line .settled) → Fits (openedBy l o line)
+unfolding openedBy toldSmall
+opened-fits l o line h =
+    pick-test Fits (isIdle (l .phase)) (λ _. pick-test Fits (withinLimits o) (λ e. go (asked-fits o line h e) (refersTo o)) (λ _. tt)) (λ _. tt)
+  where
+    go : Small (askedBy o line) → (r : Reference) → Fits (standing r line (Becomes (openedLane o line)))
+    go k Nothing = (k, tt)
+    go k (Sold receipt) = pick-test Fits (sold line) (λ _. (k, tt)) (λ _. tt)
+
+last-fits : (i : ℕ) (r : Reference) (last : Line) (ls : List Line) → Small (last .settled) → LinesFit ls → Small (lastFrom i r last ls .settled)
 unfolding lastFrom
-last-fits i receipt last [] h k = h
-last-fits i receipt last (l ∷ ls) h k =
-    last-fits i receipt _ ls (pick-test (λ (x : Line). Small (x .settled)) (concerns i receipt l) (λ _. k 0) (λ _. h)) (λ j. k (suc j))
+last-fits i r last [] h k = h
+last-fits i r last (l ∷ ls) h k =
+    last-fits i r _ ls (pick-test (λ (x : Line). Small (x .settled)) (concerns i r l) (λ _. k 0) (λ _. h)) (λ j. k (suc j))
 
 pub moves-fit : (l : Lane) (ls : List Line) (c : Call) → LaneFits l → LinesFit ls → NumbersFit c → Fits (moves l ls c)
 unfolding moves NumbersFit lostBy lastLine
-moves-fit l ls (sale i amount) h k n = opened-fits l (askSale amount) (λ e. between amount 999_999_999_999 .0 e .1)
-moves-fit l ls (refund i password amount) h k n =
-    opened-fits l (askRefund password amount) (λ e. between amount 999_999_999_999 .0 (and-eq-true-iff (passwordOk password) (amountOk amount) .0 e .1) .1)
-moves-fit l ls (reversal i password receipt) h k n =
-    opened-fits l (askReversal password receipt (lastLine i receipt ls)) (λ _. last-fits i receipt blankLine ls (omega arith) k)
+moves-fit l ls (opening i o) h k n = opened-fits l o _ (last-fits i (refersTo o) blankLine ls (omega arith) k)
 moves-fit l ls (message i s) h k n = heard-fits l h s n
 moves-fit l ls (lost i) h k n = pick-test Fits (isIdle (l .phase)) (λ _. tt) (λ _. omega arith)

@@ -21,8 +21,13 @@ use Rattle.desk_rules.specs.declared.Lane.{Lane}
 use Rattle.desk_rules.specs.declared.Line.{Line}
 use Rattle.desk_rules.specs.declared.Moved.{Moved}
 use Rattle.desk_rules.specs.declared.Moved.the-variants.{Refused, Stays, Becomes, Ends}
-use Rattle.desk_rules.specs.Lanes.{waitingLane, runningLane, reportedLane}
-use Rattle.desk_rules.specs.Course.{runningPairs, pairIs, heardWaiting, settledAs, completedBy, abortedBy, reportedBy, movedBy, afterBody, heardRunning, heardBy, afterHeader, isIdle, heard, lostBy, Ask, openedBy, Call, sale, refund, reversal, message, lost, opens, moves}
+use Rattle.desk_rules.specs.declared.Opening.{Opening}
+use Rattle.desk_rules.specs.declared.Reference.{Reference}
+use Rattle.desk_rules.specs.declared.Reference.the-variants.{Nothing, Sold}
+use Rattle.desk_rules.specs.Kinds.{isIdle}
+use Rattle.desk_rules.specs.Lanes.{runningLane, reportedLane}
+use Rattle.desk_rules.specs.Openings.{withinLimits, refersTo, sold, openedLane}
+use Rattle.desk_rules.specs.Course.{runningPairs, pairIs, heardWaiting, settledAs, completedBy, abortedBy, reportedBy, movedBy, afterBody, heardRunning, heardBy, afterHeader, heard, lostBy, standing, openedBy, Call, opening, message, lost, opens, moves}
 use Rattle.desk_rules.specs.Payments.{endsBy, ends, askOf, orElse, remembered, verdictOf, verdict}
 
 -- not refused
@@ -33,28 +38,24 @@ Passes (Becomes l) = Unit {0}
 Passes (Ends outcome settled code) = Unit {0}
 
 -- ---- an opening finds its lane idle and makes it wait for what it asks
+abbrev Opened : Lane → Lane → Moved → Type 0
+Opened l n m = (isIdle (l .phase) ≡ true) × (m ≡ Becomes n)
 
-abbrev pub askedFor : Ask → Lane
-askedFor a = waitingLane (a .kind) (a .asked) (a .named)
-
-abbrev Opened : Lane → Ask → Moved → Type 0
-Opened l a m = (isIdle (l .phase) ≡ true) × (m ≡ Becomes (askedFor a))
-
-by-ask : (l : Lane) (a : Ask) → Passes (openedBy l a) → Opened l a (openedBy l a)
+by-opening : (l : Lane) (o : Opening) (line : Line) → Passes (openedBy l o line) → Opened l (openedLane o line) (openedBy l o line)
 unfolding openedBy
-by-ask l a =
-    pick-test P (isIdle (l .phase))
-    (λ e. pick-test P (a .within) (λ _. pick-test P (a .sale) (λ _ _. (e, refl)) (λ _ h. absurd h)) (λ _ h. absurd h))
-    (λ _ h. absurd h)
+by-opening l o line =
+    pick-test P (isIdle (l .phase)) (λ e. pick-test P (withinLimits o) (λ _. go e (refersTo o)) (λ _ h. absurd h)) (λ _ h. absurd h)
   where
     P : Moved → Type 0
-    P m = Passes m → Opened l a m
+    P m = Passes m → Opened l (openedLane o line) m
+
+    go : isIdle (l .phase) ≡ true → (r : Reference) → P (standing r line (Becomes (openedLane o line)))
+    go e Nothing = λ _. (e, refl)
+    go e (Sold receipt) = pick-test P (sold line) (λ _ _. (e, refl)) (λ _ h. absurd h)
 
 pub opened : (l : Lane) (ls : List Line) (c : Call) → opens c ≡ true → Passes (moves l ls c) → Opened l (askOf ls c) (moves l ls c)
 unfolding opens moves askOf
-opened l ls (sale i amount) e h = by-ask l _ h
-opened l ls (refund i password amount) e h = by-ask l _ h
-opened l ls (reversal i password receipt) e h = by-ask l _ h
+opened l ls (opening i o) e h = by-opening l o _ h
 opened l ls (message i s) e h = let z : _≡_ {A = ℕ} 0 1 = cc in absurd (omega arith)
 opened l ls (lost i) e h = let z : _≡_ {A = ℕ} 0 1 = cc in absurd (omega arith)
 
@@ -216,9 +217,7 @@ module _ (l : Lane) (i : ℕ) (s : List ℕ) where
 
 pub later : (l : Lane) (ls : List Line) (c : Call) → opens c ≡ false → Passes (moves l ls c) → (isIdle (l .phase) ≡ false) × Later l c (moves l ls c)
 unfolding opens moves heard lostBy verdict Goes
-later l ls (sale i amount) e = let z : _≡_ {A = ℕ} 0 1 = cc in absurd (omega arith)
-later l ls (refund i password amount) e = let z : _≡_ {A = ℕ} 0 1 = cc in absurd (omega arith)
-later l ls (reversal i password receipt) e = let z : _≡_ {A = ℕ} 0 1 = cc in absurd (omega arith)
+later l ls (opening i o) e = let z : _≡_ {A = ℕ} 0 1 = cc in absurd (omega arith)
 later l ls (message i s) e = pick-test (λ m. Passes m → (isIdle (l .phase) ≡ false) × Later l (message i s) m)
     (isIdle (l .phase)) (λ _ h. absurd h) (λ o h. (o, heard-goes l i s o (wholeHeader s) refl h))
 later l ls (lost i) e = pick-test (λ m. Passes m → (isIdle (l .phase) ≡ false) × Later l (lost i) m)
@@ -315,9 +314,7 @@ module _ (l : Lane) (s : List ℕ) where
 
 pub ends-same : (l : Lane) (ls : List Line) (c : Call) → Passes (moves l ls c) → endsIn (moves l ls c) ≡ ends c
 unfolding moves ends endsIn heard lostBy Right
-ends-same l ls (sale i amount) = λ h. rw (by-ask l _ h .1)
-ends-same l ls (refund i password amount) = λ h. rw (by-ask l _ h .1)
-ends-same l ls (reversal i password receipt) = λ h. rw (by-ask l _ h .1)
+ends-same l ls (opening i o) = λ h. rw (by-opening l o _ h .1)
 ends-same l ls (message i s) = pick-test (λ m. Passes m → endsIn m ≡ endsBy (readOf s))
     (isIdle (l .phase)) (λ _ h. absurd h) (λ _. heard-ends l s (wholeHeader s) refl)
 ends-same l ls (lost i) = pick-test (λ m. Passes m → endsIn m ≡ true) (isIdle (l .phase)) (λ _ h. absurd h) (λ _ _. refl)

@@ -13,38 +13,54 @@ use Rattle.desk_rules.specs.declared.Lane.{Lane}
 use Rattle.desk_rules.specs.declared.Line.{Line}
 use Rattle.desk_rules.specs.declared.Moved.{Moved}
 use Rattle.desk_rules.specs.declared.Moved.the-variants.{Refused, Stays, Becomes, Ends}
-use Rattle.desk_rules.specs.Lanes.{idleLane, lineAt}
+use Rattle.desk_rules.specs.Numbers.{laneCount}
+use Rattle.desk_rules.specs.Lanes.{idleLane}
 use Rattle.desk_rules.specs.Course.{Call, laneOf, moves}
-use Rattle.desk_rules.specs.Desk.{State, fresh, laneAfter, linesFrom, step, Accepts, Accepted, run}
+use Rattle.desk_rules.specs.Desk.{State, fresh, laneAfter, lineIf, linesFrom, step, Accepts, Accepted, run}
 use Rattle.desk_rules.specs.Runs.{having, ofLane, callsOf, Own, own}
-use Rattle.desk_rules.specs.Payments.{Payments, withCall, paymentsFrom, paymentsOf, joined, lineOf, linesOf, Begins, Says}
+use Rattle.desk_rules.specs.Payments.{Payments, withCall, paymentsFrom, paymentsOf, joined, pays, paying, lineOf, linesOf, Begins, LaneSays}
 use Rattle.desk_rules.proofs.Calls.{endsIn, ends-same}
 use Rattle.desk_rules.proofs.Lanes.{having-append, moves-local, after, by-lane, told, lanes-step}
-use Rattle.desk_rules.proofs.Payment.{Goes, goes, Brings, brings-more, Open, open-none, its-more}
+use Rattle.desk_rules.proofs.Payment.{lineFrom, Goes, goes, Brings, brings-more, Open, open-none, its-more}
 
 -- ---- the ended payments, one after the other
 
--- an ended payment of one lane, which brought its line behind those lines
+-- an ended payment of one lane, which brought its line, if it takes a place, behind those lines
 pub record Block (ls : List Line) (p : List Call) : Type 0 where
   pub lane : ℕ
-  pub small : lane < 8
+  pub small : lane < laneCount
   pub its : (j : ℕ) → callsOf j p ≡ pick (eqb lane j) p []
   pub begins : Begins p
-  pub brings : Brings lane (ofLane lane ls) p idleLane (lineOf ls p ∷ [])
+  pub brings : Brings lane (ofLane lane ls) p idleLane (lineFrom ls p)
 
 unfoldable pub Blocks : List Line → List (List Call) → Type 0
 Blocks ls [] = Unit {0}
-Blocks ls (p ∷ ps) = Block ls p × Blocks (ls ++ (lineOf ls p ∷ [])) ps
+Blocks ls (p ∷ ps) = Block ls p × Blocks (ls ++ lineFrom ls p) ps
 
-blocks-snoc : (ls : List Line) (ps : List (List Call)) (p : List Call) → Blocks ls ps → Block (linesOf ls ps) p → Blocks ls (ps ++ (p ∷ []))
-unfolding Blocks linesOf
+-- the book after payments, one after the other
+unfoldable pub bookOf : List Line → List (List Call) → List Line
+bookOf ls [] = ls
+bookOf ls (p ∷ ps) = bookOf (ls ++ lineFrom ls p) ps
+
+book-lines : (ls : List Line) (ps : List (List Call)) → bookOf ls ps ≡ linesOf ls (paying ps)
+unfolding bookOf linesOf paying lineFrom
+book-lines ls [] = refl
+book-lines ls (p ∷ ps) = go (pays p) λ xs. book-lines xs ps
+  where
+    go : (b : Bool) → ((xs : List Line) → bookOf xs ps ≡ linesOf xs (paying ps))
+        → bookOf (ls ++ lineIf b (lineOf ls p)) ps ≡ linesOf ls (pick b (p ∷ paying ps) (paying ps))
+    go true ih = ih _
+    go false ih = rw append-nil (ih ls)
+
+blocks-snoc : (ls : List Line) (ps : List (List Call)) (p : List Call) → Blocks ls ps → Block (bookOf ls ps) p → Blocks ls (ps ++ (p ∷ []))
+unfolding Blocks bookOf
 blocks-snoc ls [] p bs b = (b, tt)
 blocks-snoc ls (x ∷ ps) p bs b = (bs .0, blocks-snoc _ ps p (bs .1) b)
 
-lines-snoc : (ls : List Line) (ps : List (List Call)) (p : List Call) → linesOf ls (ps ++ (p ∷ [])) ≡ linesOf ls ps ++ (lineOf (linesOf ls ps) p ∷ [])
-unfolding linesOf
-lines-snoc ls [] p = refl
-lines-snoc ls (x ∷ ps) p = lines-snoc (ls ++ (lineOf ls x ∷ [])) ps p
+book-snoc : (ls : List Line) (ps : List (List Call)) (p : List Call) → bookOf ls (ps ++ (p ∷ [])) ≡ bookOf ls ps ++ lineFrom (bookOf ls ps) p
+unfolding bookOf
+book-snoc ls [] p = refl
+book-snoc ls (x ∷ ps) p = book-snoc (ls ++ lineFrom ls x) ps p
 
 joined-append : (ps qs : List (List Call)) → joined (ps ++ qs) ≡ joined ps ++ joined qs
 unfolding joined
@@ -54,12 +70,12 @@ joined-append (p ∷ ps) qs = rw (joined-append ps qs, append-assoc)
 -- ---- the invariant
 
 pub record Kept (s : State) (p : Payments) (past : List Call) : Type 0 where
-  pub lanes : length (s .lanes) ≡ 8
-  pub slots : length (p .ongoing) ≡ 8
+  pub lanes : length (s .lanes) ≡ laneCount
+  pub slots : length (p .ongoing) ≡ laneCount
   pub calls : (k : ℕ) → callsOf k past ≡ callsOf k (joined (p .ended)) ++ getD (p .ongoing) k []
   pub each : (k : ℕ) → Open k (own k s) (getD (p .ongoing) k [])
   pub blocks : Blocks [] (p .ended)
-  pub lines : s .lines ≡ linesOf [] (p .ended)
+  pub lines : s .lines ≡ bookOf [] (p .ended)
 
 getD-set : {A : Type 0} (xs : List A) (i k : ℕ) (x d : A) → i < length xs → getD (set xs i x) k d ≡ pick (eqb i k) x (getD xs k d)
 getD-set xs i k x d h = go (eqb i k) refl
@@ -82,7 +98,7 @@ turn s c = moves (mine s c .lane) (mine s c .lines) c
 kept-with : (s : State) (p : Payments) (past : List Call) (c : Call) → Kept s p past → Accepts s c
     → (ys : List (List Call)) (x : List Call) → joined ys ++ x ≡ grown p c
     → Open (laneOf c) (after (mine s c) c) x → Blocks [] (p .ended ++ ys)
-    → s .lines ++ linesFrom (laneOf c) (mine s c .lane) (turn s c) ≡ linesOf [] (p .ended ++ ys)
+    → s .lines ++ linesFrom (laneOf c) (mine s c .lane) (turn s c) ≡ bookOf [] (p .ended ++ ys)
     → Kept (step s c) (record { ended = p .ended ++ ys; ongoing = set (p .ongoing) (laneOf c) x }) (past ++ (c ∷ []))
 unfolding step having
 kept-with s p past c kept h ys x e now blocks lines =
@@ -95,7 +111,7 @@ kept-with s p past c kept h ys x e now blocks lines =
       lines = rw moves-local lines;
     }
   where
-    small : laneOf c < 8
+    small : laneOf c < laneCount
     small = told s c h .lane
 
     at : (k : ℕ) → getD (set (p .ongoing) (laneOf c) x) k [] ≡ pick (eqb (laneOf c) k) x (getD (p .ongoing) k [])
@@ -144,7 +160,7 @@ kept-step s p past c kept h =
     brings = brings-more (w .lines) q (w .lane) c (now .brings)
 
     on : (n : Lane) → laneAfter (w .lane) (turn s c) ≡ n → linesFrom i (w .lane) (turn s c) ≡ []
-        → Says i (record { lane = n; lines = w .lines }) (q ++ (c ∷ []))
+        → LaneSays i (record { lane = n; lines = w .lines }) (q ++ (c ∷ []))
         → Kept (step s c) (record { ended = p .ended; ongoing = set (p .ongoing) i (q ++ (c ∷ [])) }) (past ++ (c ∷ []))
     on n e f g =
         rw (append-nil (p .ended)) at
@@ -152,14 +168,14 @@ kept-step s p past c kept h =
         (rw (e, f, append-nil (w .lines)) (record { its = its-more q c (now .its); brings = rw (e, f) at brings; says = g }))
         (rw (append-nil (p .ended)) (kept .blocks)) (rw (f, append-nil (s .lines), append-nil (p .ended)) (kept .lines)))
 
-    ended : laneAfter (w .lane) (turn s c) ≡ idleLane → (x : Line) → linesFrom i (w .lane) (turn s c) ≡ x ∷ []
-        → Begins (q ++ (c ∷ [])) → x ≡ lineOf (s .lines) (q ++ (c ∷ []))
+    ended : laneAfter (w .lane) (turn s c) ≡ idleLane → Begins (q ++ (c ∷ []))
+        → linesFrom i (w .lane) (turn s c) ≡ lineFrom (s .lines) (q ++ (c ∷ []))
         → Kept (step s c) (record { ended = p .ended ++ ((q ++ (c ∷ [])) ∷ []); ongoing = set (p .ongoing) i [] }) (past ++ (c ∷ []))
-    ended e x f b l =
+    ended e b l =
         kept-with s p past c kept h ((q ++ (c ∷ [])) ∷ []) [] (simp append-nil) (rw e (open-none i _))
         (blocks-snoc [] (p .ended) (q ++ (c ∷ [])) (kept .blocks)
-        (rw (← kept .lines) (record { lane = i; small = told s c h .lane; its = its-more q c (now .its); begins = b; brings = rw (e, f, l) at brings })))
-        (rw (f, l, lines-snoc, ← kept .lines))
+        (rw (← kept .lines) (record { lane = i; small = told s c h .lane; its = its-more q c (now .its); begins = b; brings = rw (e, l) at brings })))
+        (rw (l, book-snoc, ← kept .lines))
 
     go : (m : Moved) → turn s c ≡ m → Goes i w (q ++ (c ∷ [])) m
         → Kept (step s c) (pick (endsIn m)
@@ -168,8 +184,7 @@ kept-step s p past c kept h =
     go (Refused r) e g = absurd g
     go Stays e g = on (w .lane) (ap (laneAfter (w .lane)) e) (ap (linesFrom i (w .lane)) e) g
     go (Becomes n) e g = on n (ap (laneAfter (w .lane)) e) (ap (linesFrom i (w .lane)) e) g
-    go (Ends outcome settled code) e g = ended (ap (laneAfter (w .lane)) e) (lineAt i (w .lane) outcome settled code)
-        (ap (linesFrom i (w .lane)) e) (g .0) (g .1 (s .lines) refl)
+    go (Ends outcome settled code) e g = ended (ap (laneAfter (w .lane)) e) (g .0) (ap (linesFrom i (w .lane)) e ∙ g .1 (s .lines) refl)
 
 kept-run : (s : State) (p : Payments) (past cs : List Call) → Kept s p past → Accepted s cs → Kept (run s cs) (paymentsFrom p cs) (past ++ cs)
 unfolding run paymentsFrom Accepted
@@ -182,17 +197,20 @@ all-same zero k a = refl
 all-same (suc n) zero a = refl
 all-same (suc n) (suc k) a = all-same n k a
 
+pub kept-lines : {s : State} {p : Payments} {past : List Call} → Kept s p past → s .lines ≡ linesOf [] (paying (p .ended))
+kept-lines k = k .lines ∙ book-lines [] _
+
 pub kept : (cs : List Call) → Accepted fresh cs → Kept (run fresh cs) (paymentsOf cs) cs
-unfolding paymentsOf fresh having joined Blocks linesOf
-kept cs h = kept-run fresh (record { ended = []; ongoing = replicate 8 [] }) [] cs first h
+unfolding paymentsOf fresh having joined Blocks bookOf
+kept cs h = kept-run fresh (record { ended = []; ongoing = replicate laneCount [] }) [] cs first h
   where
-    first : Kept fresh (record { ended = []; ongoing = replicate 8 [] }) []
+    first : Kept fresh (record { ended = []; ongoing = replicate laneCount [] }) []
     first =
         record {
           lanes = refl;
           slots = refl;
-          calls = λ k. sym (all-same 8 k []);
-          each = λ k. rw (all-same 8 k idleLane, all-same {A = List Call} 8 k []) (open-none k []);
+          calls = λ k. sym (all-same laneCount k []);
+          each = λ k. rw (all-same laneCount k idleLane, all-same {A = List Call} laneCount k []) (open-none k []);
           blocks = tt;
           lines = refl;
         }

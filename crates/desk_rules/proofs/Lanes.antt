@@ -13,11 +13,15 @@ use Rattle.desk_rules.specs.declared.Lane.{Lane}
 use Rattle.desk_rules.specs.declared.Line.{Line}
 use Rattle.desk_rules.specs.declared.Moved.{Moved}
 use Rattle.desk_rules.specs.declared.Moved.the-variants.{Refused, Stays, Becomes, Ends}
-use Rattle.desk_rules.specs.Lanes.{idleLane, lineAt}
-use Rattle.desk_rules.specs.Course.{isIdle, concerns, lastFrom, lastLine, openedBy, askReversal, Call, sale, refund, reversal, message, lost, laneOf, opens, moves, writes}
-use Rattle.desk_rules.specs.Desk.{State, laneAt, place, places, load, Decision, refuse, accept, unlessRefused, decide, laneAfter, linesFrom, step, Accepts}
-use Rattle.desk_rules.specs.Runs.{having, ofLane, Own, own, total, opening}
-use Rattle.desk_rules.specs.Payments.{askOf}
+use Rattle.desk_rules.specs.declared.Reference.{Reference}
+use Rattle.desk_rules.specs.Numbers.{laneCount, bookLines}
+use Rattle.desk_rules.specs.Kinds.{booked, isIdle}
+use Rattle.desk_rules.specs.Lanes.{noStatus, idleLane, runningLane, lineAt, placeTaken}
+use Rattle.desk_rules.specs.Openings.{kindOf, refersTo, concerns, lastFrom, lastLine, openedLane}
+use Rattle.desk_rules.specs.Course.{openedBy, Call, opening, message, lost, laneOf, opens, needsPlace, moves, writes}
+use Rattle.desk_rules.specs.Desk.{State, laneAt, placesTaken, load, Decision, refuse, accept, unlessRefused, decide, laneAfter, lineIf, linesFrom, step, Accepts}
+use Rattle.desk_rules.specs.Runs.{having, ofLane, Own, own, total, oneOpened}
+use Rattle.desk_rules.specs.Payments.{askOf, askedLane}
 use Rattle.desk_rules.proofs.Calls.{Passes, opened, Later, later}
 
 -- ---- lists: the elements with a number, and sums
@@ -50,29 +54,25 @@ total-set f (y ∷ xs) (suc i) x d h = omega (arith, total-set f xs i x d (omega
 
 -- ---- a call depends on its lane's own lines
 
-last-local : (i receipt : ℕ) (last : Line) (ls : List Line) → lastFrom i receipt last ls ≡ lastFrom i receipt last (ofLane i ls)
+last-local : (i : ℕ) (r : Reference) (last : Line) (ls : List Line) → lastFrom i r last ls ≡ lastFrom i r last (ofLane i ls)
 unfolding lastFrom having concerns
-last-local i receipt last [] = refl
-last-local i receipt last (l ∷ ls) = go (eqb (l .lane) i) refl (λ x. last-local i receipt x ls)
+last-local i r last [] = refl
+last-local i r last (l ∷ ls) = go (eqb (l .lane) i) refl (λ x. last-local i r x ls)
   where
-    go : (b : Bool) → eqb (l .lane) i ≡ b → ((x : Line) → lastFrom i receipt x ls ≡ lastFrom i receipt x (ofLane i ls))
-        → lastFrom i receipt (pick (concerns i receipt l) l last) ls ≡ lastFrom i receipt last (pick b (l ∷ ofLane i ls) (ofLane i ls))
+    go : (b : Bool) → eqb (l .lane) i ≡ b → ((x : Line) → lastFrom i r x ls ≡ lastFrom i r x (ofLane i ls))
+        → lastFrom i r (pick (concerns i r l) l last) ls ≡ lastFrom i r last (pick b (l ∷ ofLane i ls) (ofLane i ls))
     go true e ih = ih _
     go false e ih = rw e (ih last)
 
 pub ask-local : (ls : List Line) (c : Call) → askOf ls c ≡ askOf (ofLane (laneOf c) ls) c
 unfolding askOf laneOf lastLine
-ask-local ls (sale i amount) = refl
-ask-local ls (refund i password amount) = refl
-ask-local ls (reversal i password receipt) = ap (askReversal password receipt) (last-local i receipt _ ls)
+ask-local ls (opening i o) = ap (openedLane o) (last-local i (refersTo o) _ ls)
 ask-local ls (message i s) = refl
 ask-local ls (lost i) = refl
 
 pub moves-local : (l : Lane) (ls : List Line) (c : Call) → moves l ls c ≡ moves l (ofLane (laneOf c) ls) c
-unfolding moves askOf
-moves-local l ls (sale i amount) = refl
-moves-local l ls (refund i password amount) = refl
-moves-local l ls (reversal i password receipt) = ap (openedBy l) (ask-local ls (reversal i password receipt))
+unfolding moves laneOf lastLine
+moves-local l ls (opening i o) = ap (openedBy l o) (last-local i (refersTo o) _ ls)
 moves-local l ls (message i s) = refl
 moves-local l ls (lost i) = refl
 
@@ -89,7 +89,11 @@ unfolding linesFrom having lineAt
 lines-own i k l (Refused r) = none (eqb i k)
 lines-own i k l Stays = none (eqb i k)
 lines-own i k l (Becomes n) = none (eqb i k)
-lines-own i k l (Ends outcome settled code) = refl
+lines-own i k l (Ends outcome settled code) = go (booked (l .kind))
+  where
+    go : (b : Bool) → let x = lineAt i l outcome settled code in ofLane k (lineIf b x) ≡ pick (eqb i k) (lineIf b x) []
+    go true = refl
+    go false = none (eqb i k)
 
 own-same : (s : State) (c : Call) → laneOf c < length (s .lanes) → own (laneOf c) (step s c) ≡ after (own (laneOf c) s) c
 unfolding step after
@@ -132,9 +136,9 @@ by-lane s c h P mine other k = go (eqb (laneOf c) k) refl
 
 -- what an accepted call tells
 pub record Told (s : State) (c : Call) : Type 0 where
-  pub lane : laneOf c < 8
+  pub lane : laneOf c < laneCount
   pub moved : Passes (moves (laneAt (s .lanes) (laneOf c)) (s .lines) c)
-  pub room : opens c ≡ true → load s < 64
+  pub room : needsPlace c ≡ true → load s < bookLines
 
 pub not-refused : (t : Bool) (n : ℕ) (d : Decision) → pick t (refuse n) d ≡ accept → (t ≡ false) × (d ≡ accept)
 not-refused true n d e = let z : _≡_ {A = ℕ} 0 1 = cc in absurd (omega arith)
@@ -154,27 +158,27 @@ passing Stays d h = refl
 passing (Becomes l) d h = refl
 passing (Ends outcome settled code) d h = refl
 
-room-told : (o : Bool) (n : ℕ) → o && leb 64 n ≡ false → o ≡ true → n < 64
-room-told true n e f = leb-false 64 n e
+room-told : (o : Bool) (n : ℕ) → o && leb bookLines n ≡ false → o ≡ true → n < bookLines
+room-told true n e f = leb-false bookLines n e
 room-told false n e f = let z : _≡_ {A = ℕ} 0 1 = cc in absurd (omega arith)
 
-pub room-tell : (o : Bool) (n : ℕ) → (o ≡ true → n < 64) → o && leb 64 n ≡ false
-room-tell true n h = lt-leb 64 n (h refl)
+pub room-tell : (o : Bool) (n : ℕ) → (o ≡ true → n < bookLines) → o && leb bookLines n ≡ false
+room-tell true n h = lt-leb bookLines n (h refl)
 room-tell false n h = refl
 
 pub told : (s : State) (c : Call) → Accepts s c → Told s c
 unfolding Accepts decide
 told s c h =
-    let a = not-refused (leb 8 (laneOf c)) 12 _ h in
+    let a = not-refused (leb laneCount (laneOf c)) 12 _ h in
     let b = passed (moves (laneAt (s .lanes) (laneOf c)) (s .lines) c) _ (a .1) in
-    record { lane = leb-false 8 (laneOf c) (a .0); moved = b .0; room = room-told (opens c) (load s) (not-refused (opens c && leb 64 (load s)) 18 _ (b .1) .0) }
+    record { lane = leb-false laneCount (laneOf c) (a .0); moved = b .0; room = room-told (needsPlace c) (load s) (not-refused (needsPlace c && leb bookLines (load s)) 18 _ (b .1) .0) }
 
 pub tell : (s : State) (c : Call) → Told s c → Accepts s c
 unfolding Accepts decide
 tell s c t =
     let l = laneAt (s .lanes) (laneOf c) in
     let n = length (writes l c) in
-    rw (lt-leb 8 (laneOf c) (t .lane), passing (moves l (s .lines) c) _ (t .moved), room-tell (opens c) (load s) (t .room), le-ltb n n (omega arith))
+    rw (lt-leb laneCount (laneOf c) (t .lane), passing (moves l (s .lines) c) _ (t .moved), room-tell (needsPlace c) (load s) (t .room), le-ltb n n (omega arith))
 
 -- a call that is accepted in some room is accepted in as much as it writes
 pub accepts-any : (s : State) (c : Call) (room : ℕ) → decide s c room ≡ accept → Accepts s c
@@ -182,41 +186,77 @@ unfolding Accepts decide
 accepts-any s c room e =
     let l = laneAt (s .lanes) (laneOf c) in
     let n = length (writes l c) in
-    let a = not-refused (leb 8 (laneOf c)) 12 _ e in
+    let a = not-refused (leb laneCount (laneOf c)) 12 _ e in
     let b = passed (moves l (s .lines) c) _ (a .1) in
-    let f = not-refused (opens c && leb 64 (load s)) 18 _ (b .1) in
+    let f = not-refused (needsPlace c && leb bookLines (load s)) 18 _ (b .1) in
     rw (a .0, passing (moves l (s .lines) c) _ (b .0), f .0, le-ltb n n (omega arith))
 
-pub opening-is : (c : Call) (b : Bool) → opens c ≡ b → opening c ≡ pick b 1 0
-unfolding opening
-opening-is c b e = rw e
-
-pub places-total : (ls : List Lane) → places ls ≡ total place ls
-unfolding places total
+pub places-total : (ls : List Lane) → placesTaken ls ≡ total placeTaken ls
+unfolding placesTaken total
 places-total [] = refl
 places-total (l ∷ ls) = omega (arith, places-total ls)
 
+pub opened-one : (c : Call) → needsPlace c ≡ true → oneOpened c ≡ 1
+unfolding oneOpened
+opened-one c e = rw e
+
+-- only an opening needs a place, and the lane that it opens takes it
+pub not-opened : (c : Call) → opens c ≡ false → oneOpened c ≡ 0
+unfolding opens oneOpened needsPlace
+not-opened (opening i o) e = let z : _≡_ {A = ℕ} 0 1 = cc in absurd (omega arith)
+not-opened (message i s) e = refl
+not-opened (lost i) e = refl
+
+pub asked-kind : (ls : List Line) (c : Call) → opens c ≡ true → booked (askOf ls c .kind) ≡ needsPlace c
+unfolding opens askOf needsPlace
+asked-kind ls (opening i o) e = refl
+asked-kind ls (message i s) e = let z : _≡_ {A = ℕ} 0 1 = cc in absurd (omega arith)
+asked-kind ls (lost i) e = let z : _≡_ {A = ℕ} 0 1 = cc in absurd (omega arith)
+
+-- it is open, with nothing remembered
+pub asked-open : (ls : List Line) (c : Call) → opens c ≡ true
+    → (isIdle (askOf ls c .phase) ≡ false) × (runningLane (askOf ls c) ≡ askedLane (askOf ls c) noStatus)
+unfolding opens askOf askedLane
+asked-open ls (opening i o) e = (refl, refl)
+asked-open ls (message i s) e = let z : _≡_ {A = ℕ} 0 1 = cc in absurd (omega arith)
+asked-open ls (lost i) e = let z : _≡_ {A = ℕ} 0 1 = cc in absurd (omega arith)
+
+pub asked-place : (ls : List Line) (c : Call) → opens c ≡ true → placeTaken (askOf ls c) ≡ oneOpened c
+unfolding opens askOf placeTaken oneOpened needsPlace
+asked-place ls (opening i o) e = refl
+asked-place ls (message i s) e = let z : _≡_ {A = ℕ} 0 1 = cc in absurd (omega arith)
+asked-place ls (lost i) e = let z : _≡_ {A = ℕ} 0 1 = cc in absurd (omega arith)
+
+-- an open lane takes a place as its kind says
+pub place-kind : (l : Lane) → isIdle (l .phase) ≡ false → placeTaken l ≡ pick (booked (l .kind)) 1 0
+unfolding placeTaken
+place-kind l e = rw e
+
+line-count : (b : Bool) (x : Line) → length (lineIf b x) ≡ pick b 1 0
+line-count true x = refl
+line-count false x = refl
+
 -- places are kept: an opening takes one, and an end passes it on to its line
-kept : (i : ℕ) (l : Lane) (ls : List Line) (c : Call) → Passes (moves l ls c)
-    → place (laneAfter l (moves l ls c)) + length (linesFrom i l (moves l ls c)) ≡ place l + opening c
-unfolding place laneAfter linesFrom opening isIdle
+pub kept : (i : ℕ) (l : Lane) (ls : List Line) (c : Call) → Passes (moves l ls c)
+    → placeTaken (laneAfter l (moves l ls c)) + length (linesFrom i l (moves l ls c)) ≡ placeTaken l + oneOpened c
+unfolding laneAfter linesFrom placeTaken
 kept i l ls c h = go (opens c) refl
   where
-    then : (m : Moved) → isIdle (l .phase) ≡ false → Later l c m → place (laneAfter l m) + length (linesFrom i l m) ≡ place l + 0
+    then : (m : Moved) → isIdle (l .phase) ≡ false → Later l c m → placeTaken (laneAfter l m) + length (linesFrom i l m) ≡ placeTaken l + 0
     then (Refused r) e f = absurd f
     then Stays e f = refl
-    then (Becomes n) e f = rw (e, f .0)
-    then (Ends outcome settled code) e f = rw e
+    then (Becomes n) e f = rw (e, f .0, ap (λ (x : Lane). booked (x .kind)) (f .1))
+    then (Ends outcome settled code) e f = rw (e, line-count) (omega arith)
 
-    go : (b : Bool) → opens c ≡ b → place (laneAfter l (moves l ls c)) + length (linesFrom i l (moves l ls c)) ≡ place l + pick b 1 0
-    go true e = let o = opened l ls c e h in rw (o .1, o .0)
-    go false e = let t = later l ls c e h in then (moves l ls c) (t .0) (t .1)
+    go : (b : Bool) → opens c ≡ b → placeTaken (laneAfter l (moves l ls c)) + length (linesFrom i l (moves l ls c)) ≡ placeTaken l + oneOpened c
+    go true e = let o = opened l ls c e h in rw (o .1, o .0) (omega (arith, asked-place ls c e))
+    go false e = let t = later l ls c e h in rw (not-opened c e) (then (moves l ls c) (t .0) (t .1))
 
 pub lanes-step : (s : State) (c : Call) → length (step s c .lanes) ≡ length (s .lanes)
 unfolding step
 lanes-step s c = simp length-set
 
-pub load-step : (s : State) (c : Call) → length (s .lanes) ≡ 8 → Accepts s c → load (step s c) ≡ load s + opening c
+pub load-step : (s : State) (c : Call) → length (s .lanes) ≡ laneCount → Accepts s c → load (step s c) ≡ load s + oneOpened c
 unfolding step load
 load-step s c e h =
     let l = laneAt (s .lanes) (laneOf c) in
@@ -224,6 +264,6 @@ load-step s c e h =
     let t = told s c h in
     simp (length-append, places-total) (omega (
       arith,
-      total-set place (s .lanes) (laneOf c) (laneAfter l m) idleLane (omega arith),
+      total-set placeTaken (s .lanes) (laneOf c) (laneAfter l m) idleLane (omega arith),
       kept (laneOf c) l (s .lines) c (t .moved),
     ))

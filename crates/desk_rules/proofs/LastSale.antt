@@ -1,6 +1,6 @@
--- "the last approved sale or reversal line of this lane with that receipt is a sale". Assumes nothing.
+-- P12: of the lines that a reversal looks at the last is a sale. Assumes nothing.
 use mathlib.Core.Path.{_≡_, refl, ap, _∙_}
-use mathlib.Core.Bool.{Bool, true, false, _&&_, _||_, false≢true, and-eq-true-iff}
+use mathlib.Core.Bool.{Bool, true, false, _&&_, false≢true, and-eq-true-iff}
 use mathlib.Core.Logic.{_↔_, _⊎_, inl, inr, ⊎-elim}
 use mathlib.Core.List.{List, [], _∷_, _++_}
 use Prim.Native.Nat.{ℕ}
@@ -10,27 +10,30 @@ use Rattle.zvt_rules.specs.Reading.{pick}
 use Rattle.desk_rules.specs.declared.Kind.{Kind}
 use Rattle.desk_rules.specs.declared.Kind.the-variants.{Sale, Refund, Reversal}
 use Rattle.desk_rules.specs.declared.Line.{Line}
+use Rattle.desk_rules.specs.declared.Reference.{Reference}
+use Rattle.desk_rules.specs.declared.Reference.the-variants.{Sold}
+use Rattle.desk_rules.specs.Kinds.{isSale, isApproved}
 use Rattle.desk_rules.specs.Lanes.{blankLine}
-use Rattle.desk_rules.specs.Course.{isReversal, isApproved, isSale, concerns, lastFrom, lastLine}
+use Rattle.desk_rules.specs.Openings.{concerns, lastFrom, lastLine, sold}
 use Rattle.desk_rules.specs.Table.{NoneOf, Last, LastIsSale}
 
-module _ (i receipt : ℕ) where
-  none-last : (last : Line) (ls : List Line) → NoneOf i receipt ls → lastFrom i receipt last ls ≡ last
+module _ (i : ℕ) (r : Reference) where
+  none-last : (last : Line) (ls : List Line) → NoneOf i r ls → lastFrom i r last ls ≡ last
   unfolding NoneOf lastFrom
   none-last last [] h = refl
   none-last last (l ∷ ls) h = rw (h .0) (none-last last ls (h .1))
 
-  last-is : (first line : Line) (before after : List Line) → concerns i receipt line ≡ true → NoneOf i receipt after
-      → lastFrom i receipt first (before ++ (line ∷ after)) ≡ line
+  last-is : (first line : Line) (before after : List Line) → concerns i r line ≡ true → NoneOf i r after
+      → lastFrom i r first (before ++ (line ∷ after)) ≡ line
   unfolding lastFrom
-  last-is first line [] after c h = ap (λ (t : Bool). lastFrom i receipt (pick t line first) after) c ∙ none-last line after h
+  last-is first line [] after c h = ap (λ (t : Bool). lastFrom i r (pick t line first) after) c ∙ none-last line after h
   last-is first line (l ∷ before) after c h = last-is _ line before after c h
 
   -- the last such line, or none and the one given
   Found : Line → List Line → Line → Type 0
-  Found first ls line = Last i receipt ls line ⊎ (NoneOf i receipt ls × (line ≡ first))
+  Found first ls line = Last i r ls line ⊎ (NoneOf i r ls × (line ≡ first))
 
-  behind : (l : Line) (ls : List Line) (line : Line) → Last i receipt ls line → Last i receipt (l ∷ ls) line
+  behind : (l : Line) (ls : List Line) (line : Line) → Last i r ls line → Last i r (l ∷ ls) line
   behind l ls line k =
       record {
         before = l ∷ k .before;
@@ -40,7 +43,7 @@ module _ (i receipt : ℕ) where
         later = k .later;
       }
 
-  found-more : (first l : Line) (ls : List Line) (line : Line) (t : Bool) → concerns i receipt l ≡ t → Found (pick t l first) ls line
+  found-more : (first l : Line) (ls : List Line) (line : Line) (t : Bool) → concerns i r l ≡ t → Found (pick t l first) ls line
       → Found first (l ∷ ls) line
   unfolding Found NoneOf
   found-more first l ls line t c (inl k) = inl (behind l ls line k)
@@ -48,10 +51,10 @@ module _ (i receipt : ℕ) where
       inl (rw (k .1) (record { before = []; after = ls; lines = refl; concerned = c; later = k .0 }))
   found-more first l ls line false c (inr k) = inr ((c, k .0), k .1)
 
-  last-found : (first : Line) (ls : List Line) → Found first ls (lastFrom i receipt first ls)
+  last-found : (first : Line) (ls : List Line) → Found first ls (lastFrom i r first ls)
   unfolding Found NoneOf lastFrom
   last-found first [] = inr (tt, refl)
-  last-found first (l ∷ ls) = found-more first l ls _ (concerns i receipt l) refl (last-found _ ls)
+  last-found first (l ∷ ls) = found-more first l ls _ (concerns i r l) refl (last-found _ ls)
 
 is-sale : (k : Kind) → isSale k ≡ true → k ≡ Sale
 unfolding isSale
@@ -60,17 +63,17 @@ is-sale Refund e = absurd (let z : _≡_ {A = ℕ} 0 1 = cc in omega arith)
 is-sale Reversal e = absurd (let z : _≡_ {A = ℕ} 0 1 = cc in omega arith)
 
 pub last-sale : (i receipt : ℕ) (ls : List Line)
-    → (isApproved (lastLine i receipt ls .outcome) && isSale (lastLine i receipt ls .kind) ≡ true) ↔ LastIsSale i receipt ls
+    → (sold (lastLine i (Sold receipt) ls) ≡ true) ↔ LastIsSale i receipt ls
 unfolding lastLine concerns isApproved isSale Found
 last-sale i receipt ls = (
-  λ e. ⊎-elim (λ k. record { line = _; last = k; sold = is-sale _ (and-eq-true-iff (isApproved (lastLine i receipt ls .outcome)) _ .0 e .1) })
-      (λ k. absurd (false≢true (rw (k .1) at e))) (last-found i receipt blankLine ls),
+  λ e. ⊎-elim (λ k. record { line = _; last = k; sold = is-sale _ (and-eq-true-iff (isApproved (lastLine i (Sold receipt) ls .outcome)) _ .0 e .1) })
+      (λ k. absurd (false≢true (rw (k .1) at e))) (last-found i (Sold receipt) blankLine ls),
   λ k.
-      let found : lastFrom i receipt blankLine ls ≡ k .line =
-      rw (k .last .lines) (last-is i receipt blankLine (k .line) (k .last .before) (k .last .after) (k .last .concerned) (k .last .later))
+      let found : lastFrom i (Sold receipt) blankLine ls ≡ k .line =
+      rw (k .last .lines) (last-is i (Sold receipt) blankLine (k .line) (k .last .before) (k .last .after) (k .last .concerned) (k .last .later))
       in
       let line = k .line in
-      let rest = (isSale (line .kind) || isReversal (line .kind)) && eqb (line .receipt) receipt in
-      let approved = and-eq-true-iff (isApproved (line .outcome)) rest .0 (and-eq-true-iff (eqb (line .lane) i) _ .0 (k .last .concerned) .1) .0 in
+      let named = and-eq-true-iff (eqb (line .receipt) receipt) _ .0 (and-eq-true-iff (eqb (line .lane) i) _ .0 (k .last .concerned) .1) in
+      let approved = and-eq-true-iff (isApproved (line .outcome)) _ .0 (named .1) .0 in
       rw found (and-eq-true-iff (isApproved (line .outcome)) _ .1 (approved, ap isSale (k .sold))),
 )

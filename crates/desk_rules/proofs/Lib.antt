@@ -3,7 +3,6 @@
 pub mod Commands
 pub mod LastSale
 pub mod Rows
-pub mod Refusals
 pub mod Calls
 pub mod Lanes
 pub mod Runs

@@ -8,7 +8,7 @@ use native.Mathlib.Numerals.{add-one}
 use native.Mathlib.Omega.{arith}
 use lib.ListN.{length, getD, set, take, drop, replicate, length-set}
 use lib.Seq.{length-take-le, set-getD, take-suc-set}
-use lib.Dec.{ltb, leb, eqb}
+use lib.Dec.{ltb, leb}
 use borrow.Author.Tests.{leb-false, ltb-false}
 use Rattle.zvt_rules.specs.Reading.{pick}
 use Rattle.zvt_rules.proofs.Readings.{pick-test}
@@ -20,12 +20,15 @@ use Rattle.desk_rules.specs.declared.Book.{Book}
 use Rattle.desk_rules.specs.declared.Desk.{Desk}
 use Rattle.desk_rules.specs.declared.Answer.{Answer}
 use Rattle.desk_rules.specs.declared.Reply.the-variants.{Written}
-use Rattle.desk_rules.specs.Lanes.{blankLine, idleLane, lineAt}
-use Rattle.desk_rules.specs.Course.{isIdle, Call, laneOf, opens, NumbersFit, moves, writes}
-use Rattle.desk_rules.specs.Desk.{fresh, laneAt, place, places, load, Decision, refuse, accept, decide, laneAfter, linesFrom, step}
+use Rattle.desk_rules.specs.Numbers.{laneCount, bookLines}
+use Rattle.desk_rules.specs.Kinds.{booked, isIdle}
+use Rattle.desk_rules.specs.Lanes.{blankLine, idleLane, lineAt, placeTaken}
+use Rattle.desk_rules.specs.Course.{Call, laneOf, needsPlace, NumbersFit, moves, writes}
+use Rattle.desk_rules.specs.Runs.{oneOpened}
+use Rattle.desk_rules.specs.Desk.{fresh, laneAt, placesTaken, allIdle, load, Decision, refuse, accept, decide, laneAfter, lineIf, linesFrom, step}
 use Rattle.desk_rules.specs.Memory.{freshDesk, linesOfDesk, view, laneFor, toldSmall, Valid, withLine, endedDesk, movedDesk, refusedAnswer, answerBy, answerOf, leavesBy, leavesOf, closeAnswer}
-use Rattle.desk_rules.proofs.Calls.{Passes, later}
-use Rattle.desk_rules.proofs.Lanes.{total-set, places-total, not-refused, passed}
+use Rattle.desk_rules.proofs.Calls.{Passes}
+use Rattle.desk_rules.proofs.Lanes.{total-set, places-total, opened-one, kept, not-refused, passed}
 use Rattle.desk_rules.proofs.Amounts.{Small, LaneFits, LinesFit, Fits, moves-fit}
 
 -- ---- lists
@@ -51,61 +54,55 @@ replicate-all P (suc n) d p (suc k) = replicate-all P n d p k
 
 -- ---- the places that lanes take
 
-pub place-most : (l : Lane) → place l ≤ 1
-unfolding place
-place-most l = pick-test (λ (n : ℕ). n ≤ 1) (isIdle (l .phase)) (λ _. omega arith) (λ _. omega arith)
+pub place-most : (l : Lane) → placeTaken l ≤ 1
+unfolding placeTaken
+place-most l =
+    pick-test (λ (n : ℕ). n ≤ 1) (isIdle (l .phase)) (λ _. omega arith)
+    (λ _. pick-test (λ (n : ℕ). n ≤ 1) (booked (l .kind)) (λ _. omega arith) (λ _. omega arith))
 
-pub place-idle : (l : Lane) → (place l ≡ 0) ↔ (isIdle (l .phase) ≡ true)
-unfolding place
-place-idle l = go (isIdle (l .phase))
-  where
-    go : (b : Bool) → (_≡_ {A = ℕ} (pick b 0 1) 0) ↔ (b ≡ true)
-    go true = (λ _. refl, λ _. refl)
-    go false = (λ e. absurd (omega arith), λ e. cc)
-
-pub place-open : (l : Lane) → isIdle (l .phase) ≡ false → place l ≡ 1
-unfolding place
-place-open l e = rw e
-
-pub place-in : (ls : List Lane) (i : ℕ) → place (getD ls i idleLane) ≤ places ls
-unfolding places place isIdle
+pub place-in : (ls : List Lane) (i : ℕ) → placeTaken (getD ls i idleLane) ≤ placesTaken ls
+unfolding placesTaken placeTaken
 place-in [] i = omega arith
 place-in (l ∷ ls) zero = omega arith
 place-in (l ∷ ls) (suc i) = omega (arith, place-in ls i)
 
-pub places-set : (ls : List Lane) (i : ℕ) (l : Lane) → i < length ls → places (set ls i l) + place (getD ls i idleLane) ≡ places ls + place l
-places-set ls i l h = simp places-total (total-set place ls i l idleLane h)
+places-set : (ls : List Lane) (i : ℕ) (l : Lane) → i < length ls
+    → placesTaken (set ls i l) + placeTaken (getD ls i idleLane) ≡ placesTaken ls + placeTaken l
+places-set ls i l h = simp places-total (total-set placeTaken ls i l idleLane h)
 
 -- ---- what every desk is
 
 pub fresh-valid : Valid freshDesk
-unfolding places place isIdle toldSmall
+unfolding placesTaken placeTaken toldSmall
 fresh-valid =
     record {
       lanes = refl;
       lines = refl;
       room = omega arith;
-      asked = replicate-all (λ (l : Lane). Small (l .asked)) 8 idleLane (omega arith);
-      told = replicate-all (λ (l : Lane). toldSmall (l .status .amount)) 8 idleLane tt;
-      settled = replicate-all (λ (l : Line). Small (l .settled)) 64 blankLine (omega arith);
+      asked = replicate-all (λ (l : Lane). Small (l .asked)) laneCount idleLane (omega arith);
+      told = replicate-all (λ (l : Lane). toldSmall (l .status .amount)) laneCount idleLane tt;
+      settled = replicate-all (λ (l : Line). Small (l .settled)) bookLines blankLine (omega arith);
     }
 
--- a place is left for lane i: its own, or one more
-abbrev pub Roomy : Desk → ℕ → Type 0
-Roomy d i = d .book .count + places (d .lanes) < 64 + place (laneAt (d .lanes) i)
+-- what a move of lane i leaves finds its places
+abbrev pub Roomy : Desk → ℕ → Moved → Type 0
+Roomy d i m =
+    let l = laneAt (d .lanes) i in
+    d .book .count + placesTaken (d .lanes) + (placeTaken (laneAfter l m) + length (linesFrom i l m)) ≤ bookLines + placeTaken l
+
+lines-if : (b : Bool) (k : Book) (x : Line) → pick b (withLine k x) k .count ≡ k .count + length (lineIf b x)
+lines-if true k x = refl
+lines-if false k x = omega arith
 
 module _ (d : Desk) (v : Valid d) where
-  pub load-is : load (view d) ≡ d .book .count + places (d .lanes)
+  pub load-is : load (view d) ≡ d .book .count + placesTaken (d .lanes)
   unfolding load view
-  load-is = ap (λ (n : ℕ). n + places (d .lanes)) (length-take-le (d .book .count) (d .book .lines) (omega (arith, v .room, v .lines)))
+  load-is = ap (λ (n : ℕ). n + placesTaken (d .lanes)) (length-take-le (d .book .count) (d .book .lines) (omega (arith, v .room, v .lines)))
 
-  module _ (i : ℕ) (h : i < 8) (r : Roomy d i) where
-    pub roomy-count : d .book .count < 64
-    roomy-count = omega (arith, place-in (d .lanes) i)
-
-    -- another lane, and a book that its place is enough for
-    changed-valid : (l : Lane) (b : Book) → LaneFits l → length (b .lines) ≡ 64 → LinesFit (b .lines)
-        → b .count + place l ≤ d .book .count + 1
+  module _ (i : ℕ) (h : i < laneCount) where
+    -- another lane, and a book that leaves it its place
+    changed-valid : (l : Lane) (b : Book) → LaneFits l → length (b .lines) ≡ bookLines → LinesFit (b .lines)
+        → b .count + placesTaken (d .lanes) + placeTaken l ≤ bookLines + placeTaken (laneAt (d .lanes) i)
         → Valid (record { lanes = set (d .lanes) i l; book = b })
     changed-valid l b f n k few =
         let all = set-all LaneFits (d .lanes) i l idleLane f (λ j. (v .asked j, v .told j)) in
@@ -118,28 +115,43 @@ module _ (d : Desk) (v : Valid d) where
           settled = k;
         }
 
-    moved-valid : (m : Moved) → Fits m → Valid (movedDesk d i m)
-    unfolding movedDesk endedDesk lineAt place isIdle toldSmall
-    moved-valid (Refused x) f = v
-    moved-valid Stays f = v
-    moved-valid (Becomes l) f = changed-valid l (d .book) f (v .lines) (v .settled) (omega (arith, place-most l))
-    moved-valid (Ends outcome settled code) f =
-        let line = lineAt i (laneAt (d .lanes) i) outcome settled code in
-        changed-valid idleLane (withLine (d .book) line) (omega arith, tt) (simp length-set (v .lines))
-        (set-all (λ (l : Line). Small (l .settled)) (d .book .lines) (d .book .count) line blankLine f (v .settled))
-        (omega arith)
+    moved-valid : (m : Moved) → Roomy d i m → Fits m → Valid (movedDesk d i m)
+    unfolding movedDesk endedDesk lineAt laneAfter linesFrom toldSmall
+    moved-valid (Refused x) r f = v
+    moved-valid Stays r f = v
+    moved-valid (Becomes l) r f = changed-valid l (d .book) f (v .lines) (v .settled) (omega arith)
+    moved-valid (Ends outcome settled code) r f = go (booked (laneAt (d .lanes) i .kind)) r
+      where
+        line : Line
+        line = lineAt i (laneAt (d .lanes) i) outcome settled code
+
+        go : (b : Bool)
+            → d .book .count + placesTaken (d .lanes) + (placeTaken idleLane + length (lineIf b line)) ≤ bookLines + placeTaken (laneAt (d .lanes) i)
+            → Valid (record { lanes = set (d .lanes) i idleLane; book = pick b (withLine (d .book) line) (d .book) })
+        go true e =
+            changed-valid idleLane (withLine (d .book) line) (omega arith, tt) (simp length-set (v .lines))
+            (set-all (λ (l : Line). Small (l .settled)) (d .book .lines) (d .book .count) line blankLine f (v .settled)) (omega arith)
+        go false e = changed-valid idleLane (d .book) (omega arith, tt) (v .lines) (v .settled) (omega arith)
 
     -- ---- the desk follows the course
 
-    moved-view : (m : Moved) → let l = laneAt (d .lanes) i in
+    moved-view : (m : Moved) → Roomy d i m → let l = laneAt (d .lanes) i in
         view (movedDesk d i m) ≡ record { lanes = set (d .lanes) i (laneAfter l m); lines = linesOfDesk d ++ linesFrom i l m }
-    unfolding view movedDesk endedDesk laneAfter linesFrom
-    moved-view (Refused x) = rw (set-getD, append-nil)
-    moved-view Stays = rw (set-getD, append-nil)
-    moved-view (Becomes l) = rw append-nil
-    moved-view (Ends outcome settled code) =
-        let line = lineAt i (laneAt (d .lanes) i) outcome settled code in
-        rw (add-one, take-suc-set (d .book .lines) (d .book .count) line (omega (arith, roomy-count, v .lines)))
+    unfolding view movedDesk endedDesk lineAt laneAfter linesFrom
+    moved-view (Refused x) r = rw (set-getD, append-nil)
+    moved-view Stays r = rw (set-getD, append-nil)
+    moved-view (Becomes l) r = rw append-nil
+    moved-view (Ends outcome settled code) r = go (booked (laneAt (d .lanes) i .kind)) r
+      where
+        line : Line
+        line = lineAt i (laneAt (d .lanes) i) outcome settled code
+
+        go : (b : Bool)
+            → d .book .count + placesTaken (d .lanes) + (placeTaken idleLane + length (lineIf b line)) ≤ bookLines + placeTaken (laneAt (d .lanes) i)
+            → view (record { lanes = set (d .lanes) i idleLane; book = pick b (withLine (d .book) line) (d .book) })
+            ≡ record { lanes = set (d .lanes) i idleLane; lines = linesOfDesk d ++ lineIf b line }
+        go true e = rw (add-one, take-suc-set (d .book .lines) (d .book .count) line (omega (arith, place-in (d .lanes) i, v .lines)))
+        go false e = rw append-nil
 
 -- what a call does to the lane that it names
 abbrev pub moveOf : Desk → Call → Moved
@@ -147,32 +159,38 @@ moveOf d c = moves (laneFor d c) (linesOfDesk d) c
 
 -- what an accepted call tells
 pub record Taken (d : Desk) (c : Call) (room : ℕ) : Type 0 where
-  pub lane : laneOf c < 8
+  pub lane : laneOf c < laneCount
   pub passes : Passes (moveOf d c)
-  pub few : opens c && leb 64 (load (view d)) ≡ false
+  pub few : needsPlace c && leb bookLines (load (view d)) ≡ false
   pub fits : length (writes (laneFor d c) c) ≤ room
 
 module _ (d : Desk) (c : Call) (room : ℕ) where
   pub taken : decide (view d) c room ≡ accept → Taken d c room
   unfolding decide view
   taken e =
-      let a = not-refused (leb 8 (laneOf c)) 12 _ e in
+      let a = not-refused (leb laneCount (laneOf c)) 12 _ e in
       let b = passed (moveOf d c) _ (a .1) in
-      let f = not-refused (opens c && leb 64 (load (view d))) 18 _ (b .1) in
+      let f = not-refused (needsPlace c && leb bookLines (load (view d))) 18 _ (b .1) in
       let g = not-refused (ltb room (length (writes (laneFor d c) c))) 11 _ (f .1) in
       record {
-        lane = leb-false 8 (laneOf c) (a .0);
+        lane = leb-false laneCount (laneOf c) (a .0);
         passes = b .0;
         few = f .0;
         fits = ltb-false room (length (writes (laneFor d c) c)) (g .0);
       }
 
-  taken-roomy : Valid d → Taken d c room → Roomy d (laneOf c)
-  taken-roomy v t = go (opens c) refl (t .few)
+  taken-roomy : Valid d → Taken d c room → Roomy d (laneOf c) (moveOf d c)
+  unfolding oneOpened
+  taken-roomy v t = go (needsPlace c) (kept (laneOf c) (laneFor d c) (linesOfDesk d) c (t .passes)) (t .few)
     where
-      go : (o : Bool) → opens c ≡ o → o && leb 64 (load (view d)) ≡ false → Roomy d (laneOf c)
-      go true o e = omega (arith, leb-false 64 (load (view d)) e, load-is d v)
-      go false o e = omega (arith, v .room, place-open (laneFor d c) (later (laneFor d c) (linesOfDesk d) c o (t .passes) .0))
+      m : Moved
+      m = moveOf d c
+
+      go : (o : Bool)
+          → placeTaken (laneAfter (laneFor d c) m) + length (linesFrom (laneOf c) (laneFor d c) m) ≡ placeTaken (laneFor d c) + pick o 1 0
+          → o && leb bookLines (load (view d)) ≡ false → Roomy d (laneOf c) m
+      go true k e = omega (arith, leb-false bookLines (load (view d)) e, load-is d v)
+      go false k e = omega (arith, v .room)
 
   -- ---- an answer
 
@@ -189,7 +207,7 @@ module _ (d : Desk) (c : Call) (room : ℕ) where
   unfolding step view
   follows v e =
       let t = taken e in
-      ap (λ (a : Answer). view (a .desk)) (accepted-answer e) ∙ moved-view d v (laneOf c) (t .lane) (taken-roomy v t) (moveOf d c)
+      ap (λ (a : Answer). view (a .desk)) (accepted-answer e) ∙ moved-view d v (laneOf c) (t .lane) (moveOf d c) (taken-roomy v t)
 
   pub answer-valid : Valid d → NumbersFit c → Valid (answerOf d c room .desk)
   unfolding refusedAnswer
@@ -201,7 +219,7 @@ module _ (d : Desk) (c : Call) (room : ℕ) where
           let t = taken e in
           let i = laneOf c in
           rw (accepted-answer e)
-          (moved-valid d v i (t .lane) (taken-roomy v t) (moveOf d c)
+          (moved-valid d v i (t .lane) (moveOf d c) (taken-roomy v t)
           (moves-fit (laneFor d c) (linesOfDesk d) c (v .asked i, v .told i) (take-all-fit (d .book .count) (d .book .lines) (v .settled)) n))
 
 module _ (d : Desk) (c : Call) (out : List ℕ) where
@@ -214,10 +232,14 @@ module _ (d : Desk) (c : Call) (out : List ℕ) where
   unfolding leavesOf leavesBy
   accepted-leaves e = rw (e, leavesBy)
 
+-- a line that a move adds finds its place
+pub line-fits : (d : Desk) (i : ℕ) (m : Moved) → Roomy d i m → d .book .count + length (linesFrom i (laneAt (d .lanes) i) m) ≤ bookLines
+line-fits d i m r = omega (arith, place-in (d .lanes) i)
+
 pub view-fresh : view freshDesk ≡ fresh
 unfolding view fresh
 view-fresh = refl
 
 pub close-valid : (d : Desk) → Valid d → Valid (closeAnswer d .desk)
 unfolding closeAnswer refusedAnswer
-close-valid d v = pick-test (λ (a : Answer). Valid (a .desk)) (eqb (places (d .lanes)) 0) (λ _. fresh-valid) (λ _. v)
+close-valid d v = pick-test (λ (a : Answer). Valid (a .desk)) (allIdle (d .lanes)) (λ _. fresh-valid) (λ _. v)

@@ -9,16 +9,17 @@ use lib.Seq.{ext-getD}
 use borrow.Author.Tests.{eq-eqb, ne-eqb}
 use Rattle.desk_rules.specs.declared.Lane.{Lane}
 use Rattle.desk_rules.specs.declared.Line.{Line}
-use Rattle.desk_rules.specs.Lanes.{idleLane}
-use Rattle.desk_rules.specs.Course.{isIdle, Call, laneOf}
-use Rattle.desk_rules.specs.Desk.{State, fresh, laneAt, place, places, load, step, Accepted, run}
+use Rattle.desk_rules.specs.Numbers.{laneCount}
+use Rattle.desk_rules.specs.Lanes.{idleLane, placeTaken}
+use Rattle.desk_rules.specs.Course.{Call, laneOf}
+use Rattle.desk_rules.specs.Desk.{State, fresh, laneAt, placesTaken, load, step, Accepted, run}
 use Rattle.desk_rules.specs.Runs.{having, callsOf, Own, own}
-use Rattle.desk_rules.specs.Payments.{paymentsOf, joined, oneByOne, lineOf, linesOf}
+use Rattle.desk_rules.specs.Payments.{paymentsOf, joined, oneByOne}
 use Rattle.desk_rules.proofs.Lanes.{having-append}
 use Rattle.desk_rules.proofs.Runs.{run-append, lanes-run, count, alone, AcceptedAlone, repliesTo, repliesAlone, run-alone, replies-alone, accepted-alone, accepted-from}
-use Rattle.desk_rules.proofs.Payment.{Brings, idle-again}
-use Rattle.desk_rules.proofs.Kept.{Blocks, all-same, kept}
-use Rattle.desk_rules.proofs.DayBook.{book, openings-same}
+use Rattle.desk_rules.proofs.Payment.{lineFrom, Brings, idle-again}
+use Rattle.desk_rules.proofs.Kept.{Blocks, bookOf, all-same, kept}
+use Rattle.desk_rules.proofs.DayBook.{openings-same}
 
 -- ---- the calls of a lane are the same, in the same order
 
@@ -49,14 +50,14 @@ same-calls cs h k =
 -- ---- the lines are the same, in the same order
 
 -- ended payments one after the other bring their lines, and leave the lanes idle
-blocks-run : (ps : List (List Call)) (s : State) → length (s .lanes) ≡ 8 → ((k : ℕ) → laneAt (s .lanes) k ≡ idleLane) → Blocks (s .lines) ps
-    → run s (joined ps) ≡ record { lanes = s .lanes; lines = linesOf (s .lines) ps }
-unfolding joined run linesOf Blocks Brings
+blocks-run : (ps : List (List Call)) (s : State) → length (s .lanes) ≡ laneCount → ((k : ℕ) → laneAt (s .lanes) k ≡ idleLane) → Blocks (s .lines) ps
+    → run s (joined ps) ≡ record { lanes = s .lanes; lines = bookOf (s .lines) ps }
+unfolding joined run bookOf Blocks Brings
 blocks-run [] s e idle b = refl
 blocks-run (p ∷ ps) s e idle b =
     let x = b .0 in
     rw (run-append s p (joined ps), x .brings s (omega (arith, x .small)) (idle (x .lane)) refl, idle-again (s .lanes) (x .lane) (idle (x .lane)))
-    (blocks-run ps (record { lanes = s .lanes; lines = s .lines ++ (lineOf (s .lines) p ∷ []) }) e idle (b .1))
+    (blocks-run ps (record { lanes = s .lanes; lines = s .lines ++ lineFrom (s .lines) p }) e idle (b .1))
 
 lines-run : (s : State) (cs : List Call) → (more : List Line) × (run s cs .lines ≡ s .lines ++ more)
 unfolding run step
@@ -74,13 +75,13 @@ lines-one-by-one cs h =
     let p = paymentsOf cs in
     let g = lines-run (run fresh (joined (p .ended))) (joined (p .ongoing)) in (
       g .0,
-      rw (run-append fresh (joined (p .ended)) (joined (p .ongoing)), book cs h)
-          (g .1 ∙ ap (λ (s : State). s .lines ++ g .0) (blocks-run (p .ended) fresh refl (λ k. all-same 8 k idleLane) (kept cs h .blocks))),
+      rw (run-append fresh (joined (p .ended)) (joined (p .ongoing)), kept cs h .lines)
+          (g .1 ∙ ap (λ (s : State). s .lines ++ g .0) (blocks-run (p .ended) fresh refl (λ k. all-same laneCount k idleLane) (kept cs h .blocks))),
     )
 
 pub order : (cs : List Call) → Accepted fresh cs
     → Accepted fresh (oneByOne cs) × (run fresh (oneByOne cs) ≡ run fresh cs) × ((k : ℕ) → repliesTo k fresh (oneByOne cs) ≡ repliesTo k fresh cs)
-unfolding fresh load places place isIdle
+unfolding fresh load placesTaken placeTaken
 order cs h = (
   accepted,
   ap₂ (λ (ls : List Lane) (xs : List Line). record { lanes = ls; lines = xs }) lanes
@@ -89,7 +90,7 @@ order cs h = (
         count cs h .0,
         count (oneByOne cs) accepted .0,
         openings-same cs h,
-        ap places lanes,
+        ap placesTaken lanes,
       ))),
   λ k. replies-alone fresh (oneByOne cs) k refl accepted ∙ ap (repliesAlone (own k fresh)) (same-calls cs h k) ∙ sym (replies-alone fresh cs k refl h),
 )

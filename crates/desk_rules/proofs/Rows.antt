@@ -1,5 +1,4 @@
--- Document 01's refusals as rows, in its order, for each kind of call: a call is decided as one of its rows says, and as no other.
--- Assumes nothing.
+-- A call is decided as one of its rows says, and as no other: the rows of refusal read both ways. Assumes nothing.
 use mathlib.Core.Path.{_≡_, refl, sym, ap, _∙_, subst}
 use mathlib.Core.Bool.{Bool, true, false, not, _&&_, _||_, false≢true}
 use mathlib.Core.Logic.{_↔_, _⊎_, inl, inr, ⊎-elim}
@@ -21,11 +20,18 @@ use Rattle.desk_rules.specs.declared.Phase.{Phase}
 use Rattle.desk_rules.specs.declared.Phase.the-variants.{Idle, Waiting, Running}
 use Rattle.desk_rules.specs.declared.Lane.{Lane}
 use Rattle.desk_rules.specs.declared.Moved.{Moved}
-use Rattle.desk_rules.specs.Course.{runningPairs, pairIs, isReversal, heardWaiting, completedBy, settledAs, abortedBy, reportedBy, movedBy, afterBody, heardRunning, heardBy, afterHeader, isIdle, heard, lostBy, answered, Ask, openedBy, Call, sale, refund, reversal, message, lost, laneOf, opens, moves, writes}
+use Rattle.desk_rules.specs.declared.Moved.the-variants.{Becomes}
+use Rattle.desk_rules.specs.declared.Opening.{Opening}
+use Rattle.desk_rules.specs.declared.Opening.the-variants.{Sale as sale, Refund as refund, Reversal as reversal}
+use Rattle.desk_rules.specs.declared.Reference.{Reference}
+use Rattle.desk_rules.specs.declared.Reference.the-variants.{Nothing, Sold}
+use Rattle.desk_rules.specs.Numbers.{laneCount, bookLines, mostAsked, mostReceipt, mostPassword}
+use Rattle.desk_rules.specs.Kinds.{isReversal, booked, isIdle}
+use Rattle.desk_rules.specs.Openings.{kindOf, withinLimits, refersTo, lastLine, sold, openedLane, commandBytes, commandSize}
+use Rattle.desk_rules.specs.Course.{runningPairs, pairIs, heardWaiting, completedBy, settledAs, abortedBy, reportedBy, movedBy, afterBody, heardRunning, heardBy, afterHeader, heard, lostBy, answered, standing, openedBy, Call, opening, message, lost, laneOf, needsPlace, moves, writes}
 use Rattle.desk_rules.specs.Desk.{State, laneAt, load, Decision, refuse, accept, unlessRefused, decide}
-use Rattle.desk_rules.specs.Payments.{askOf}
-use Rattle.desk_rules.specs.Table.{phaseAt, phaseOf, Within, ToReverse, commandSize, Ready, OneOf, Allowed, EmptyAbort}
-use Rattle.desk_rules.proofs.Commands.{sale-size, refund-size, reversal-size}
+use Rattle.desk_rules.specs.Table.{phaseAt, Within, Stands, Ready, OneOf, Allowed, EmptyAbort, OpeningRow, no-lane, not-idle, outside, no-sale, full, tight, opened, HearingRow, is-idle, bad-header, not-allowed, bad-body, no-code, heard-waiting, heard-running, LosingRow, ended, Row}
+use Rattle.desk_rules.proofs.Commands.{command-size}
 use Rattle.desk_rules.proofs.LastSale.{last-sale}
 
 -- ---- tests and what they say
@@ -63,116 +69,84 @@ unless-pick false m n x = refl
 
 -- ---- opening
 
--- "opening 12, 13, 16, 17, 18, 11"
-pub data Opening (s : State) (c : Call) (room : ℕ) : Decision → Type 0 where
-  no-lane : 8 ≤ laneOf c → Opening s c room (refuse 12)
-  not-idle : laneOf c < 8 → (phaseOf s c ≡ Idle → ⊥) → Opening s c room (refuse 13)
-  outside : laneOf c < 8 → phaseOf s c ≡ Idle → (Within c → ⊥) → Opening s c room (refuse 16)
-  no-sale : laneOf c < 8 → phaseOf s c ≡ Idle → Within c → (ToReverse s c → ⊥) → Opening s c room (refuse 17)
-  full : laneOf c < 8 → phaseOf s c ≡ Idle → Within c → ToReverse s c → 64 ≤ load s → Opening s c room (refuse 18)
-  tight : Ready s c → room < commandSize c → Opening s c room (refuse 11)
-  opened : Ready s c → commandSize c ≤ room → Opening s c room accept
+within-test : (o : Opening) → (withinLimits o ≡ true) ↔ Within o
+within-test (sale amount) = between amount mostAsked
+within-test (refund password amount) = and-test (leb-test password mostPassword) (between amount mostAsked)
+within-test (reversal password receipt) = and-test (leb-test password mostPassword) (between receipt mostReceipt)
 
--- its tests, one after the other
-abbrev openingBy : Bool → Bool → Bool → Bool → Bool → Bool → Decision
-openingBy none idle within sold few small =
-    pick none (refuse 12)
-    (pick idle (pick within (pick sold (pick few (refuse 18) (pick small (refuse 11) accept)) (refuse 17)) (refuse 16)) (refuse 13))
+module _ (s : State) (i : ℕ) (o : Opening) (room : ℕ) where
+  -- the tests of an opening, one after the other; those of a reference stand aside
+  few : Decision
+  few = pick (booked (kindOf o) && leb bookLines (load s)) (refuse 18) (pick (ltb room (commandSize o)) (refuse 11) accept)
 
-opened-by : (l : Lane) (a : Ask) (x : Decision)
-    → unlessRefused (openedBy l a) x ≡ pick (isIdle (l .phase)) (pick (a .within) (pick (a .sale) x (refuse 17)) (refuse 16)) (refuse 13)
-unfolding unlessRefused openedBy
-opened-by l a x = simp unless-pick
+  referred : Reference → Decision
+  referred r = unlessRefused (standing r (lastLine i r (s .lines)) (Becomes (openedLane o (lastLine i r (s .lines))))) few
 
-module _ (s : State) (room : ℕ) where
-  decide-opening : (c : Call) → opens c ≡ true
-      → decide s c room
-      ≡ openingBy (leb 8 (laneOf c)) (isIdle (phaseOf s c)) (askOf (s .lines) c .within) (askOf (s .lines) c .sale) (leb 64 (load s)) (ltb room (commandSize c))
-  unfolding decide moves writes opens askOf
-  decide-opening (sale i amount) o = rw (opened-by, sale-size)
-  decide-opening (refund i password amount) o = rw (opened-by, refund-size)
-  decide-opening (reversal i password receipt) o = rw (opened-by, reversal-size)
-  decide-opening (message i b) o = absurd (false≢true o)
-  decide-opening (lost i) o = absurd (false≢true o)
+  decide-opening : decide s (opening i o) room
+      ≡ pick (leb laneCount i) (refuse 12)
+      (pick (isIdle (phaseAt s i)) (pick (withinLimits o) (referred (refersTo o)) (refuse 16)) (refuse 13))
+  unfolding decide moves writes needsPlace laneOf openedBy referred few unlessRefused
+  decide-opening = rw command-size (simp unless-pick)
 
-  within-test : (c : Call) → opens c ≡ true → (askOf (s .lines) c .within ≡ true) ↔ Within c
-  unfolding askOf opens
-  within-test (sale i amount) o = between amount 999_999_999_999
-  within-test (refund i password amount) o = and-test (leb-test password 999_999) (between amount 999_999_999_999)
-  within-test (reversal i password receipt) o = and-test (leb-test password 999_999) (between receipt 9_999)
-  within-test (message i b) o = absurd (false≢true o)
-  within-test (lost i) o = absurd (false≢true o)
+  stands-says : (r : Reference) → Stands i r (s .lines) → referred r ≡ few
+  unfolding referred unlessRefused
+  stands-says Nothing h = refl
+  stands-says (Sold receipt) h = rw (last-sale i receipt (s .lines) .1 h)
 
-  sold-test : (c : Call) → opens c ≡ true → (askOf (s .lines) c .sale ≡ true) ↔ ToReverse s c
-  unfolding askOf opens
-  sold-test (sale i amount) o = (λ e. tt, λ u. refl)
-  sold-test (refund i password amount) o = (λ e. tt, λ u. refl)
-  sold-test (reversal i password receipt) o = last-sale i receipt (s .lines)
-  sold-test (message i b) o = absurd (false≢true o)
-  sold-test (lost i) o = absurd (false≢true o)
+  from-idle : i < laneCount → phaseAt s i ≡ Idle → Within o → decide s (opening i o) room ≡ referred (refersTo o)
+  from-idle l d w = decide-opening ∙ rw (lt-leb laneCount i l, idle-test (phaseAt s i) .1 d, within-test o .1 w)
 
-  module _ (c : Call) (o : opens c ≡ true) where
-    lane : laneOf c < 8 → leb 8 (laneOf c) ≡ false
-    lane l = lt-leb 8 (laneOf c) l
+  room-left : Ready s i o → booked (kindOf o) && leb bookLines (load s) ≡ false
+  room-left y = go (booked (kindOf o)) (y .placed)
+    where
+      go : (b : Bool) → (b ≡ true → load s < bookLines) → b && leb bookLines (load s) ≡ false
+      go true h = lt-leb bookLines (load s) (h refl)
+      go false h = refl
 
-    idle : phaseOf s c ≡ Idle → isIdle (phaseOf s c) ≡ true
-    idle d = idle-test (phaseOf s c) .1 d
+  ready-says : Ready s i o → decide s (opening i o) room ≡ pick (ltb room (commandSize o)) (refuse 11) accept
+  unfolding few
+  ready-says y = from-idle (y .lane) (y .idle) (y .within) ∙ stands-says (refersTo o) (y .stands) ∙ rw (room-left y)
 
-    ready-says : Ready s c → decide s c room ≡ pick (ltb room (commandSize c)) (refuse 11) accept
-    ready-says y =
-        decide-opening c o
-        ∙ rw (lane (y .lane), idle (y .idle), within-test c o .1 (y .within), sold-test c o .1 (y .sold), lt-leb 64 (load s) (y .place))
+  opening-given : {d : Decision} → OpeningRow s i o room d → decide s (opening i o) room ≡ d
+  unfolding referred few unlessRefused
+  opening-given (no-lane k) = decide-opening ∙ rw (le-leb laneCount i k)
+  opening-given (not-idle l n) = decide-opening ∙ rw (lt-leb laneCount i l, no-for (idle-test (phaseAt s i)) n)
+  opening-given (outside l d w) = decide-opening ∙ rw (lt-leb laneCount i l, idle-test (phaseAt s i) .1 d, no-for (within-test o) w)
+  opening-given (no-sale l d w receipt r v) = from-idle l d w ∙ rw (r, no-for (last-sale i receipt (s .lines)) v)
+  opening-given (full l d w v b f) = from-idle l d w ∙ stands-says (refersTo o) v ∙ rw (b, le-leb bookLines (load s) f)
+  opening-given (tight y r) = ready-says y ∙ rw (lt-ltb room (commandSize o) r)
+  opening-given (opened y r) = ready-says y ∙ rw (le-ltb room (commandSize o) r)
 
-    opening-given : {d : Decision} → Opening s c room d → decide s c room ≡ d
-    opening-given (no-lane k) = decide-opening c o ∙ rw (le-leb 8 (laneOf c) k)
-    opening-given (not-idle l n) = decide-opening c o ∙ rw (lane l, no-for (idle-test (phaseOf s c)) n)
-    opening-given (outside l d w) = decide-opening c o ∙ rw (lane l, idle d, no-for (within-test c o) w)
-    opening-given (no-sale l d w v) = decide-opening c o ∙ rw (lane l, idle d, within-test c o .1 w, no-for (sold-test c o) v)
-    opening-given (full l d w v f) = decide-opening c o ∙ rw (lane l, idle d, within-test c o .1 w, sold-test c o .1 v, le-leb 64 (load s) f)
-    opening-given (tight y r) = ready-says y ∙ rw (lt-ltb room (commandSize c) r)
-    opening-given (opened y r) = ready-says y ∙ rw (le-ltb room (commandSize c) r)
+  put-opening : {d : Decision} → OpeningRow s i o room d → OpeningRow s i o room (decide s (opening i o) room)
+  put-opening r = rw (opening-given r) r
 
-    opening-found : Opening s c room (decide s c room)
-    opening-found =
-        case (leb-test 8 (laneOf c)) (λ k. put (no-lane k)) λ k.
-        let l : laneOf c < 8 = omega arith in
-        case (idle-test (phaseOf s c))
-        (λ d.
-        case (within-test c o)
-        (λ w.
-        case (sold-test c o)
-        (λ v.
-        case (leb-test 64 (load s)) (λ f. put (full l d w v f)) λ f.
-        let ready : Ready s c = record { lane = l; idle = d; within = w; sold = v; place = omega arith } in
-        case (leb-test (suc room) (commandSize c)) (λ r. put (tight ready r)) (λ r. put (opened ready (omega arith))))
-        (λ v. put (no-sale l d w v)))
-        (λ w. put (outside l d w)))
-        (λ n. put (not-idle l n))
-      where
-        put : {d : Decision} → Opening s c room d → Opening s c room (decide s c room)
-        put r = rw (opening-given r) r
+  ready-found : Ready s i o → OpeningRow s i o room (decide s (opening i o) room)
+  ready-found y = case (leb-test (suc room) (commandSize o)) (λ r. put-opening (tight y r)) (λ r. put-opening (opened y (omega arith)))
 
-    pub opening-table : (d : Decision) → (decide s c room ≡ d) ↔ Opening s c room d
-    opening-table d = (λ e. rw e at opening-found, opening-given)
+  stands-found : i < laneCount → phaseAt s i ≡ Idle → Within o → Stands i (refersTo o) (s .lines) → OpeningRow s i o room (decide s (opening i o) room)
+  stands-found l d w v = go (booked (kindOf o)) refl
+    where
+      ready : (booked (kindOf o) ≡ true → load s < bookLines) → Ready s i o
+      ready p = record { lane = l; idle = d; within = w; stands = v; placed = p }
 
--- ---- a terminal message
+      go : (b : Bool) → booked (kindOf o) ≡ b → OpeningRow s i o room (decide s (opening i o) room)
+      go true b = case (leb-test bookLines (load s)) (λ f. put-opening (full l d w v b f)) (λ f. ready-found (ready (λ _. omega arith)))
+      go false b = ready-found (ready (λ e. absurd (false≢true (sym b ∙ e))))
 
--- "Terminal message 12, 14, header, 15, body, 11"
-pub data Hearing (s : State) (i : ℕ) (b : List ℕ) (room : ℕ) : Decision → Type 0 where
-  no-lane : 8 ≤ i → Hearing s i b room (refuse 12)
-  is-idle : i < 8 → phaseAt s i ≡ Idle → Hearing s i b room (refuse 14)
-  bad-header : (n : ℕ) (f : Fault) → i < 8 → (phaseAt s i ≡ Idle → ⊥) → wholeHeader b ≡ refused f → f .number ≡ n → Hearing s i b room (refuse n)
-  not-allowed : (h : Header) → i < 8 → (phaseAt s i ≡ Idle → ⊥) → wholeHeader b ≡ got h → (Allowed (phaseAt s i) h → ⊥)
-      → Hearing s i b room (refuse 15)
-  bad-body : (n : ℕ) (h : Header) (f : Fault) → i < 8 → phaseAt s i ≡ Running → wholeHeader b ≡ got h → Allowed Running h
-      → readOf b ≡ refused f → f .number ≡ n → Hearing s i b room (refuse n)
-  no-code : (h : Header) (m : Message) → i < 8 → phaseAt s i ≡ Running → wholeHeader b ≡ got h → Allowed Running h
-      → readOf b ≡ got m → EmptyAbort m → Hearing s i b room (refuse 1)
-  tight : (h : Header) (m : Message) → i < 8 → phaseAt s i ≡ Running → wholeHeader b ≡ got h → Allowed Running h
-      → readOf b ≡ got m → (EmptyAbort m → ⊥) → room < 3 → Hearing s i b room (refuse 11)
-  heard-waiting : (h : Header) → i < 8 → phaseAt s i ≡ Waiting → wholeHeader b ≡ got h → Allowed Waiting h → Hearing s i b room accept
-  heard-running : (h : Header) (m : Message) → i < 8 → phaseAt s i ≡ Running → wholeHeader b ≡ got h → Allowed Running h
-      → readOf b ≡ got m → (EmptyAbort m → ⊥) → 3 ≤ room → Hearing s i b room accept
+  within-found : i < laneCount → phaseAt s i ≡ Idle → Within o → (r : Reference) → refersTo o ≡ r → OpeningRow s i o room (decide s (opening i o) room)
+  within-found l d w Nothing e = stands-found l d w (rw e tt)
+  within-found l d w (Sold receipt) e =
+      case (last-sale i receipt (s .lines)) (λ v. stands-found l d w (rw e v)) (λ v. put-opening (no-sale l d w receipt e v))
+
+  opening-found : OpeningRow s i o room (decide s (opening i o) room)
+  opening-found =
+      case (leb-test laneCount i) (λ k. put-opening (no-lane k)) λ k.
+      let l : i < laneCount = omega arith in
+      case (idle-test (phaseAt s i))
+      (λ d. case (within-test o) (λ w. within-found l d w (refersTo o) refl) (λ w. put-opening (outside l d w)))
+      (λ n. put-opening (not-idle l n))
+
+-- ---- a message from the terminal
 
 among-test : (ks : List ℕ) (x : ℕ) → (among ks x ≡ true) ↔ OneOf ks x
 unfolding among
@@ -292,11 +266,11 @@ module _ (s : State) (i : ℕ) (b : List ℕ) (room : ℕ) where
   further Running = unlessRefused (afterBody (laneAt (s .lanes) i) (readOf b)) (said Running)
 
   -- the decision as far as the rows before say nothing
-  from-lane : i < 8 → decide s (message i b) room ≡ unlessRefused (heard (laneAt (s .lanes) i) b) (said (phaseAt s i))
-  unfolding decide moves writes opens laneOf said
-  from-lane l = rw (lt-leb 8 i l)
+  from-lane : i < laneCount → decide s (message i b) room ≡ unlessRefused (heard (laneAt (s .lanes) i) b) (said (phaseAt s i))
+  unfolding decide moves writes needsPlace laneOf said
+  from-lane l = rw (lt-leb laneCount i l)
 
-  from-header : i < 8 → (phaseAt s i ≡ Idle → ⊥)
+  from-header : i < laneCount → (phaseAt s i ≡ Idle → ⊥)
       → decide s (message i b) room ≡ unlessRefused (afterHeader (laneAt (s .lanes) i) b (wholeHeader b)) (said (phaseAt s i))
   unfolding heard
   from-header l n = from-lane l ∙ rw (no-for (idle-test (phaseAt s i)) n)
@@ -308,23 +282,23 @@ module _ (s : State) (i : ℕ) (b : List ℕ) (room : ℕ) where
   allowed-says Waiting h n = waiting-says _ h _ ∙ rw (le-ltb room 0 (omega arith))
   allowed-says Running h n = unless-pick (allowedBy Running h) _ _ _
 
-  from-phase : (h : Header) → i < 8 → (phaseAt s i ≡ Idle → ⊥) → wholeHeader b ≡ got h
+  from-phase : (h : Header) → i < laneCount → (phaseAt s i ≡ Idle → ⊥) → wholeHeader b ≡ got h
       → decide s (message i b) room ≡ pick (allowedBy (phaseAt s i) h) (further (phaseAt s i)) (refuse 15)
   unfolding afterHeader
   from-phase h l n e = from-header l n ∙ rw e (allowed-says (phaseAt s i) h n)
 
-  from-allowed : (p : Phase) (h : Header) → i < 8 → phaseAt s i ≡ p → isIdle p ≡ false → wholeHeader b ≡ got h → Allowed p h
+  from-allowed : (p : Phase) (h : Header) → i < laneCount → phaseAt s i ≡ p → isIdle p ≡ false → wholeHeader b ≡ got h → Allowed p h
       → decide s (message i b) room ≡ further p
   from-allowed p h l q n e a = from-phase h l (busy q n) e ∙ rw (q, allowed-test p h .1 a)
 
-  from-body : (h : Header) (m : Message) → i < 8 → phaseAt s i ≡ Running → wholeHeader b ≡ got h → Allowed Running h → readOf b ≡ got m
+  from-body : (h : Header) (m : Message) → i < laneCount → phaseAt s i ≡ Running → wholeHeader b ≡ got h → Allowed Running h → readOf b ≡ got m
       → decide s (message i b) room ≡ pick (emptyAbort m) (refuse 1) (pick (ltb room 3) (refuse 11) accept)
   unfolding isIdle further afterBody said answered
   from-body h m l q e a r = from-allowed Running h l q refl e a ∙ rw r (moved-says b _ m _ r)
 
-  hearing-given : {d : Decision} → Hearing s i b room d → decide s (message i b) room ≡ d
+  hearing-given : {d : Decision} → HearingRow s i b room d → decide s (message i b) room ≡ d
   unfolding decide unlessRefused isIdle heard afterHeader further afterBody laneOf
-  hearing-given (no-lane k) = rw (le-leb 8 i k)
+  hearing-given (no-lane k) = rw (le-leb laneCount i k)
   hearing-given (is-idle l d) = from-lane l ∙ rw (idle-test (phaseAt s i) .1 d)
   hearing-given (bad-header n f l k e q) = from-header l k ∙ rw e (ap refuse q)
   hearing-given (not-allowed h l k e a) = from-phase h l k e ∙ rw (no-for (allowed-test (phaseAt s i) h) a)
@@ -334,60 +308,62 @@ module _ (s : State) (i : ℕ) (b : List ℕ) (room : ℕ) where
   hearing-given (heard-waiting h l p e a) = from-allowed Waiting h l p refl e a
   hearing-given (heard-running h m l p e a r k t) = from-body h m l p e a r ∙ rw (no-for (abort-test m) k, le-ltb room 3 t)
 
-  put : {d : Decision} → Hearing s i b room d → Hearing s i b room (decide s (message i b) room)
+  put : {d : Decision} → HearingRow s i b room d → HearingRow s i b room (decide s (message i b) room)
   put r = rw (hearing-given r) r
 
-  body-found : (h : Header) → i < 8 → phaseAt s i ≡ Running → wholeHeader b ≡ got h → Allowed Running h
-      → (x : Reading Message) → readOf b ≡ x → Hearing s i b room (decide s (message i b) room)
+  body-found : (h : Header) → i < laneCount → phaseAt s i ≡ Running → wholeHeader b ≡ got h → Allowed Running h
+      → (x : Reading Message) → readOf b ≡ x → HearingRow s i b room (decide s (message i b) room)
   body-found h l p e a (refused f) r = put (bad-body (f .number) h f l p e a r refl)
   body-found h l p e a (got m) r =
       case (abort-test m) (λ k. put (no-code h m l p e a r k)) λ k.
       case (leb-test (suc room) 3) (λ t. put (tight h m l p e a r k t)) (λ t. put (heard-running h m l p e a r k (omega arith)))
 
-  phase-found : (h : Header) → i < 8 → (phaseAt s i ≡ Idle → ⊥) → wholeHeader b ≡ got h
-      → (p : Phase) → phaseAt s i ≡ p → Allowed p h → Hearing s i b room (decide s (message i b) room)
+  phase-found : (h : Header) → i < laneCount → (phaseAt s i ≡ Idle → ⊥) → wholeHeader b ≡ got h
+      → (p : Phase) → phaseAt s i ≡ p → Allowed p h → HearingRow s i b room (decide s (message i b) room)
   phase-found h l n e Idle q a = absurd (n q)
   phase-found h l n e Waiting q a = put (heard-waiting h l q e a)
   phase-found h l n e Running q a = body-found h l q e a (readOf b) refl
 
-  header-found : i < 8 → (phaseAt s i ≡ Idle → ⊥) → (x : Reading Header) → wholeHeader b ≡ x
-      → Hearing s i b room (decide s (message i b) room)
+  header-found : i < laneCount → (phaseAt s i ≡ Idle → ⊥) → (x : Reading Header) → wholeHeader b ≡ x
+      → HearingRow s i b room (decide s (message i b) room)
   header-found l n (refused f) e = put (bad-header (f .number) f l n e refl)
   header-found l n (got h) e =
       case (allowed-test (phaseAt s i) h) (phase-found h l n e (phaseAt s i) refl) (λ a. put (not-allowed h l n e a))
 
-  hearing-found : Hearing s i b room (decide s (message i b) room)
+  hearing-found : HearingRow s i b room (decide s (message i b) room)
   hearing-found =
-      case (leb-test 8 i) (λ k. put (no-lane k)) λ k.
-      let l : i < 8 = omega arith in
+      case (leb-test laneCount i) (λ k. put (no-lane k)) λ k.
+      let l : i < laneCount = omega arith in
       case (idle-test (phaseAt s i)) (λ d. put (is-idle l d)) (λ n. header-found l n (wholeHeader b) refl)
 
-  pub hearing-table : (d : Decision) → (decide s (message i b) room ≡ d) ↔ Hearing s i b room d
-  hearing-table d = (λ e. rw e at hearing-found, hearing-given)
-
--- ---- link lost
-
--- "Link lost 12, 14."
-pub data Losing (s : State) (i room : ℕ) : Decision → Type 0 where
-  no-lane : 8 ≤ i → Losing s i room (refuse 12)
-  is-idle : i < 8 → phaseAt s i ≡ Idle → Losing s i room (refuse 14)
-  ended : i < 8 → (phaseAt s i ≡ Idle → ⊥) → Losing s i room accept
+-- ---- a lost link
 
 module _ (s : State) (i room : ℕ) where
-  losing-given : {d : Decision} → Losing s i room d → decide s (lost i) room ≡ d
-  unfolding decide unlessRefused moves lostBy writes opens laneOf
-  losing-given (no-lane k) = rw (le-leb 8 i k)
-  losing-given (is-idle l d) = rw (lt-leb 8 i l, idle-test (phaseAt s i) .1 d)
-  losing-given (ended l n) = rw (lt-leb 8 i l, no-for (idle-test (phaseAt s i)) n, le-ltb room 0 (omega arith))
+  losing-given : {d : Decision} → LosingRow s i room d → decide s (lost i) room ≡ d
+  unfolding decide unlessRefused moves lostBy writes needsPlace laneOf
+  losing-given (no-lane k) = rw (le-leb laneCount i k)
+  losing-given (is-idle l d) = rw (lt-leb laneCount i l, idle-test (phaseAt s i) .1 d)
+  losing-given (ended l n) = rw (lt-leb laneCount i l, no-for (idle-test (phaseAt s i)) n, le-ltb room 0 (omega arith))
 
-  losing-found : Losing s i room (decide s (lost i) room)
+  losing-found : LosingRow s i room (decide s (lost i) room)
   losing-found =
-      case (leb-test 8 i) (λ k. put (no-lane k)) λ k.
-      let l : i < 8 = omega arith in
+      case (leb-test laneCount i) (λ k. put (no-lane k)) λ k.
+      let l : i < laneCount = omega arith in
       case (idle-test (phaseAt s i)) (λ d. put (is-idle l d)) (λ n. put (ended l n))
     where
-      put : {d : Decision} → Losing s i room d → Losing s i room (decide s (lost i) room)
+      put : {d : Decision} → LosingRow s i room d → LosingRow s i room (decide s (lost i) room)
       put r = rw (losing-given r) r
 
-  pub losing-table : (d : Decision) → (decide s (lost i) room ≡ d) ↔ Losing s i room d
-  losing-table d = (λ e. rw e at losing-found, losing-given)
+-- ---- R30: "A number is given exactly where its row holds and none before it in the order does."
+given : (s : State) (c : Call) (room : ℕ) {d : Decision} → Row s c room d → decide s c room ≡ d
+given s (opening i o) room = opening-given s i o room
+given s (message i b) room = hearing-given s i b room
+given s (lost i) room = losing-given s i room
+
+found : (s : State) (c : Call) (room : ℕ) → Row s c room (decide s c room)
+found s (opening i o) room = opening-found s i o room
+found s (message i b) room = hearing-found s i b room
+found s (lost i) room = losing-found s i room
+
+pub table : (s : State) (c : Call) (room : ℕ) (d : Decision) → (decide s c room ≡ d) ↔ Row s c room d
+table s c room d = (λ e. rw e at (found s c room), given s c room)

@@ -7,11 +7,13 @@ use native.Mathlib.Omega.{arith}
 use lib.ListN.{length}
 use borrow.Author.Tests.{eq-eqb}
 use Rattle.zvt_rules.specs.Reading.{pick}
-use Rattle.desk_rules.specs.Course.{isIdle, Call, laneOf, opens, moves, writes}
-use Rattle.desk_rules.specs.Desk.{State, fresh, laneAt, place, places, load, step, Accepted, run, wrote}
-use Rattle.desk_rules.specs.Runs.{having, callsOf, Own, own, total, opening, openings, Exchange, replies}
+use Rattle.desk_rules.specs.Numbers.{laneCount, bookLines}
+use Rattle.desk_rules.specs.Lanes.{placeTaken}
+use Rattle.desk_rules.specs.Course.{Call, laneOf, needsPlace, moves, writes}
+use Rattle.desk_rules.specs.Desk.{State, fresh, laneAt, placesTaken, load, step, Accepted, run, wrote}
+use Rattle.desk_rules.specs.Runs.{having, callsOf, Own, own, total, oneOpened, openings, Exchange, replies}
 use Rattle.desk_rules.proofs.Calls.{Passes}
-use Rattle.desk_rules.proofs.Lanes.{moves-local, after, by-lane, Told, told, tell, opening-is, lanes-step, load-step}
+use Rattle.desk_rules.proofs.Lanes.{moves-local, after, by-lane, Told, told, tell, opened-one, lanes-step, load-step}
 
 -- ---- runs
 
@@ -27,27 +29,27 @@ lanes-run s (c ∷ cs) = lanes-run (step s c) cs ∙ lanes-step s c
 
 -- ---- how many payments are opened
 
-load-run : (s : State) (cs : List Call) → length (s .lanes) ≡ 8 → Accepted s cs → load (run s cs) ≡ load s + openings cs
+load-run : (s : State) (cs : List Call) → length (s .lanes) ≡ laneCount → Accepted s cs → load (run s cs) ≡ load s + openings cs
 unfolding run total Accepted
 load-run s [] e h = omega arith
 load-run s (c ∷ cs) e h = omega (arith, load-step s c e (h .0), load-run (step s c) cs (lanes-step s c ∙ e) (h .1))
 
-room-step : (s : State) (c : Call) → load s ≤ 64 → Told s c → load s + opening c ≤ 64
-unfolding opening
-room-step s c r t = go (opens c) (t .room)
+room-step : (s : State) (c : Call) → load s ≤ bookLines → Told s c → load s + oneOpened c ≤ bookLines
+unfolding oneOpened
+room-step s c r t = go (needsPlace c) (t .room)
   where
-    go : (b : Bool) → (b ≡ true → load s < 64) → load s + pick b 1 0 ≤ 64
+    go : (b : Bool) → (b ≡ true → load s < bookLines) → load s + pick b 1 0 ≤ bookLines
     go true f = omega (arith, f refl)
     go false f = omega arith
 
-room-run : (s : State) (cs : List Call) → length (s .lanes) ≡ 8 → load s ≤ 64 → Accepted s cs → load (run s cs) ≤ 64
+room-run : (s : State) (cs : List Call) → length (s .lanes) ≡ laneCount → load s ≤ bookLines → Accepted s cs → load (run s cs) ≤ bookLines
 unfolding run Accepted
 room-run s [] e r h = r
 room-run s (c ∷ cs) e r h =
     room-run (step s c) cs (lanes-step s c ∙ e) (omega (arith, load-step s c e (h .0), room-step s c r (told s c (h .0)))) (h .1)
 
-pub count : (cs : List Call) → Accepted fresh cs → (openings cs ≡ length (run fresh cs .lines) + places (run fresh cs .lanes)) × (openings cs ≤ 64)
-unfolding fresh load places place isIdle
+pub count : (cs : List Call) → Accepted fresh cs → (openings cs ≡ length (run fresh cs .lines) + placesTaken (run fresh cs .lanes)) × (openings cs ≤ bookLines)
+unfolding fresh load placesTaken placeTaken
 count cs h =
     let l = load-run fresh cs refl h in
     (omega arith, omega (arith, room-run fresh cs refl (omega arith) h))
@@ -60,7 +62,7 @@ alone o (c ∷ cs) = alone (after o c) cs
 
 unfoldable pub AcceptedAlone : Own → List Call → Type 0
 AcceptedAlone o [] = Unit {0}
-AcceptedAlone o (c ∷ cs) = (laneOf c < 8) × Passes (moves (o .lane) (o .lines) c) × AcceptedAlone (after o c) cs
+AcceptedAlone o (c ∷ cs) = (laneOf c < laneCount) × Passes (moves (o .lane) (o .lines) c) × AcceptedAlone (after o c) cs
 
 -- the calls of lane k in their order, each with what it wrote
 unfoldable pub repliesTo : ℕ → State → List Call → List Exchange
@@ -70,7 +72,7 @@ unfoldable pub repliesAlone : Own → List Call → List Exchange
 repliesAlone o [] = []
 repliesAlone o (c ∷ cs) = record { call = c; wrote = writes (o .lane) c } ∷ repliesAlone (after o c) cs
 
-pub run-alone : (s : State) (cs : List Call) (k : ℕ) → length (s .lanes) ≡ 8 → Accepted s cs → own k (run s cs) ≡ alone (own k s) (callsOf k cs)
+pub run-alone : (s : State) (cs : List Call) (k : ℕ) → length (s .lanes) ≡ laneCount → Accepted s cs → own k (run s cs) ≡ alone (own k s) (callsOf k cs)
 unfolding run Accepted alone having
 run-alone s [] k e h = refl
 run-alone s (c ∷ cs) k e h =
@@ -78,7 +80,7 @@ run-alone s (c ∷ cs) k e h =
     ∙ by-lane s c (omega (arith, told s c (h .0) .lane))
     (λ j b o. alone o (callsOf j cs) ≡ alone (own j s) (pick b (c ∷ callsOf j cs) (callsOf j cs))) refl (λ j n. refl) k
 
-pub replies-alone : (s : State) (cs : List Call) (k : ℕ) → length (s .lanes) ≡ 8 → Accepted s cs → repliesTo k s cs ≡ repliesAlone (own k s) (callsOf k cs)
+pub replies-alone : (s : State) (cs : List Call) (k : ℕ) → length (s .lanes) ≡ laneCount → Accepted s cs → repliesTo k s cs ≡ repliesAlone (own k s) (callsOf k cs)
 unfolding repliesTo repliesAlone replies wrote Accepted having
 replies-alone s [] k e h = refl
 replies-alone s (c ∷ cs) k e h =
@@ -88,7 +90,7 @@ replies-alone s (c ∷ cs) k e h =
     (λ j b o. pick b (reply ∷ repliesAlone o (callsOf j cs)) (repliesAlone o (callsOf j cs))
     ≡ repliesAlone (own j s) (pick b (c ∷ callsOf j cs) (callsOf j cs))) refl (λ j n. refl) k)
 
-pub accepted-alone : (s : State) (cs : List Call) (k : ℕ) → length (s .lanes) ≡ 8 → Accepted s cs → AcceptedAlone (own k s) (callsOf k cs)
+pub accepted-alone : (s : State) (cs : List Call) (k : ℕ) → length (s .lanes) ≡ laneCount → Accepted s cs → AcceptedAlone (own k s) (callsOf k cs)
 unfolding Accepted AcceptedAlone having
 accepted-alone s [] k e h = tt
 accepted-alone s (c ∷ cs) k e h =
@@ -96,8 +98,8 @@ accepted-alone s (c ∷ cs) k e h =
     by-lane s c (omega (arith, t .lane)) (λ j b o. AcceptedAlone o (callsOf j cs) → AcceptedAlone (own j s) (pick b (c ∷ callsOf j cs) (callsOf j cs)))
     (λ a. (t .lane, rw moves-local at (t .moved), a)) (λ j n a. a) k (accepted-alone (step s c) cs k (lanes-step s c ∙ e) (h .1))
 
-pub accepted-from : (s : State) (cs : List Call) → length (s .lanes) ≡ 8 → ((k : ℕ) → AcceptedAlone (own k s) (callsOf k cs))
-    → load s + openings cs ≤ 64 → Accepted s cs
+pub accepted-from : (s : State) (cs : List Call) → length (s .lanes) ≡ laneCount → ((k : ℕ) → AcceptedAlone (own k s) (callsOf k cs))
+    → load s + openings cs ≤ bookLines → Accepted s cs
 unfolding Accepted AcceptedAlone having total
 accepted-from s [] e al r = tt
 accepted-from s (c ∷ cs) e al r = (
@@ -112,4 +114,4 @@ accepted-from s (c ∷ cs) e al r = (
     first = rw (eq-eqb (laneOf c) (laneOf c) refl) at (al (laneOf c))
 
     t : Told s c
-    t = record { lane = first .0; moved = rw moves-local (first .1); room = λ q. omega (arith, opening-is c true q) }
+    t = record { lane = first .0; moved = rw moves-local (first .1); room = λ q. omega (arith, opened-one c q) }

@@ -14,9 +14,11 @@ use Rattle.desk_rules.specs.declared.Outcome.the-variants.{Unclear, Decl
 use Rattle.desk_rules.specs.declared.Lane.{Lane}
 use Rattle.desk_rules.specs.declared.Line.{Line}
 use Rattle.desk_rules.specs.declared.Desk.{Desk}
-use Rattle.desk_rules.specs.Lanes.{blankLine, idleLane}
-use Rattle.desk_rules.specs.Course.{concerns, lastFrom, lastLine}
-use Rattle.desk_rules.specs.Desk.{place, places}
+use Rattle.desk_rules.specs.declared.Reference.{Reference}
+use Rattle.desk_rules.specs.Numbers.{mostAsked}
+use Rattle.desk_rules.specs.Lanes.{blankLine, idleLane, placeTaken}
+use Rattle.desk_rules.specs.Openings.{concerns, lastFrom, lastLine}
+use Rattle.desk_rules.specs.Desk.{placesTaken}
 use Rattle.desk_rules.specs.Memory.{Valid}
 use Rattle.desk_rules.specs.Turnover.{gain, loss, gains, losses}
 use Rattle.desk_rules.proofs.Memory.{place-most}
@@ -38,26 +40,26 @@ module _ {A : Type 0} (f : A → ℕ) (sum : List A → ℕ) (none : sum [] ≡ 
 
 -- ---- open payments
 
-pub places-take : (ls : List Lane) (i : ℕ) → i < length ls → places (take (i + 1) ls) ≡ places (take i ls) + place (getD ls i idleLane)
-unfolding places
-places-take = sum-take place places refl (λ l ls. refl) idleLane
+pub places-take : (ls : List Lane) (i : ℕ) → i < length ls → placesTaken (take (i + 1) ls) ≡ placesTaken (take i ls) + placeTaken (getD ls i idleLane)
+unfolding placesTaken
+places-take = sum-take placeTaken placesTaken refl (λ l ls. refl) idleLane
 
-pub places-most : (i : ℕ) (ls : List Lane) → places (take i ls) ≤ i
-unfolding places
-places-most i ls = omega (arith, sum-most place places refl (λ l ls. refl) idleLane 1 i ls (λ k. place-most (getD ls k idleLane)))
+pub places-most : (i : ℕ) (ls : List Lane) → placesTaken (take i ls) ≤ i
+unfolding placesTaken
+places-most i ls = omega (arith, sum-most placeTaken placesTaken refl (λ l ls. refl) idleLane 1 i ls (λ k. place-most (getD ls k idleLane)))
 
 -- ---- the last line of a lane with a receipt
 
-last-last : (i receipt : ℕ) (first : Line) (ls : List Line) (l : Line)
-    → lastFrom i receipt first (ls ++ (l ∷ [])) ≡ pick (concerns i receipt l) l (lastFrom i receipt first ls)
+last-last : (i : ℕ) (r : Reference) (first : Line) (ls : List Line) (l : Line)
+    → lastFrom i r first (ls ++ (l ∷ [])) ≡ pick (concerns i r l) l (lastFrom i r first ls)
 unfolding lastFrom
-last-last i receipt first [] l = refl
-last-last i receipt first (x ∷ ls) l = last-last i receipt _ ls l
+last-last i r first [] l = refl
+last-last i r first (x ∷ ls) l = last-last i r _ ls l
 
-pub last-take : (i receipt : ℕ) (ls : List Line) (k : ℕ) → k < length ls → let l = getD ls k blankLine in
-    lastLine i receipt (take (k + 1) ls) ≡ pick (concerns i receipt l) l (lastLine i receipt (take k ls))
+pub last-take : (i : ℕ) (r : Reference) (ls : List Line) (k : ℕ) → k < length ls → let l = getD ls k blankLine in
+    lastLine i r (take (k + 1) ls) ≡ pick (concerns i r l) l (lastLine i r (take k ls))
 unfolding lastLine
-last-take i receipt ls k h = rw (add-one, take-suc ls k blankLine h) (last-last i receipt blankLine (take k ls) (getD ls k blankLine))
+last-take i r ls k h = rw (add-one, take-suc ls k blankLine h) (last-last i r blankLine (take k ls) (getD ls k blankLine))
 
 -- ---- the net turnover
 
@@ -92,16 +94,16 @@ loss-most Approved Refund n = omega arith
 loss-most Approved Reversal n = omega arith
 
 module _ (d : Desk) (v : Valid d) where
-  pub gain-small : (k : ℕ) → gainOf (getD (d .book .lines) k blankLine) ≤ 999_999_999_999
+  pub gain-small : (k : ℕ) → gainOf (getD (d .book .lines) k blankLine) ≤ mostAsked
   gain-small k = let l = getD (d .book .lines) k blankLine in omega (arith, gain-most (l .outcome) (l .kind) (l .settled), v .settled k)
 
-  pub loss-small : (k : ℕ) → lossOf (getD (d .book .lines) k blankLine) ≤ 999_999_999_999
+  pub loss-small : (k : ℕ) → lossOf (getD (d .book .lines) k blankLine) ≤ mostAsked
   loss-small k = let l = getD (d .book .lines) k blankLine in omega (arith, loss-most (l .outcome) (l .kind) (l .settled), v .settled k)
 
-  pub gains-most : (i : ℕ) → gains (take i (d .book .lines)) ≤ i * 999_999_999_999
+  pub gains-most : (i : ℕ) → gains (take i (d .book .lines)) ≤ i * mostAsked
   unfolding gains
-  gains-most i = sum-most gainOf gains refl (λ l ls. refl) blankLine 999_999_999_999 i (d .book .lines) gain-small
+  gains-most i = sum-most gainOf gains refl (λ l ls. refl) blankLine mostAsked i (d .book .lines) gain-small
 
-  pub losses-most : (i : ℕ) → losses (take i (d .book .lines)) ≤ i * 999_999_999_999
+  pub losses-most : (i : ℕ) → losses (take i (d .book .lines)) ≤ i * mostAsked
   unfolding losses
-  losses-most i = sum-most lossOf losses refl (λ l ls. refl) blankLine 999_999_999_999 i (d .book .lines) loss-small
+  losses-most i = sum-most lossOf losses refl (λ l ls. refl) blankLine mostAsked i (d .book .lines) loss-small

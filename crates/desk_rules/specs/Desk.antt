@@ -1,7 +1,7 @@
 -- The lanes and the book together: when a call is accepted, and what it leaves. Definitions only.
 use mathlib.Core.Path.{_≡_}
 use Prim.Native.Nat.{ℕ, _+_}
-use mathlib.Core.Bool.{_&&_}
+use mathlib.Core.Bool.{Bool, true, false, _&&_}
 use mathlib.Core.List.{List, [], _∷_, _++_}
 use lib.ListN.{length, getD, set, replicate}
 use lib.Dec.{ltb, leb}
@@ -10,8 +10,10 @@ use Rattle.desk_rules.specs.declared.Lane.{Lane}
 use Rattle.desk_rules.specs.declared.Line.{Line}
 use Rattle.desk_rules.specs.declared.Moved.{Moved}
 use Rattle.desk_rules.specs.declared.Moved.the-variants.{Refused, Stays, Becomes, Ends}
-use Rattle.desk_rules.specs.Lanes.{idleLane, lineAt}
-use Rattle.desk_rules.specs.Course.{isIdle, Call, laneOf, opens, moves, writes}
+use Rattle.desk_rules.specs.Numbers.{laneCount, bookLines}
+use Rattle.desk_rules.specs.Kinds.{booked, isIdle}
+use Rattle.desk_rules.specs.Lanes.{idleLane, lineAt, placeTaken}
+use Rattle.desk_rules.specs.Course.{Call, laneOf, needsPlace, moves, writes}
 
 -- eight lanes, and the lines of the book in their order
 pub record State : Type 0 where
@@ -19,24 +21,26 @@ pub record State : Type 0 where
   pub lines : List Line
 
 unfoldable pub fresh : State
-fresh = record { lanes = replicate 8 idleLane; lines = [] }
+fresh = record { lanes = replicate laneCount idleLane; lines = [] }
 
 abbrev pub laneAt : List Lane → ℕ → Lane
 laneAt ls i = getD ls i idleLane
 
--- an idle lane takes no place in the book, an open payment one
-unfoldable pub place : Lane → ℕ
-place l = pick (isIdle (l .phase)) 0 1
+-- P3: the places that open payments take
+unfoldable pub placesTaken : List Lane → ℕ
+placesTaken [] = 0
+placesTaken (l ∷ ls) = placeTaken l + placesTaken ls
 
-unfoldable pub places : List Lane → ℕ
-places [] = 0
-places (l ∷ ls) = place l + places ls
-
--- "lines plus open payments"
+-- R18: "lines and open payments"
 unfoldable pub load : State → ℕ
-load s = length (s .lines) + places (s .lanes)
+load s = length (s .lines) + placesTaken (s .lanes)
 
--- refused with document 01's number, or accepted
+-- R19: no payment, and nothing else, is open
+unfoldable pub allIdle : List Lane → Bool
+allIdle [] = true
+allIdle (l ∷ ls) = isIdle (l .phase) && allIdle ls
+
+-- refused with a number, or accepted
 pub data Decision : Type 0 where
   refuse : ℕ → Decision
   accept : Decision
@@ -47,26 +51,31 @@ unlessRefused Stays other = other
 unlessRefused (Becomes l) other = other
 unlessRefused (Ends outcome settled code) other = other
 
--- "opening 12, 13, 16, 17, 18, 11 .. Terminal message 12, 14, header, 15, body, 11. Link lost 12, 14."
+-- R34: "12, 13, 16, 17, 18, 11." R35: "12, 14, header, 15, body, 11." R36: "12, 14."
 unfoldable pub decide : State → Call → ℕ → Decision
 decide s c room =
     let l = laneAt (s .lanes) (laneOf c) in
-    pick (leb 8 (laneOf c)) (refuse 12)
+    pick (leb laneCount (laneOf c)) (refuse 12)
     (unlessRefused (moves l (s .lines) c)
-    (pick (opens c && leb 64 (load s)) (refuse 18) (pick (ltb room (length (writes l c))) (refuse 11) accept)))
+    (pick (needsPlace c && leb bookLines (load s)) (refuse 18) (pick (ltb room (length (writes l c))) (refuse 11) accept)))
 
--- "Each end writes one line and makes the lane idle, with nothing remembered."
+-- P29: "the lane is idle then and remembers nothing"
 unfoldable pub laneAfter : Lane → Moved → Lane
 laneAfter l (Refused r) = l
 laneAfter l Stays = l
 laneAfter l (Becomes m) = m
 laneAfter l (Ends outcome settled code) = idleLane
 
+-- P29: "Every end puts one line into the book", of a kind that is booked
+abbrev pub lineIf : Bool → Line → List Line
+lineIf true l = l ∷ []
+lineIf false l = []
+
 unfoldable pub linesFrom : ℕ → Lane → Moved → List Line
 linesFrom i l (Refused r) = []
 linesFrom i l Stays = []
 linesFrom i l (Becomes m) = []
-linesFrom i l (Ends outcome settled code) = lineAt i l outcome settled code ∷ []
+linesFrom i l (Ends outcome settled code) = lineIf (booked (l .kind)) (lineAt i l outcome settled code)
 
 -- what an accepted call leaves
 unfoldable pub step : State → Call → State

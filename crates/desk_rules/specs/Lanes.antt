@@ -12,6 +12,8 @@ use Rattle.desk_rules.specs.declared.Outcome.the-variants.{Unclear}
 use Rattle.desk_rules.specs.declared.Phase.the-variants.{Idle, Waiting, Running}
 use Rattle.desk_rules.specs.declared.Lane.{Lane}
 use Rattle.desk_rules.specs.declared.Line.{Line}
+use Rattle.zvt_rules.specs.Reading.{pick}
+use Rattle.desk_rules.specs.Kinds.{booked, isIdle}
 
 -- nothing remembered
 abbrev pub noStatus : Status
@@ -23,30 +25,34 @@ blankLine = record { lane = 0; kind = Sale; asked = 0; settled = 0; receipt = 0;
 abbrev pub idleLane : Lane
 idleLane = record { phase = Idle; kind = Sale; asked = 0; named = 0; status = noStatus }
 
--- "Opening writes the command and makes the lane waiting"
+-- P8: "Opening writes the command and makes the idle lane waiting, with nothing remembered."
 abbrev pub waitingLane : Kind → ℕ → ℕ → Lane
 waitingLane kind asked named = record { phase = Waiting; kind = kind; asked = asked; named = named; status = noStatus }
 
--- "makes the lane running"
+-- P15: "makes the lane running"
 abbrev pub runningLane : Lane → Lane
 runningLane l = record { phase = Running; kind = l .kind; asked = l .asked; named = l .named; status = l .status }
 
--- "it replaces the remembered status"
+-- P20: "becomes the remembered status, all of it"
 abbrev pub reportedLane : Lane → Status → Lane
 reportedLane l status = record { phase = l .phase; kind = l .kind; asked = l .asked; named = l .named; status = status }
 
--- "else field 87 of the remembered status, else 0 for none; 0000 from a terminal is none too"
-unfoldable pub toldReceipt : ToldReceipt → ℕ
+-- P3: "An open payment takes the place of the line that it will write."
+unfoldable pub placeTaken : Lane → ℕ
+placeTaken l = pick (isIdle (l .phase)) 0 (pick (booked (l .kind)) 1 0)
+
+-- P32: "field 87 of the remembered status. 0 stands for none, and a told 0000 is none."
+abbrev pub toldReceipt : ToldReceipt → ℕ
 toldReceipt no-receipt = 0
 toldReceipt (Receipt r) = r
 
--- "The receipt is the one named for a reversal, else .."
+-- P32: "The receipt of a reversal is the one it named; of another kind, .."
 unfoldable pub receiptBy : Kind → ℕ → ToldReceipt → ℕ
 receiptBy Sale named told = toldReceipt told
 receiptBy Refund named told = toldReceipt told
 receiptBy Reversal named told = named
 
--- "A line holds lane, kind, amount asked, settled amount (0 unless approved), receipt, outcome, code."
+-- P30: "A line has lane, kind, amount asked, settled amount, receipt, outcome and code."
 unfoldable pub lineAt : ℕ → Lane → Outcome → ℕ → ℕ → Line
 lineAt i l outcome settled code =
     record {

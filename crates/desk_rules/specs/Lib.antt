@@ -1,7 +1,8 @@
--- What document 01 says of a payment's course and of the day book. A reader has to believe these files.
+-- The rules of a payment's course and of the day book. A reader has to believe these files.
 pub mod Numbers
+pub mod Kinds
 pub mod Lanes
-pub mod Commands
+pub mod Openings
 pub mod Course
 pub mod Desk
 pub mod Table

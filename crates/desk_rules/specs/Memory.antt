@@ -3,7 +3,7 @@ use mathlib.Core.Path.{_≡_}
 use Prim.Native.Nat.{ℕ, _+_, _≤_}
 use mathlib.Core.List.{List, _++_}
 use lib.ListN.{length, getD, set, take, drop, replicate}
-use lib.Dec.{ltb, eqb}
+use lib.Dec.{ltb}
 use Rattle.zvt_rules.specs.Reading.{pick}
 use Rattle.zvt_rules.specs.declared.ToldAmount.{ToldAmount}
 use Rattle.zvt_rules.specs.declared.ToldAmount.the-variants.{Missing as no-amount, Amount}
@@ -11,9 +11,11 @@ use Rattle.desk_rules.specs.declared.Lane.{Lane}
 use Rattle.desk_rules.specs.declared.Line.{Line}
 use Rattle.desk_rules.specs.declared.Moved.{Moved}
 use Rattle.desk_rules.specs.declared.Moved.the-variants.{Refused as move-refused, Stays, Becomes, Ends}
+use Rattle.desk_rules.specs.Numbers.{laneCount, bookLines, mostAsked}
+use Rattle.desk_rules.specs.Kinds.{booked}
 use Rattle.desk_rules.specs.Lanes.{blankLine, idleLane, lineAt}
 use Rattle.desk_rules.specs.Course.{Call, laneOf, moves, writes}
-use Rattle.desk_rules.specs.Desk.{State, laneAt, places, Decision, refuse, accept, decide}
+use Rattle.desk_rules.specs.Desk.{State, laneAt, placesTaken, allIdle, Decision, refuse, accept, decide}
 use Rattle.desk_rules.specs.declared.Book.{Book}
 use Rattle.desk_rules.specs.declared.Desk.{Desk}
 use Rattle.desk_rules.specs.declared.Reply.the-variants.{Written, Refused}
@@ -24,10 +26,10 @@ use Rattle.desk_rules.specs.declared.LaneAnswer.{LaneAnswer}
 use Rattle.desk_rules.specs.declared.LaneAnswer.the-variants.{Refused as lane-refused, Lane as lane-got}
 
 abbrev pub emptyBook : Book
-emptyBook = record { lines = replicate 64 blankLine; count = 0 }
+emptyBook = record { lines = replicate bookLines blankLine; count = 0 }
 
 abbrev pub freshDesk : Desk
-freshDesk = record { lanes = replicate 8 idleLane; book = emptyBook }
+freshDesk = record { lanes = replicate laneCount idleLane; book = emptyBook }
 
 -- the lines of the book, and the desk as the course sees it
 abbrev pub linesOfDesk : Desk → List Line
@@ -43,23 +45,23 @@ laneFor d c = laneAt (d .lanes) (laneOf c)
 -- no amount above twelve digits
 unfoldable pub toldSmall : ToldAmount → Type 0
 toldSmall no-amount = Unit {0}
-toldSmall (Amount a) = a ≤ 999_999_999_999
+toldSmall (Amount a) = a ≤ mostAsked
 
--- "what holds of all such desks"
+-- P37: what holds of every desk
 pub record Valid (d : Desk) : Type 0 where
-  pub lanes : length (d .lanes) ≡ 8
-  pub lines : length (d .book .lines) ≡ 64
-  pub room : d .book .count + places (d .lanes) ≤ 64
-  pub asked : (i : ℕ) → getD (d .lanes) i idleLane .asked ≤ 999_999_999_999
+  pub lanes : length (d .lanes) ≡ laneCount
+  pub lines : length (d .book .lines) ≡ bookLines
+  pub room : d .book .count + placesTaken (d .lanes) ≤ bookLines
+  pub asked : (i : ℕ) → getD (d .lanes) i idleLane .asked ≤ mostAsked
   pub told : (i : ℕ) → toldSmall (getD (d .lanes) i idleLane .status .amount)
-  pub settled : (k : ℕ) → getD (d .book .lines) k blankLine .settled ≤ 999_999_999_999
+  pub settled : (k : ℕ) → getD (d .book .lines) k blankLine .settled ≤ mostAsked
 
 abbrev pub withLine : Book → Line → Book
 withLine b l = record { lines = set (b .lines) (b .count) l; count = b .count + 1 }
 
--- "Each end writes one line and makes the lane idle, with nothing remembered."
+-- P29: "Every end puts one line into the book; the lane is idle then and remembers nothing."
 unfoldable pub endedDesk : Desk → ℕ → Line → Desk
-endedDesk d i l = record { lanes = set (d .lanes) i idleLane; book = withLine (d .book) l }
+endedDesk d i l = record { lanes = set (d .lanes) i idleLane; book = pick (booked (l .kind)) (withLine (d .book) l) (d .book) }
 
 -- what a move of lane i leaves
 unfoldable pub movedDesk : Desk → ℕ → Moved → Desk
@@ -71,7 +73,7 @@ movedDesk d i (Ends outcome settled code) = endedDesk d i (lineAt i (laneAt (d .
 unfoldable pub refusedAnswer : Desk → ℕ → Answer
 refusedAnswer d number = record { reply = Refused (record { number = number }); desk = d }
 
--- "Each refusal returns its number only; desk and buffers are unchanged."
+-- R31: "A refusal answers its number and nothing else." R32: it "leaves the desk and all lent buffers as they were"
 unfoldable pub answerBy : Decision → Desk → Call → Answer
 answerBy (refuse number) d c = refusedAnswer d number
 answerBy accept d c =
@@ -81,7 +83,7 @@ answerBy accept d c =
 unfoldable pub answerOf : Desk → Call → ℕ → Answer
 answerOf d c room = answerBy (decide (view d) c room) d c
 
--- "Where a call succeeds, buffer bytes beyond those written are unchanged."
+-- R33: "Success leaves the bytes of a lent buffer behind those written as they were."
 unfoldable pub leavesBy : Decision → Desk → Call → List ℕ → List ℕ
 leavesBy (refuse number) d c out = out
 leavesBy accept d c out = let w = writes (laneAt (d .lanes) (laneOf c)) c in w ++ drop (length w) out
@@ -89,13 +91,12 @@ leavesBy accept d c out = let w = writes (laneAt (d .lanes) (laneOf c)) c in w +
 unfoldable pub leavesOf : Desk → Call → List ℕ → List ℕ
 leavesOf d c out = leavesBy (decide (view d) c (length out)) d c out
 
--- "19 a payment is open at closing"; "Closing the day empties the book." No payment is open, so nothing is remembered: what is
--- left is a fresh desk
+-- R19: "a payment is open at closing". P36: "Closing leaves an empty book": as no lane remembers anything, it is a fresh desk
 unfoldable pub closeAnswer : Desk → Answer
-closeAnswer d = pick (eqb (places (d .lanes)) 0) (record { reply = Written 0; desk = freshDesk }) (refusedAnswer d 19)
+closeAnswer d = pick (allIdle (d .lanes)) (record { reply = Written 0; desk = freshDesk }) (refusedAnswer d 19)
 
 unfoldable pub lineAnswer : ℕ → List Line → LineAnswer
 lineAnswer k ls = pick (ltb k (length ls)) (line-got (getD ls k blankLine)) End
 
 unfoldable pub laneAnswer : ℕ → List Lane → LaneAnswer
-laneAnswer i ls = pick (ltb i 8) (lane-got (getD ls i idleLane)) (lane-refused (record { number = 12 }))
+laneAnswer i ls = pick (ltb i laneCount) (lane-got (getD ls i idleLane)) (lane-refused (record { number = 12 }))

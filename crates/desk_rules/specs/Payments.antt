@@ -12,14 +12,16 @@ use Rattle.zvt_rules.specs.declared.Status.{Status}
 use Rattle.zvt_rules.specs.declared.ToldCode.{ToldCode}
 use Rattle.zvt_rules.specs.declared.ToldCode.the-variants.{Missing as no-code, Code}
 use Rattle.desk_rules.specs.declared.Outcome.the-variants.{Unclear, Declined}
-use Rattle.desk_rules.specs.declared.Phase.the-variants.{Running}
 use Rattle.desk_rules.specs.declared.Lane.{Lane}
 use Rattle.desk_rules.specs.declared.Line.{Line}
 use Rattle.desk_rules.specs.declared.Moved.{Moved}
 use Rattle.desk_rules.specs.declared.Moved.the-variants.{Refused, Stays, Becomes, Ends}
-use Rattle.desk_rules.specs.Lanes.{noStatus, blankLine, idleLane, runningLane, lineAt}
-use Rattle.desk_rules.specs.Course.{pairIs, completedBy, abortedBy, isIdle, lastLine, Ask, askSale, askRefund, askReversal, Call, sale, refund, reversal, message, lost, laneOf, opens}
-use Rattle.desk_rules.specs.Runs.{callsOf, Own, openings}
+use Rattle.desk_rules.specs.Numbers.{laneCount}
+use Rattle.desk_rules.specs.Kinds.{isIdle}
+use Rattle.desk_rules.specs.Lanes.{noStatus, blankLine, idleLane, runningLane, reportedLane, lineAt}
+use Rattle.desk_rules.specs.Openings.{refersTo, lastLine, openedLane}
+use Rattle.desk_rules.specs.Course.{pairIs, completedBy, abortedBy, Call, opening, message, lost, laneOf, opens, needsPlace}
+use Rattle.desk_rules.specs.Runs.{callsOf, Own}
 
 -- ---- the payments of a run: an opening, and the calls of its lane up to its end
 
@@ -35,9 +37,7 @@ endsBy (got m) =
     eqb (m .class) 0x84 || (pairIs (m .class) (m .instruction) 0x06 0x1E || pairIs (m .class) (m .instruction) 0x06 0x0F)
 
 unfoldable pub ends : Call → Bool
-ends (sale i amount) = false
-ends (refund i password amount) = false
-ends (reversal i password receipt) = false
+ends (opening i o) = false
 ends (message i s) = endsBy (readOf s)
 ends (lost i) = true
 
@@ -54,7 +54,7 @@ paymentsFrom p [] = p
 paymentsFrom p (c ∷ cs) = paymentsFrom (withCall p c) cs
 
 unfoldable pub paymentsOf : List Call → Payments
-paymentsOf cs = paymentsFrom (record { ended = []; ongoing = replicate 8 [] }) cs
+paymentsOf cs = paymentsFrom (record { ended = []; ongoing = replicate laneCount [] }) cs
 
 unfoldable pub joined : List (List Call) → List Call
 joined [] = []
@@ -66,34 +66,43 @@ unfoldable pub oneByOne : List Call → List Call
 oneByOne cs = joined (paymentsOf cs .ended) ++ joined (paymentsOf cs .ongoing)
 
 -- an opening, and then none
+unfoldable pub NoneOpens : List Call → Type 0
+NoneOpens [] = Unit {0}
+NoneOpens (c ∷ cs) = (opens c ≡ false) × NoneOpens cs
+
 unfoldable pub Begins : List Call → Type 0
 Begins [] = ⊥
-Begins (o ∷ ds) = (opens o ≡ true) × (openings ds ≡ 0)
+Begins (o ∷ ds) = (opens o ≡ true) × NoneOpens ds
 
--- a payment: calls of one lane, of "Lanes 0 to 7", which begin with its opening
+-- a payment: calls of one lane, which begin with its opening
 abbrev pub Whole : List Call → Type 0
-Whole p = (k : ℕ) × (k < 8) × (callsOf k p ≡ p) × Begins p
+Whole p = (k : ℕ) × (k < laneCount) × (callsOf k p ≡ p) × Begins p
+
+-- P3: a payment that takes a place in the book, and those of a list that do
+unfoldable pub pays : List Call → Bool
+pays [] = false
+pays (o ∷ ds) = needsPlace o
+
+unfoldable pub paying : List (List Call) → List (List Call)
+paying [] = []
+paying (p ∷ ps) = pick (pays p) (p ∷ paying ps) (paying ps)
 
 -- ---- one payment, judged from its own messages
 
--- what its opening asked, after those lines. A reversal looks at its own lane's lines only, of which none is added while its
--- payment is open: so the lines may be those at its opening or those at its end
-unfoldable pub askOf : List Line → Call → Ask
-askOf ls (sale i amount) = askSale amount
-askOf ls (refund i password amount) = askRefund password amount
-askOf ls (reversal i password receipt) = askReversal password receipt (lastLine i receipt ls)
-askOf ls (message i s) = askSale 0
-askOf ls (lost i) = askSale 0
+-- the lane as its opening leaves it, after those lines. An opening looks at its own lane's lines only, of which none is added while
+-- its payment is open: so the lines may be those at its opening or those at its end
+unfoldable pub askOf : List Line → Call → Lane
+askOf ls (opening i o) = openedLane o (lastLine i (refersTo o) ls)
+askOf ls (message i s) = idleLane
+askOf ls (lost i) = idleLane
 
--- "with field 27 it replaces the remembered status; without it, no change"
+-- P20: "04 0F with field 27 becomes the remembered status, all of it .. Without field 27 it changes nothing."
 unfoldable pub orElse : ToldCode → Status → Status → Status
 orElse no-code new old = old
 orElse (Code c) new old = new
 
 unfoldable pub remembered : Status → Call → Status
-remembered status (sale i amount) = status
-remembered status (refund i password amount) = status
-remembered status (reversal i password receipt) = status
+remembered status (opening i o) = status
 remembered status (message i s) = orElse (statusOf s .code) (statusOf s) status
 remembered status (lost i) = status
 
@@ -111,15 +120,13 @@ verdictOf l (got m) =
     (pick (pairIs (m .class) (m .instruction) 0x06 0x0F) (completedBy l (l .status .code)) Stays))
 
 unfoldable pub verdict : Lane → Call → Moved
-verdict l (sale i amount) = Stays
-verdict l (refund i password amount) = Stays
-verdict l (reversal i password receipt) = Stays
+verdict l (opening i o) = Stays
 verdict l (message i s) = verdictOf l (readOf s)
 verdict l (lost i) = Ends Unclear 0 0
 
--- the lane with what was asked and what is remembered
-unfoldable pub askedLane : Ask → Status → Lane
-askedLane a status = record { phase = Running; kind = a .kind; asked = a .asked; named = a .named; status = status }
+-- the lane as it was opened, with what is remembered since
+unfoldable pub askedLane : Lane → Status → Lane
+askedLane l status = reportedLane (runningLane l) status
 
 unfoldable pub lineBy : ℕ → Lane → Moved → Line
 lineBy i l (Refused r) = blankLine
@@ -128,7 +135,7 @@ lineBy i l (Becomes m) = blankLine
 lineBy i l (Ends outcome settled code) = lineAt i l outcome settled code
 
 -- the last call judges, and those before it are remembered
-unfoldable pub judged : ℕ → Ask → Status → List Call → Line
+unfoldable pub judged : ℕ → Lane → Status → List Call → Line
 judged i a status [] = blankLine
 judged i a status (c ∷ []) = lineBy i (askedLane a status) (verdict (askedLane a status) c)
 judged i a status (c ∷ (d ∷ cs)) = judged i a (remembered status c) (d ∷ cs)
@@ -143,9 +150,9 @@ unfoldable pub linesOf : List Line → List (List Call) → List Line
 linesOf ls [] = ls
 linesOf ls (p ∷ ps) = linesOf (ls ++ (lineOf ls p ∷ [])) ps
 
--- lane k with its lines, as the calls of its open payment say: idle if there are none, "with nothing remembered"; else waiting or
+-- lane k with its lines, as the calls of its open payment say: idle if there are none; else waiting or
 -- running, with what its opening asked and what is remembered of the calls since
-unfoldable pub Says : ℕ → Own → List Call → Type 0
-Says k w [] = w .lane ≡ idleLane
-Says k w (o ∷ ds) =
+unfoldable pub LaneSays : ℕ → Own → List Call → Type 0
+LaneSays k w [] = w .lane ≡ idleLane
+LaneSays k w (o ∷ ds) =
     (laneOf o ≡ k) × Begins (o ∷ ds) × (isIdle (w .lane .phase) ≡ false) × (runningLane (w .lane) ≡ askedLane (askOf (w .lines) o) (recalled noStatus ds))

@@ -5,10 +5,10 @@ use lib.Dec.{eqb}
 use Rattle.zvt_rules.specs.Reading.{pick}
 use Rattle.desk_rules.specs.declared.Lane.{Lane}
 use Rattle.desk_rules.specs.declared.Line.{Line}
-use Rattle.desk_rules.specs.Course.{Call, laneOf, opens}
+use Rattle.desk_rules.specs.Course.{Call, laneOf, needsPlace}
 use Rattle.desk_rules.specs.Desk.{State, laneAt}
 
--- ---- "A call for one lane changes no other lane."
+-- ---- P35: "A call touches the lane that it names and no other."
 
 -- the elements of a list whose number is k, in their order
 unfoldable pub having : {A : Type 0} → (A → ℕ) → ℕ → List A → List A
@@ -37,12 +37,12 @@ unfoldable pub total : {A : Type 0} → (A → ℕ) → List A → ℕ
 total f [] = 0
 total f (x ∷ xs) = f x + total f xs
 
--- 1 for a call that opens a payment; and how many payments are opened
-unfoldable pub opening : Call → ℕ
-opening c = pick (opens c) 1 0
+-- 1 for a call that opens a payment, and how many payments are opened
+unfoldable pub oneOpened : Call → ℕ
+oneOpened c = pick (needsPlace c) 1 0
 
 abbrev pub openings : List Call → ℕ
-openings cs = total opening cs
+openings cs = total oneOpened cs
 
 -- ---- the third demand: "book, lanes and each reply are those of another run"
 

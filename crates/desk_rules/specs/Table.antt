@@ -1,5 +1,5 @@
--- Document 01, 'Numbers of refusal': what the rows of its table say of a call of the desk, in the order of "opening 12, 13, 16, 17, 18,
--- 11" and "Terminal message 12, 14, header, 15, body, 11". Definitions only.
+-- The rows of refusal of a call of the desk, each with what holds where its number is given, in the order of the rules; and what the
+-- command of an opening says to whoever reads it. Definitions only.
 use mathlib.Core.Path.{_≡_}
 use mathlib.Core.Bool.{true, false}
 use mathlib.Core.Logic.{_⊎_}
@@ -7,113 +7,152 @@ use mathlib.Core.List.{List, [], _∷_, _++_}
 use Prim.Native.Nat.{ℕ, _+_, _*_, _≤_, _<_}
 use Rattle.zvt_rules.specs.declared.Fault.{Fault}
 use Rattle.zvt_rules.specs.Reading.{got, refused}
-use Rattle.zvt_rules.specs.Message.{Header, wholeHeader, bytes, Message, readOf}
+use Rattle.zvt_rules.specs.Fields.{Field}
+use Rattle.zvt_rules.specs.Message.{Header, wholeHeader, bytes, listed, Message, readOf}
+use Rattle.zvt_rules.specs.Digits.{numberOf}
+use Rattle.zvt_rules.specs.Values.{found, valueIn}
 use Rattle.desk_rules.specs.declared.Kind.the-variants.{Sale}
 use Rattle.desk_rules.specs.declared.Phase.{Phase}
 use Rattle.desk_rules.specs.declared.Phase.the-variants.{Idle, Waiting, Running}
 use Rattle.desk_rules.specs.declared.Line.{Line}
-use Rattle.desk_rules.specs.Course.{runningPairs, concerns, Call, sale, refund, reversal, message, lost, laneOf}
-use Rattle.desk_rules.specs.Desk.{State, laneAt, load}
+use Rattle.desk_rules.specs.declared.Opening.{Opening}
+use Rattle.desk_rules.specs.declared.Opening.the-variants.{Sale as sale, Refund as refund, Reversal as reversal}
+use Rattle.desk_rules.specs.declared.Reference.{Reference}
+use Rattle.desk_rules.specs.declared.Reference.the-variants.{Nothing, Sold}
+use Rattle.desk_rules.specs.Numbers.{laneCount, bookLines, mostAsked, mostReceipt, mostPassword}
+use Rattle.desk_rules.specs.Kinds.{booked}
+use Rattle.desk_rules.specs.Openings.{kindOf, refersTo, concerns, commandSize}
+use Rattle.desk_rules.specs.Course.{runningPairs, Call, opening, message, lost}
+use Rattle.desk_rules.specs.Desk.{State, laneAt, load, Decision, refuse, accept}
 
--- "A lane is idle, waiting or running.": the phase of a lane, and of the lane that a call names
+-- the phase of a lane
 abbrev pub phaseAt : State → ℕ → Phase
 phaseAt s i = laneAt (s .lanes) i .phase
 
-abbrev pub phaseOf : State → Call → Phase
-phaseOf s c = phaseAt s (laneOf c)
-
 -- ---- opening
 
--- "16 number outside its limits": "Amount asked 1 to 999,999,999,999", "Password 0 to 999,999", "Receipt .. 1 to 9,999"
-abbrev pub Within : Call → Type 0
-Within (sale i amount) = (1 ≤ amount) × (amount ≤ 999_999_999_999)
-Within (refund i password amount) = (password ≤ 999_999) × ((1 ≤ amount) × (amount ≤ 999_999_999_999))
-Within (reversal i password receipt) = (password ≤ 999_999) × ((1 ≤ receipt) × (receipt ≤ 9_999))
-Within (message i b) = Unit {0}
-Within (lost i) = Unit {0}
+-- R16, by P4, P5 and P6
+abbrev pub Within : Opening → Type 0
+Within (sale amount) = (1 ≤ amount) × (amount ≤ mostAsked)
+Within (refund password amount) = (password ≤ mostPassword) × ((1 ≤ amount) × (amount ≤ mostAsked))
+Within (reversal password receipt) = (password ≤ mostPassword) × ((1 ≤ receipt) × (receipt ≤ mostReceipt))
 
--- none of the lines is an "approved sale or reversal line of this lane with that receipt"
-unfoldable pub NoneOf : ℕ → ℕ → List Line → Type 0
-NoneOf i receipt [] = Unit {0}
-NoneOf i receipt (l ∷ ls) = (concerns i receipt l ≡ false) × NoneOf i receipt ls
+-- none of the lines is one that a reference looks at
+unfoldable pub NoneOf : ℕ → Reference → List Line → Type 0
+NoneOf i r [] = Unit {0}
+NoneOf i r (l ∷ ls) = (concerns i r l ≡ false) × NoneOf i r ls
 
--- "the last approved sale or reversal line of this lane with that receipt"
-pub record Last (i receipt : ℕ) (ls : List Line) (line : Line) : Type 0 where
+-- P12: of these lines "the last"
+pub record Last (i : ℕ) (r : Reference) (ls : List Line) (line : Line) : Type 0 where
   pub before : List Line
   pub after : List Line
   pub lines : ls ≡ before ++ (line ∷ after)
-  pub concerned : concerns i receipt line ≡ true
-  pub later : NoneOf i receipt after
+  pub concerned : concerns i r line ≡ true
+  pub later : NoneOf i r after
 
--- "It is accepted only if the last .. is a sale."
+-- P12: "the last must be a sale"
 pub record LastIsSale (i receipt : ℕ) (ls : List Line) : Type 0 where
   pub line : Line
-  pub last : Last i receipt ls line
+  pub last : Last i (Sold receipt) ls line
   pub sold : line .kind ≡ Sale
 
--- "17 no sale to reverse": only a reversal asks for one
-abbrev pub ToReverse : State → Call → Type 0
-ToReverse s (sale i amount) = Unit {0}
-ToReverse s (refund i password amount) = Unit {0}
-ToReverse s (reversal i password receipt) = LastIsSale i receipt (s .lines)
-ToReverse s (message i b) = Unit {0}
-ToReverse s (lost i) = Unit {0}
+-- what an opening refers to is there
+abbrev pub Stands : ℕ → Reference → List Line → Type 0
+Stands i Nothing ls = Unit {0}
+Stands i (Sold receipt) ls = LastIsSale i receipt ls
 
--- "Opening writes the command": the bytes of a sale's, a refund's and a reversal's
-abbrev pub commandSize : Call → ℕ
-commandSize (sale i amount) = 13
-commandSize (refund i password amount) = 16
-commandSize (reversal i password receipt) = 9
-commandSize (message i b) = 0
-commandSize (lost i) = 0
+-- R18: a payment that takes a place finds one
+abbrev pub Placed : State → Opening → Type 0
+Placed s o = booked (kindOf o) ≡ true → load s < bookLines
 
--- all that an opening needs beside room for its command: none of "12, 13, 16, 17, 18"
-pub record Ready (s : State) (c : Call) : Type 0 where
-  pub lane : laneOf c < 8
-  pub idle : phaseOf s c ≡ Idle
-  pub within : Within c
-  pub sold : ToReverse s c
-  pub place : load s < 64
+-- all that an opening needs beside room for its command: none of R12, R13, R16, R17, R18
+pub record Ready (s : State) (i : ℕ) (o : Opening) : Type 0 where
+  pub lane : i < laneCount
+  pub idle : phaseAt s i ≡ Idle
+  pub within : Within o
+  pub stands : Stands i (refersTo o) (s .lines)
+  pub placed : Placed s o
 
--- ---- a terminal message
+-- R34: "12, 13, 16, 17, 18, 11"
+pub data OpeningRow (s : State) (i : ℕ) (o : Opening) (room : ℕ) : Decision → Type 0 where
+  no-lane : laneCount ≤ i → OpeningRow s i o room (refuse 12)
+  not-idle : i < laneCount → (phaseAt s i ≡ Idle → ⊥) → OpeningRow s i o room (refuse 13)
+  outside : i < laneCount → phaseAt s i ≡ Idle → (Within o → ⊥) → OpeningRow s i o room (refuse 16)
+  no-sale : i < laneCount → phaseAt s i ≡ Idle → Within o → (receipt : ℕ) → refersTo o ≡ Sold receipt → (LastIsSale i receipt (s .lines) → ⊥)
+      → OpeningRow s i o room (refuse 17)
+  full : i < laneCount → phaseAt s i ≡ Idle → Within o → Stands i (refersTo o) (s .lines) → booked (kindOf o) ≡ true → bookLines ≤ load s
+      → OpeningRow s i o room (refuse 18)
+  tight : Ready s i o → room < commandSize o → OpeningRow s i o room (refuse 11)
+  opened : Ready s i o → commandSize o ≤ room → OpeningRow s i o room accept
+
+-- ---- a message from the terminal
 
 -- a number is one of them
 abbrev pub OneOf : List ℕ → ℕ → Type 0
 OneOf [] x = ⊥
 OneOf (k ∷ ks) x = (k ≡ x) ⊎ OneOf ks x
 
--- "15 pair or non-empty body not allowed in this phase". "waiting: 80 00 with empty body ..; 84 xx with empty body .." Running: 04 FF,
--- 06 D1, 06 D3, 04 0F, 06 1E, 06 0F
+-- R15: "the pair, or a body that is not empty, is not allowed in this phase". Waiting, P15 and P16; running, P19 to P22
 abbrev pub Allowed : Phase → Header → Type 0
 Allowed Idle h = ⊥
 Allowed Waiting h = (h .size ≡ 0) × (((h .class ≡ 0x80) × (h .instruction ≡ 0x00)) ⊎ (h .class ≡ 0x84))
 Allowed Running h = OneOf runningPairs (h .class * 256 + h .instruction)
 
--- "06 1E: .. an empty body is refused with 1"
+-- P21: "06 1E .. an empty body is refused (1)"
 abbrev pub EmptyAbort : Message → Type 0
 EmptyAbort m = ((m .class ≡ 0x06) × (m .instruction ≡ 0x1E)) × (m .body ≡ bytes [])
 
--- "header, 15": the bytes have a header, and the phase allows its pair
-abbrev pub GoodHeader : Phase → List ℕ → Type 0
-GoodHeader p b = (h : Header) × (wholeHeader b ≡ got h) × Allowed p h
+-- R35: "12, 14, header, 15, body, 11"
+pub data HearingRow (s : State) (i : ℕ) (b : List ℕ) (room : ℕ) : Decision → Type 0 where
+  no-lane : laneCount ≤ i → HearingRow s i b room (refuse 12)
+  is-idle : i < laneCount → phaseAt s i ≡ Idle → HearingRow s i b room (refuse 14)
+  bad-header : (n : ℕ) (f : Fault) → i < laneCount → (phaseAt s i ≡ Idle → ⊥) → wholeHeader b ≡ refused f → f .number ≡ n
+      → HearingRow s i b room (refuse n)
+  not-allowed : (h : Header) → i < laneCount → (phaseAt s i ≡ Idle → ⊥) → wholeHeader b ≡ got h → (Allowed (phaseAt s i) h → ⊥)
+      → HearingRow s i b room (refuse 15)
+  bad-body : (n : ℕ) (h : Header) (f : Fault) → i < laneCount → phaseAt s i ≡ Running → wholeHeader b ≡ got h → Allowed Running h
+      → readOf b ≡ refused f → f .number ≡ n → HearingRow s i b room (refuse n)
+  no-code : (h : Header) (m : Message) → i < laneCount → phaseAt s i ≡ Running → wholeHeader b ≡ got h → Allowed Running h
+      → readOf b ≡ got m → EmptyAbort m → HearingRow s i b room (refuse 1)
+  tight : (h : Header) (m : Message) → i < laneCount → phaseAt s i ≡ Running → wholeHeader b ≡ got h → Allowed Running h
+      → readOf b ≡ got m → (EmptyAbort m → ⊥) → room < 3 → HearingRow s i b room (refuse 11)
+  heard-waiting : (h : Header) → i < laneCount → phaseAt s i ≡ Waiting → wholeHeader b ≡ got h → Allowed Waiting h → HearingRow s i b room accept
+  heard-running : (h : Header) (m : Message) → i < laneCount → phaseAt s i ≡ Running → wholeHeader b ≡ got h → Allowed Running h
+      → readOf b ≡ got m → (EmptyAbort m → ⊥) → 3 ≤ room → HearingRow s i b room accept
 
--- "body": the bytes are read, and are no empty 06 1E
-abbrev pub GoodBody : List ℕ → Type 0
-GoodBody b = (m : Message) × (readOf b ≡ got m) × (EmptyAbort m → ⊥)
+-- ---- a lost link
 
--- "header": it is refused with that number
-abbrev pub HeaderNo : List ℕ → ℕ → Type 0
-HeaderNo b n = (f : Fault) × (wholeHeader b ≡ refused f) × (f .number ≡ n)
+-- R36: "12, 14"
+pub data LosingRow (s : State) (i room : ℕ) : Decision → Type 0 where
+  no-lane : laneCount ≤ i → LosingRow s i room (refuse 12)
+  is-idle : i < laneCount → phaseAt s i ≡ Idle → LosingRow s i room (refuse 14)
+  ended : i < laneCount → (phaseAt s i ≡ Idle → ⊥) → LosingRow s i room accept
 
--- "body": it is refused with that number, or "an empty body" of 06 1E "with 1"
-abbrev pub BodyNo : List ℕ → ℕ → Type 0
-BodyNo b n = ((f : Fault) × (readOf b ≡ refused f) × (f .number ≡ n)) ⊎ ((m : Message) × (readOf b ≡ got m) × EmptyAbort m × (1 ≡ n))
+-- the rows of a call
+abbrev pub Row : State → Call → ℕ → Decision → Type 0
+Row s (opening i o) room = OpeningRow s i o room
+Row s (message i b) room = HearingRow s i b room
+Row s (lost i) room = LosingRow s i room
 
--- "14, header, 15, body": the header's number on a lane that is not idle, the body's on one that is running
-abbrev pub Unread : State → ℕ → List ℕ → ℕ → Type 0
-Unread s i b n = ((phaseAt s i ≡ Idle → ⊥) × HeaderNo b n) ⊎ ((phaseAt s i ≡ Running) × GoodHeader Running b × BodyNo b n)
+-- ---- what a command says
 
--- waiting no room is needed: "Neither gets a reply." "Running, each answered with 80 00 00"
-abbrev pub Heard : State → ℕ → List ℕ → ℕ → Type 0
-Heard s i b room =
-    ((phaseAt s i ≡ Waiting) × GoodHeader Waiting b) ⊎ ((phaseAt s i ≡ Running) × GoodHeader Running b × GoodBody b × (3 ≤ room))
+-- the list has that field, and its digits are that number
+abbrev pub FieldIs : List Field → ℕ → ℕ → Type 0
+FieldIs fs id n = (value : List ℕ) × (valueIn id fs ≡ found value) × (numberOf value ≡ n)
+
+-- P7: "fields 04 and 49", "Commands name the currency 0978."
+abbrev pub MoneyIs : List Field → ℕ → Type 0
+MoneyIs fs amount = FieldIs fs 0x04 amount × (valueIn 0x49 fs ≡ found (0x09 ∷ (0x78 ∷ [])))
+
+-- class 06 with that instruction; behind a password its fields
+abbrev pub Pair : Message → ℕ → Type 0
+Pair m instruction = (m .class ≡ 0x06) × (m .instruction ≡ instruction)
+
+abbrev pub Behind : Message → ℕ → (List Field → Type 0) → Type 0
+Behind m password Says = (word : List ℕ) × (fs : List Field) × (m .body ≡ listed word fs) × (numberOf word ≡ password) × Says fs
+
+-- P9, P10, P11
+abbrev pub Commands : Opening → Message → Type 0
+Commands (sale amount) m = Pair m 0x01 × (fs : List Field) × (m .body ≡ listed [] fs) × MoneyIs fs amount
+Commands (refund password amount) m = Pair m 0x31 × Behind m password (λ fs. MoneyIs fs amount)
+Commands (reversal password receipt) m = Pair m 0x30 × Behind m password (λ fs. FieldIs fs 0x87 receipt)

@@ -1,4 +1,5 @@
--- "Net turnover is a signed number." The third demand: "approved sales less approved reversals and refunds". Definitions only.
+-- P34: "Net turnover is the settled amounts of approved sales less those of approved refunds and reversals. It may be negative."
+-- Definitions only.
 use mathlib.Core.List.{List, [], _∷_}
 use Prim.Native.Nat.{ℕ, _+_}
 use lib.IntN.{ℤ, pos, _-ℤ_}
@@ -9,14 +10,14 @@ use Rattle.desk_rules.specs.declared.Outcome.the-variants.{Unclear, Decl
 use Rattle.desk_rules.specs.declared.Line.{Line}
 
 -- the settled amount of an approved line of a kind that adds, and of one that takes away
-unfoldable pub gain : Outcome → Kind → ℕ → ℕ
+abbrev pub gain : Outcome → Kind → ℕ → ℕ
 gain Approved Sale settled = settled
 gain Approved Refund settled = 0
 gain Approved Reversal settled = 0
 gain Declined kind settled = 0
 gain Unclear kind settled = 0
 
-unfoldable pub loss : Outcome → Kind → ℕ → ℕ
+abbrev pub loss : Outcome → Kind → ℕ → ℕ
 loss Approved Sale settled = 0
 loss Approved Refund settled = settled
 loss Approved Reversal settled = settled

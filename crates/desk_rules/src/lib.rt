@@ -1,14 +1,18 @@
-// What a lane, a line, the day book and the desk are, with their limits. The course of a payment stands in specs/, its laws in
-// proofs/; the functions of the desk stand in crate desk.
+// What an opening, a lane, a line, the day book and the desk are, with their limits and the questions that can be put to them. The
+// course of a payment stands in specs/, its laws in proofs/; the functions of the desk stand in crate desk.
 use zvt_rules::Refusal;
 use zvt_rules::Status;
 use zvt_rules::ToldAmount;
 use zvt_rules::ToldCode;
 use zvt_rules::ToldReceipt;
 ghost use mathlib.Core.Path.{_≡_};
-ghost use Rattle.desk_rules.specs.Lanes.{noStatus, blankLine, idleLane, waitingLane, runningLane, reportedLane};
+ghost use mathlib.Core.Bool.{_&&_};
+ghost use Rattle.desk_rules.specs.Kinds.{isSale, isReversal, booked, isApproved, isIdle};
+ghost use Rattle.desk_rules.specs.Lanes.{noStatus, blankLine, idleLane, waitingLane, runningLane, reportedLane, placeTaken};
 ghost use Rattle.desk_rules.specs.Memory.{emptyBook, freshDesk};
 ghost use Rattle.desk_rules.specs.Numbers.{amountOk, receiptOk, passwordOk};
+ghost use Rattle.desk_rules.specs.Openings.{kindOf, withinLimits, refersTo, askedBy, namedBy, commandSize, looksAt, receiptNamed, concerns, sold, openedLane};
+ghost use Rattle.desk_rules.specs.Turnover.{gain, loss};
 
 pub enum Kind {
     Sale,
@@ -28,6 +32,20 @@ pub enum Phase {
     Idle,
     Waiting,
     Running,
+}
+
+// What a till asks a terminal for: a sale of an amount; a refund, by password and amount; the reversal of a sale, by password and
+// receipt.
+pub enum Opening {
+    Sale(u64),
+    Refund(u32, u64),
+    Reversal(u32, u16),
+}
+
+// The line that an opening refers to: none, or the sale with that receipt.
+pub enum Reference {
+    Nothing,
+    Sold(u16),
 }
 
 // A lane: its phase, what was asked, the receipt that a reversal names (else 0), and the remembered status.
@@ -60,12 +78,12 @@ pub enum Moved {
 
 // The day book: its lines so far are the first count.
 pub struct Book {
-    pub lines: [Line; 64],
+    pub lines: [Line; Book::LINES],
     pub count: usize,
 }
 
 pub struct Desk {
-    pub lanes: [Lane; 8],
+    pub lanes: [Lane; Lane::COUNT as usize],
     pub book: Book,
 }
 
@@ -88,6 +106,170 @@ pub enum LineAnswer {
 pub enum LaneAnswer {
     Refused(Refusal),
     Lane(Lane),
+}
+
+impl Kind {
+    pub fn is_sale(self) -> bool
+        ensures { λ r. ⌜ r ≡ isSale self ⌝ }
+    {
+        match self {
+            Kind::Sale => true,
+            Kind::Refund => false,
+            Kind::Reversal => false,
+        }
+    }
+
+    pub fn is_reversal(self) -> bool
+        ensures { λ r. ⌜ r ≡ isReversal self ⌝ }
+    {
+        match self {
+            Kind::Sale => false,
+            Kind::Refund => false,
+            Kind::Reversal => true,
+        }
+    }
+
+    // Whether an open lane of this kind takes a place in the book, and its end puts a line there.
+    pub fn booked(self) -> bool
+        ensures { λ r. ⌜ r ≡ booked self ⌝ }
+    {
+        match self {
+            Kind::Sale => true,
+            Kind::Refund => true,
+            Kind::Reversal => true,
+        }
+    }
+}
+
+impl Outcome {
+    pub fn is_approved(self) -> bool
+        ensures { λ r. ⌜ r ≡ isApproved self ⌝ }
+    {
+        match self {
+            Outcome::Unclear => false,
+            Outcome::Declined => false,
+            Outcome::Approved => true,
+        }
+    }
+}
+
+impl Phase {
+    pub fn is_idle(self) -> bool
+        ensures { λ r. ⌜ r ≡ isIdle self ⌝ }
+    {
+        match self {
+            Phase::Idle => true,
+            Phase::Waiting => false,
+            Phase::Running => false,
+        }
+    }
+}
+
+impl Opening {
+    pub const MOST_COMMAND: usize = 16;
+
+    pub fn kind(self) -> Kind
+        ensures { λ r. ⌜ r ≡ kindOf self ⌝ }
+    {
+        match self {
+            Opening::Sale(_) => Kind::Sale,
+            Opening::Refund(_, _) => Kind::Refund,
+            Opening::Reversal(_, _) => Kind::Reversal,
+        }
+    }
+
+    pub fn within_limits(self) -> bool
+        ensures { λ r. ⌜ r ≡ withinLimits self ⌝ }
+    {
+        match self {
+            Opening::Sale(amount) => Lane::amount_ok(amount),
+            Opening::Refund(password, amount) => {
+                both(Lane::password_ok(password), Lane::amount_ok(amount))
+            }
+            Opening::Reversal(password, receipt) => {
+                both(Lane::password_ok(password), Lane::receipt_ok(receipt))
+            }
+        }
+    }
+
+    pub fn reference(self) -> Reference
+        ensures { λ r. ⌜ r ≡ refersTo self ⌝ }
+    {
+        match self {
+            Opening::Sale(_) => Reference::Nothing,
+            Opening::Refund(_, _) => Reference::Nothing,
+            Opening::Reversal(_, receipt) => Reference::Sold(receipt),
+        }
+    }
+
+    // The amount that it asks for, where it refers to that line.
+    pub fn asked(self, line: Line) -> u64
+        ensures { λ r. ⌜ r ≡ askedBy self line ⌝ }
+    {
+        match self {
+            Opening::Sale(amount) => amount,
+            Opening::Refund(_, amount) => amount,
+            Opening::Reversal(_, _) => line.settled,
+        }
+    }
+
+    pub fn named(self) -> u16
+        ensures { λ r. ⌜ r ≡ namedBy self ⌝ }
+    {
+        match self {
+            Opening::Sale(_) => 0,
+            Opening::Refund(_, _) => 0,
+            Opening::Reversal(_, receipt) => receipt,
+        }
+    }
+
+    pub fn command_size(self) -> usize
+        ensures { λ r. ⌜ r ≡ commandSize self ⌝ }
+    {
+        match self {
+            Opening::Sale(_) => 13,
+            Opening::Refund(_, _) => Opening::MOST_COMMAND,
+            Opening::Reversal(_, _) => 9,
+        }
+    }
+
+    // The lane that it opens, where it refers to that line.
+    pub fn lane(self, line: Line) -> Lane
+        ensures { λ r. ⌜ r ≡ openedLane self line ⌝ }
+    {
+        Lane::waiting(self.kind(), self.asked(line), self.named())
+    }
+}
+
+impl Reference {
+    // Whether it looks at lines of that kind.
+    pub fn looks_at(self, kind: Kind) -> bool
+        ensures { λ r. ⌜ r ≡ looksAt self kind ⌝ }
+    {
+        match self {
+            Reference::Nothing => false,
+            Reference::Sold(_) => match kind {
+                Kind::Sale => true,
+                Kind::Refund => false,
+                Kind::Reversal => true,
+            },
+        }
+    }
+
+    pub fn receipt(self) -> u16
+        ensures { λ r. ⌜ r ≡ receiptNamed self ⌝ }
+    {
+        match self {
+            Reference::Nothing => 0,
+            Reference::Sold(receipt) => receipt,
+        }
+    }
+}
+
+fn both(a: bool, b: bool) -> bool
+    ensures { λ r. ⌜ r ≡ (a && b) ⌝ }
+{
+    if a { b } else { false }
 }
 
 impl Lane {
@@ -151,6 +333,18 @@ impl Lane {
         }
     }
 
+    // The place that it takes in the book: one, where a payment is open that is booked.
+    pub fn place_taken(self) -> usize
+        ensures { λ r. ⌜ r ≡ placeTaken self ⌝ }
+    {
+        let phase = self.phase;
+        if phase.is_idle() {
+            return 0;
+        }
+        let kind = self.kind;
+        if kind.booked() { 1 } else { 0 }
+    }
+
     pub fn amount_ok(amount: u64) -> bool
         ensures { λ r. ⌜ r ≡ amountOk amount ⌝ }
     {
@@ -190,6 +384,72 @@ impl Line {
             code: 0,
         }
     }
+
+    pub fn is_approved(self) -> bool
+        ensures { λ r. ⌜ r ≡ isApproved (self .outcome) ⌝ }
+    {
+        let outcome = self.outcome;
+        outcome.is_approved()
+    }
+
+    // An approved sale.
+    pub fn is_sold(self) -> bool
+        ensures { λ r. ⌜ r ≡ sold self ⌝ }
+    {
+        let kind = self.kind;
+        both(self.is_approved(), kind.is_sale())
+    }
+
+    // A line of that lane that the reference looks at.
+    pub fn concerns(self, lane: u8, reference: Reference) -> bool
+        ensures { λ r. ⌜ r ≡ concerns lane reference self ⌝ }
+    {
+        if self.lane != lane {
+            return false;
+        }
+        if self.receipt != reference.receipt() {
+            return false;
+        }
+        if !self.is_approved() {
+            return false;
+        }
+        let kind = self.kind;
+        reference.looks_at(kind)
+    }
+
+    // What it adds to the turnover.
+    pub fn gain(self) -> u64
+        ensures { λ r. ⌜ r ≡ gain (self .outcome) (self .kind) (self .settled) ⌝ }
+    {
+        let outcome = self.outcome;
+        let kind = self.kind;
+        match outcome {
+            Outcome::Unclear => 0,
+            Outcome::Declined => 0,
+            Outcome::Approved => match kind {
+                Kind::Sale => self.settled,
+                Kind::Refund => 0,
+                Kind::Reversal => 0,
+            },
+        }
+    }
+
+    // What it takes off the turnover.
+    pub fn loss(self) -> u64
+        ensures { λ r. ⌜ r ≡ loss (self .outcome) (self .kind) (self .settled) ⌝ }
+    {
+        let outcome = self.outcome;
+        let kind = self.kind;
+        match outcome {
+            Outcome::Unclear => 0,
+            Outcome::Declined => 0,
+            Outcome::Approved => match kind {
+                Kind::Sale => 0,
+                Kind::Refund => self.settled,
+                Kind::Reversal => self.settled,
+            },
+        }
+    }
 }
 
 // A status that no terminal reported.
@@ -224,7 +484,7 @@ impl Desk {
         let l = Lane::idle();
         let b = Book::empty();
         Desk {
-            lanes: [l; 8],
+            lanes: [l; Lane::COUNT as usize],
             book: b,
         }
     }
