@@ -164,7 +164,7 @@ module _ (l : Lane) (i : ℕ) (s : List ℕ) where
       go (got m) e = rw (n m e)
 
   waiting : (h : Header) → wholeHeader s ≡ got h → Goes (heardWaiting l h)
-  unfolding heardWaiting verdict verdictOf readOf isIdle
+  unfolding heardWaiting verdict verdictOf readOf
   waiting h w =
       pick-test Goes (eqb (h .size) 0)
       (λ _. pick-test Goes (pairIs (h .class) (h .instruction) 0x80 0x00)

@@ -57,14 +57,13 @@ module _ (i : ℕ) (r : Reference) where
   last-found first (l ∷ ls) = found-more first l ls _ (concerns i r l) refl (last-found _ ls)
 
 is-sale : (k : Kind) → isSale k ≡ true → k ≡ Sale
-unfolding isSale
 is-sale Sale e = refl
 is-sale Refund e = absurd (let z : _≡_ {A = ℕ} 0 1 = cc in omega arith)
 is-sale Reversal e = absurd (let z : _≡_ {A = ℕ} 0 1 = cc in omega arith)
 
 pub last-sale : (i receipt : ℕ) (ls : List Line)
     → (sold (lastLine i (Sold receipt) ls) ≡ true) ↔ LastIsSale i receipt ls
-unfolding lastLine concerns isApproved isSale Found
+unfolding lastLine concerns Found
 last-sale i receipt ls = (
   λ e. ⊎-elim (λ k. record { line = _; last = k; sold = is-sale _ (and-eq-true-iff (isApproved (lastLine i (Sold receipt) ls .outcome)) _ .0 e .1) })
       (λ k. absurd (false≢true (rw (k .1) at e))) (last-found i (Sold receipt) blankLine ls),

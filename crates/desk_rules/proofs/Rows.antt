@@ -58,7 +58,6 @@ or-test {t = true} r q = (λ e. inl (r .0 refl), λ k. refl)
 or-test {t = false} r q = (λ e. inr (q .0 e), ⊎-elim (λ a. absurd (false≢true (r .1 a))) (q .1))
 
 idle-test : (p : Phase) → (isIdle p ≡ true) ↔ (p ≡ Idle)
-unfolding isIdle
 idle-test Idle = (λ e. refl, λ e. refl)
 idle-test Waiting = (λ e. absurd (false≢true e), λ e. cc)
 idle-test Running = (λ e. absurd (false≢true e), λ e. cc)
@@ -293,11 +292,11 @@ module _ (s : State) (i : ℕ) (b : List ℕ) (room : ℕ) where
 
   from-body : (h : Header) (m : Message) → i < laneCount → phaseAt s i ≡ Running → wholeHeader b ≡ got h → Allowed Running h → readOf b ≡ got m
       → decide s (message i b) room ≡ pick (emptyAbort m) (refuse 1) (pick (ltb room 3) (refuse 11) accept)
-  unfolding isIdle further afterBody said answered
+  unfolding further afterBody said answered
   from-body h m l q e a r = from-allowed Running h l q refl e a ∙ rw r (moved-says b _ m _ r)
 
   hearing-given : {d : Decision} → HearingRow s i b room d → decide s (message i b) room ≡ d
-  unfolding decide unlessRefused isIdle heard afterHeader further afterBody laneOf
+  unfolding decide unlessRefused heard afterHeader further afterBody laneOf
   hearing-given (no-lane k) = rw (le-leb laneCount i k)
   hearing-given (is-idle l d) = from-lane l ∙ rw (idle-test (phaseAt s i) .1 d)
   hearing-given (bad-header n f l k e q) = from-header l k ∙ rw e (ap refuse q)

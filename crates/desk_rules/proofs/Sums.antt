@@ -78,7 +78,6 @@ unfolding losses
 losses-take = sum-take lossOf losses refl (λ l ls. refl) blankLine
 
 gain-most : (o : Outcome) (k : Kind) (n : ℕ) → gain o k n ≤ n
-unfolding gain
 gain-most Unclear k n = omega arith
 gain-most Declined k n = omega arith
 gain-most Approved Sale n = omega arith
@@ -86,7 +85,6 @@ gain-most Approved Refund n = omega arith
 gain-most Approved Reversal n = omega arith
 
 loss-most : (o : Outcome) (k : Kind) (n : ℕ) → loss o k n ≤ n
-unfolding loss
 loss-most Unclear k n = omega arith
 loss-most Declined k n = omega arith
 loss-most Approved Sale n = omega arith
