@@ -18,18 +18,6 @@ list : (c : tie.After-from)
     ListIn (g .0) (g .1 .0) s × (listedMessage (readOf s) ≡ listedIn (g .0) (g .1 .0) s)
 list c = list-at _ _ _ (bytes-known _ (start c .shared-slice-known .given)) (sym (c .before .before .list-place .ensures) ∙ c .from .given .1)
 
-list-place-requires : tie.Need-list-place-requires
-list-place-requires c κs = search needs
-
-enum-told : tie.Need-enum-told
-enum-told c = search needs
-
-enum-known-from : tie.Need-enum-known-from
-enum-known-from c = search needs
-
-nth-requires : tie.Need-nth-requires
-nth-requires c κs = list (c .before) .0
-
 returns : tie.Need-returns
 unfolding fieldAnswer nthListed
 returns c = sym (ap (nthListed _) (list-nowhere _ (sym (c .before .before .list-place .ensures) ∙ c .enum-told .given .1)))
@@ -41,4 +29,5 @@ returns-2 c = c .nth .ensures ∙ ap (nthListed _) (sym (list (c .before .before
 pub field-at-spec : {M : Type 1} → statement M
 field-at-spec =
     tie.close
-    (tie.spec list-place-requires enum-told enum-known-from nth-requires returns returns-2)
+    (tie.spec (λ c κs. search needs) (λ c. search needs) (λ c. search needs) (λ c κs. list (c .before) .0) returns
+    returns-2)

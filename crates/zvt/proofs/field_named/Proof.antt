@@ -18,18 +18,6 @@ list : (c : tie.After-from)
     ListIn (g .0) (g .1 .0) s × (listedMessage (readOf s) ≡ listedIn (g .0) (g .1 .0) s)
 list c = list-at _ _ _ (bytes-known _ (start c .shared-slice-known .given)) (sym (c .before .before .list-place .ensures) ∙ c .from .given .1)
 
-list-place-requires : tie.Need-list-place-requires
-list-place-requires c κs = search needs
-
-enum-told : tie.Need-enum-told
-enum-told c = search needs
-
-enum-known-from : tie.Need-enum-known-from
-enum-known-from c = search needs
-
-named-requires : tie.Need-named-requires
-named-requires c κs = list (c .before) .0
-
 returns : tie.Need-returns
 unfolding namedAnswer namedListed
 returns c = sym (ap (namedListed _) (list-nowhere _ (sym (c .before .before .list-place .ensures) ∙ c .enum-told .given .1)))
@@ -41,4 +29,5 @@ returns-2 c = c .named .ensures ∙ ap (namedListed _) (sym (list (c .before .be
 pub field-named-spec : {M : Type 1} → statement M
 field-named-spec =
     tie.close
-    (tie.spec list-place-requires enum-told enum-known-from named-requires returns returns-2)
+    (tie.spec (λ c κs. search needs) (λ c. search needs) (λ c. search needs) (λ c κs. list (c .before) .0) returns
+    returns-2)

@@ -14,8 +14,5 @@ returns-2 c =
     described-start _ _ _ (c .before .before .before .before .if1 .taken) (c .if3 .left)
     (⊎-elim (λ w. eq-eqb _ _ (w .0 .taken) ∙ sym (w .1)) (λ w. ne-eqb _ _ (w .0 .left) ∙ sym (w .1)) (c .before .before .if2 .came))
 
-returns-3 : tie.Need-returns-3
-returns-3 c = described-spare _ _ (c .if1 .left)
-
 pub message-of-spec : {M : Type 1} → statement M
-message-of-spec = tie.close (tie.spec returns returns-2 returns-3)
+message-of-spec = tie.close (tie.spec returns returns-2 (λ c. described-spare _ _ (c .if1 .left)))

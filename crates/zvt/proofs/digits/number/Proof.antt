@@ -19,9 +19,6 @@ loop-holds : tie.Need-loop-holds Inv-loop μ-loop
 unfolding numberOf
 loop-holds c = (omega arith, refl, omega arith)
 
-shared-slice-read-b : tie.Need-shared-slice-read-b Inv-loop μ-loop
-shared-slice-read-b c = omega arith
-
 cast-b : tie.Need-cast-b Inv-loop μ-loop
 cast-b c = omega (arith, c .shared-slice-known .given (c .before .before .loop .i))
 
@@ -37,12 +34,6 @@ add-v c = let l = c .before .before .loop in omega (arith, c .shared-slice-known
 add-v-2 : tie.Need-add-v-2 Inv-loop μ-loop
 add-v-2 c = let l = c .before .before .loop in omega (arith, c .shared-slice-known .given (l .i), small-six (l .i) (l .v) (omega arith) (l .inv .2))
 
-add-i : tie.Need-add-i Inv-loop μ-loop
-add-i c = omega arith
-
-loop-less : tie.Need-loop-less Inv-loop μ-loop
-loop-less c = omega arith
-
 loop-again : tie.Need-loop-again Inv-loop μ-loop
 loop-again c =
     let l = c .before .before .loop in
@@ -55,17 +46,5 @@ returns c = let l = c .before .loop in let s = c .before .before .args .s .now i
 pub number-spec : {M : Type 1} → statement M
 number-spec =
     tie.close
-    (tie.spec
-    Inv-loop
-    μ-loop
-    loop-holds
-    shared-slice-read-b
-    cast-b
-    mul-v
-    mul-v-2
-    add-v
-    add-v-2
-    add-i
-    loop-less
-    loop-again
-    returns)
+    (tie.spec Inv-loop μ-loop loop-holds (λ c. omega arith) cast-b mul-v mul-v-2 add-v add-v-2 (λ c. omega arith)
+    (λ c. omega arith) loop-again returns)

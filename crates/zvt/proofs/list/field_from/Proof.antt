@@ -29,21 +29,6 @@ returns : tie.Need-returns
 unfolding firstListed
 returns c = sym (ap firstListed (list-empty _ _ _ (c .if1 .taken)))
 
-shared-slice-read-id : tie.Need-shared-slice-read-id
-shared-slice-read-id c = search needs
-
-sub-field-bounds : tie.Need-sub-field-bounds
-sub-field-bounds c = search needs
-
-part-field-bounds-start : tie.Need-part-field-bounds-start
-part-field-bounds-start c = search needs
-
-part-field-bounds-end : tie.Need-part-field-bounds-end
-part-field-bounds-end c = search needs
-
-format-of-requires : tie.Need-format-of-requires
-format-of-requires c κs = search needs
-
 field-bounds-requires : tie.Need-field-bounds-requires
 field-bounds-requires c κs =
     let g = c .before .before .before in
@@ -52,12 +37,6 @@ field-bounds-requires c κs =
     let less : a .at < a .end = omega (arith, l .order, g .if1 .left) in
     let size = part-length (a .s .now) (a .at) (a .end) (l .order) (l .inside) in
     (omega (arith, size, l .short), omega (arith, size), rw (part-first (a .at) (a .end) (a .s .now) (l .order) (l .inside) less) (c .format-of .ensures))
-
-enum-told : tie.Need-enum-told
-enum-told c = search needs
-
-enum-known-b : tie.Need-enum-known-b
-enum-known-b c = search needs
 
 add-from : tie.Need-add-from
 add-from c = let k = found (c .before .before) in omega (arith, k .0, k .1)
@@ -72,23 +51,9 @@ returns-2 c =
     (first-never _ _ _ (bytes-known _ (g .before .shared-slice-known .given)) (g .before .before .pre) (g .if1 .left) _
     (sym (c .before .before .field-bounds .ensures) ∙ c .enum-told .given .1))
 
-returns-3 : tie.Need-returns-3
-returns-3 c = found (c .before .before .before) .2
-
 pub field-from-spec : {M : Type 1} → statement M
 field-from-spec =
     tie.close
-    (tie.spec
-    returns
-    shared-slice-read-id
-    sub-field-bounds
-    part-field-bounds-start
-    part-field-bounds-end
-    format-of-requires
-    field-bounds-requires
-    enum-told
-    enum-known-b
-    add-from
-    add-to
-    returns-2
-    returns-3)
+    (tie.spec returns (λ c. search needs) (λ c. search needs) (λ c. search needs) (λ c. search needs)
+    (λ c κs. search needs) field-bounds-requires (λ c. search needs) (λ c. search needs) add-from add-to returns-2
+    (λ c. found (c .before .before .before) .2))

@@ -23,32 +23,17 @@ next c =
     let l = c .before .before .before in
     next-in _ _ _ _ (bytes-known _ (l .before .shared-slice-known .given)) (l .loop .inv .0) (sym (c .before .before .field-from .ensures) ∙ c .f .given .1)
 
-loop-holds : tie.Need-loop-holds Inv-loop μ-loop
-loop-holds c = (c .before .pre, refl)
-
-field-from-requires : tie.Need-field-from-requires Inv-loop μ-loop
-field-from-requires c κs = c .loop .inv .0
-
-enum-told : tie.Need-enum-told Inv-loop μ-loop
-enum-told c = search needs
-
 returns : tie.Need-returns Inv-loop μ-loop
 returns c =
     let g = c .before .before in
     let l = g .before .loop in
     sym (nth-end (l .left) _ (sym (g .field-from .ensures) ∙ c .enum-told .given .1)) ∙ l .inv .1
 
-enum-known-f : tie.Need-enum-known-f Inv-loop μ-loop
-enum-known-f c = search needs
-
 returns-2 : tie.Need-returns-2 Inv-loop μ-loop
 returns-2 c =
     let f = c .before .before in
     let g = f .before .before .before in
     sym (nth-here _ _ _ (c .if1 .taken)) ∙ ap (nthListed _) (sym (next f .2)) ∙ g .loop .inv .1
-
-sub-left : tie.Need-sub-left Inv-loop μ-loop
-sub-left c = omega arith
 
 loop-less : tie.Need-loop-less Inv-loop μ-loop
 loop-less c =
@@ -65,15 +50,5 @@ loop-again c =
 pub nth-spec : {M : Type 1} → statement M
 nth-spec =
     tie.close
-    (tie.spec
-    Inv-loop
-    μ-loop
-    loop-holds
-    field-from-requires
-    enum-told
-    returns
-    enum-known-f
-    returns-2
-    sub-left
-    loop-less
-    loop-again)
+    (tie.spec Inv-loop μ-loop (λ c. (c .before .pre, refl)) (λ c κs. c .loop .inv .0) (λ c. search needs) returns
+    (λ c. search needs) returns-2 (λ c. omega arith) loop-less loop-again)

@@ -14,9 +14,6 @@ put-requires c κs =
     let h = headBytes (s .args .tag .now) (length (s .args .value .now)) in
     omega (arith, s .pre .1, length-append h (s .args .value .now))
 
-slice-relend-prefix-put-head : tie.Need-slice-relend-prefix-put-head
-slice-relend-prefix-put-head c = search needs
-
 slice-aggregate-put-head : tie.Need-slice-aggregate-put-head
 unfolding valueBytes
 slice-aggregate-put-head c =
@@ -31,9 +28,6 @@ put-head-requires c κs =
     let h = headBytes (s .args .tag .now) (length (s .args .value .now)) in
     (s .pre .0, room h (c .before .before .before .put .ensures) (s .pre .1))
 
-same-length : tie.Need-same-length
-same-length c = search needs
-
 returns : tie.Need-returns
 unfolding valueBytes
 returns c =
@@ -44,10 +38,4 @@ returns c =
 pub put-leaf-spec : {M : Type 1} → statement M
 put-leaf-spec =
     tie.close
-    (tie.spec
-    put-requires
-    slice-relend-prefix-put-head
-    slice-aggregate-put-head
-    put-head-requires
-    same-length
-    returns)
+    (tie.spec put-requires (λ c. search needs) slice-aggregate-put-head put-head-requires (λ c. search needs) returns)
