@@ -1,6 +1,6 @@
 -- What the readers of a header answer, case by case. Assumes nothing.
 use mathlib.Core.Path.{_≡_, refl, ap, _∙_}
-use mathlib.Core.Bool.{Bool, true, false}
+use mathlib.Core.Bool.{true, false}
 use mathlib.Core.List.{List, [], _∷_}
 use Prim.Native.Nat.{ℕ, _+_, _-_, _*_, _<_, _≤_}
 use native.Mathlib.Omega.{arith}
@@ -9,16 +9,15 @@ use lib.Dec.{ltb}
 use borrow.Author.Tests.{lt-ltb, le-ltb, ne-eqb}
 use Rattle.zvt_rules.specs.declared.Fault.{Fault}
 use Rattle.zvt_rules.specs.Reading.{Reading, got, refused, noHeader, unless, andThen}
-use Rattle.zvt_rules.specs.Message.{BodyLength, longLength, lengthOf, Header as MessageHeader, headerSize, end, headerWith, headerOf, wholeHeader}
-use Rattle.zvt_rules.proofs.Readings.{unless-got, then-got, then-on, then-stop}
-use Rattle.zvt_rules.proofs.FieldSteps.{header-in}
+use Rattle.zvt_rules.specs.Message.{BodyLength, longLength, lengthOf, Header as MessageHeader, end, headerWith, headerOf, wholeHeader}
+use Rattle.zvt_rules.proofs.Readings.{unless-got, then-got, then-on, then-stop, unless-then}
+use Rattle.zvt_rules.proofs.FieldSteps.{header-most, header-in}
 use Rattle.zvt.specs.declared.Header.{Header}
 use Rattle.zvt.specs.declared.headers.HeaderRead.{HeaderRead}
 use Rattle.zvt.specs.declared.headers.HeaderRead.the-variants.{Header as header-read, Refused as header-refused}
 use Rattle.zvt.specs.Header.{asHeader, headerIn, fitting, firstHeader, wholeAnswer}
 use Rattle.zvt.specs.declared.HeaderAnswer.the-variants.{Header as answer-got, Refused as answer-no}
 use Rattle.zvt.specs.Answers.{refusalOf, asHeaderAnswer, headerAnswer}
-use Rattle.zvt.proofs.ObjectLaws.{unless-then}
 
 -- ---- where the body lies
 pub fit-over : (h : Header) (s : List ℕ) → 4096 < h .length → fitting h s ≡ header-refused (noHeader 2)
@@ -123,13 +122,9 @@ whole-first s m e =
 abbrev pub Within : Header → List ℕ → Type 0
 Within h s = (h .start ≤ 5) × (h .length ≤ 4096) × (h .start + h .length ≤ length s)
 
-starts : (long : Bool) → headerSize long ≤ 5
-starts true = omega arith
-starts false = omega arith
-
 got-within : (s : List ℕ) (m : MessageHeader) → headerOf s ≡ got m → Within (headerIn m) s
 unfolding headerIn
-got-within s m e = let i = header-in s m e in (starts (m .long), i .0, i .1)
+got-within s m e = let i = header-in s m e in (header-most (m .long), i .0, i .1)
 
 pub first-within : (s : List ℕ) (h : Header) → firstHeader s ≡ header-read h → Within h s
 first-within s h e = let g = first-got s h e in rw (← (g .2)) (got-within s (g .0) (g .1))

@@ -12,7 +12,7 @@ use Rattle.zvt_rules.specs.Objects.{longTag, topBit, nested, formSize, secondTa
 use Rattle.zvt_rules.specs.Objects.{Head, headWith, headOf}
 use Rattle.zvt_rules.specs.Shortest.{formFor}
 use Rattle.zvt.specs.declared.objects.TagRead.the-variants.{Size, Refused as tag-refused}
-use Rattle.zvt_rules.proofs.Readings.{then-on, then-stop}
+use Rattle.zvt_rules.proofs.Readings.{then-on, then-stop, unless-then}
 use Rattle.zvt_rules.proofs.ObjectSteps.{tail, tag-in, len-in}
 use Rattle.zvt.specs.declared.objects.LenRead.{LenRead}
 use Rattle.zvt.specs.declared.objects.LenRead.the-variants.{Len as len-read, Refused as len-refused}
@@ -144,11 +144,6 @@ tag-within at k s e = tag-in at s k (tag-got _ k e)
 pub head-no-tag : (at : ℕ) (s : List ℕ) (r : Fault) → tagAnswer at s ≡ tag-refused r → headAnswer at s ≡ bounds-refused r
 unfolding headAnswer asBounds headOf tagAnswer
 head-no-tag at s r e = ap asBounds (then-stop _ r (then-stop _ r (tag-stopped _ r e)))
-
-pub unless-then : {A B : Type 0} (t : Bool) (r : Fault) (x : Reading A) (f : A → Reading B) → andThen (unless t r x) f ≡ unless t r (andThen x f)
-unfolding unless andThen
-unless-then true r x f = refl
-unless-then false r x f = refl
 
 with-bounds : (at k : ℕ) (s : List ℕ) (l : Len)
     → asBounds (andThen (headWith at s k l) λ h. got (boundsOf s h))

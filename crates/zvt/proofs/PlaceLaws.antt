@@ -16,10 +16,12 @@ use Rattle.zvt_rules.specs.Reading.{Reading, got, refused, pick, part, among}
 use Rattle.zvt_rules.specs.Fields.{Field, listOf}
 use Rattle.zvt_rules.specs.Message.{headerSize, layoutOf, Body, bytes, listed, Message as MessageTree, readOf}
 use Rattle.zvt_rules.specs.Writing.{listBytes, bodyBytes, lengthBytes, messageBytes}
-use Rattle.zvt_rules.specs.Grammar.{Bytes, FieldsOk, LayoutOk, LengthOk, MessageOk}
+use Rattle.zvt_rules.specs.Grammar.{Bytes, FieldsOk, LayoutOk, MessageOk}
 use Rattle.zvt_rules.proofs.ObjectSteps.{tail}
 use Rattle.zvt_rules.proofs.FieldBytes.{list-complete}
+use Rattle.zvt_rules.proofs.FieldSteps.{header-most}
 use Rattle.zvt_rules.proofs.MessageBytes.{read-sound, message-size}
+use Rattle.zvt_rules.proofs.MessageShort.{fields-ok, length-bound}
 use Rattle.zvt_rules.specs.declared.Refusal.{Refusal}
 use Rattle.zvt.specs.declared.Message.{Message}
 use Rattle.zvt.specs.declared.ReadAnswer.the-variants.{Accepted, Refused}
@@ -33,22 +35,11 @@ use Rattle.zvt.specs.Name.{NameAt, own, nameIn, nameOf, nameAt}
 use Rattle.zvt.specs.Writing.{ListReads}
 
 -- ---- the list of a message that is read
-pub fields-ok : (l : Layout) (password : List ℕ) (fs : List Field) → LayoutOk l (listed password fs) → FieldsOk fs
-unfolding LayoutOk
-fields-ok Plain password fs ok = absurd ok
-fields-ok FieldList password fs ok = ok .1
-fields-ok Secured password fs ok = ok .2
-
 -- it stands behind header and password
 behind : (long : Bool) (c i v : ℕ) (w : List ℕ) (k : ℕ) → drop (headerSize long + k) (c ∷ (i ∷ (lengthBytes long v ++ w))) ≡ drop k w
 unfolding lengthBytes
 behind false c i v w k = sym (drop-drop k 3 (c ∷ (i ∷ (v ∷ w))))
 behind true c i v w k = sym (drop-drop k 5 _)
-
-body-short : (long : Bool) (v : ℕ) → LengthOk long v → v ≤ 4096
-unfolding LengthOk
-body-short false v ok = omega arith
-body-short true v ok = ok
 
 module _ (s : List ℕ) (m : MessageTree) (b : Bytes s) (e : readOf s ≡ got m) where
   in-message : (password : List ℕ) (fs : List Field) → m .body ≡ listed password fs
@@ -58,7 +49,7 @@ module _ (s : List ℕ) (m : MessageTree) (b : Bytes s) (e : readOf s ≡ got m)
       let k = read-sound s m b e in
       let a = headerSize (m .long) + length password in
       let ok = fields-ok (layoutOf (m .class) (m .instruction)) password fs (rw q at (k .1 .0)) in
-      let short = body-short (m .long) (length (bodyBytes (m .body))) (k .1 .1) in
+      let short = length-bound (m .long) (length (bodyBytes (m .body))) (k .1 .1) in
       let size : length (bodyBytes (m .body)) ≡ length password + length (listBytes fs) = rw q (length-append password (listBytes fs)) in
       let long = ap length (sym (k .0)) ∙ message-size m in
       let w : part a (length s) s ≡ listBytes fs =
@@ -148,11 +139,7 @@ Was s x = Bytes s × (readAnswer s ≡ Accepted x)
 module _ (s : List ℕ) (x : Message) (w : Was s x) where
   pub start-small : x .start ≤ 5
   unfolding messageAnswer
-  start-small = rw (← (accepted s x (w .1) .2)) (small (accepted s x (w .1) .0 .long))
-    where
-      small : (long : Bool) → headerSize long ≤ 5
-      small false = omega arith
-      small true = omega arith
+  start-small = rw (← (accepted s x (w .1) .2)) (header-most (accepted s x (w .1) .0 .long))
 
   pub place-is : (l : Layout) → layoutOf (x .class) (x .instruction) ≡ l → placeBy (x .start) (length s) l ≡ listPlace s
   unfolding listPlace messageAnswer

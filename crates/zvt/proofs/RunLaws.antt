@@ -14,7 +14,8 @@ use Rattle.zvt_rules.specs.Objects.{Obj, Objs, more, OneRead, RunRead, insideOf
 use Rattle.zvt_rules.specs.Writing.{objBytes, runBytes}
 use Rattle.zvt_rules.specs.Shortest.{formFor, shortObj, shortRun}
 use Rattle.zvt_rules.specs.Grammar.{Bytes, FormOk, ObjOk, RunOk}
-use Rattle.zvt_rules.proofs.Readings.{then-on, then-stop, pick-true, pick-false}
+use Rattle.zvt_rules.proofs.Tests.{pick-true, pick-false}
+use Rattle.zvt_rules.proofs.Readings.{then-on, then-stop}
 use Rattle.zvt_rules.proofs.ObjectSteps.{tail, part-length, head-got, head-in, branchOf, leafOf, one-in, run-none, run-step}
 use Rattle.zvt_rules.proofs.Lengths.{object-size, len-sound, form-shorter}
 use Rattle.zvt_rules.proofs.ObjectShort.{obj-shorter, run-shorter}

@@ -1,6 +1,6 @@
 -- Decimal numbers in bytes: what is written reads back, and how large it can be. Assumes nothing.
 use mathlib.Core.Path.{_≡_, refl, sym, ap, _∙_}
-use mathlib.Core.Bool.{true, and-eq-true-iff}
+use mathlib.Core.Bool.{true}
 use mathlib.Core.List.{List, [], _∷_, _++_, append-assoc}
 use Prim.Native.Nat.{ℕ, zero, suc, _+_, _*_, _/_, _%_, _^_, _<_, _≤_}
 use native.Mathlib.Numerals.{add-one}
@@ -8,11 +8,11 @@ use native.Mathlib.Nat.{pow-succ', one-le-pow, pow-le-pow-right, div-add-mod', m
 use native.Mathlib.Omega.{arith}
 use lib.ListN.{length, getD, drop, set, length-append, drop-of-length-le}
 use lib.Seq.{drop-cons, drop-set-lt, getD-set-same, lt-length-set}
-use lib.Dec.{leb}
-use borrow.Author.Tests.{le-leb, leb-true}
+use borrow.Author.Tests.{le-leb}
 use Rattle.zvt_rules.specs.Fields.{decimal}
 use Rattle.zvt_rules.specs.Grammar.{Decimals}
 use Rattle.zvt_rules.specs.Digits.{twoDigits, digitBytesOf, numberFrom, numberOf}
+use Rattle.zvt_rules.proofs.Tests.{leb-test, and-test}
 
 pub digits-size : (k n : ℕ) → length (digitBytesOf k n) ≡ k
 unfolding digitBytesOf
@@ -70,9 +70,7 @@ number-from : (v : ℕ) (s : List ℕ) → Decimals s → numberFrom v s < (v + 
 unfolding numberFrom Decimals
 number-from v [] h = omega arith
 number-from v (b ∷ s) h =
-    let d = and-eq-true-iff (leb (b / 16) 9) (leb (b % 16) 9) .0 (h .0) in
-    let high = leb-true (b / 16) 9 (d .0) in
-    let low = leb-true (b % 16) 9 (d .1) in
+    let d = and-test (leb-test (b / 16) 9) (leb-test (b % 16) 9) .0 (h .0) in
     let two = b / 16 * 10 + b % 16 in
     let more : v * 100 + two + 1 ≤ (v + 1) * 100 = omega arith in
     rw pow-succ' (omega (arith, number-from (v * 100 + two) s (h .1), mul-le-mul-right (100 ^ length s) more))

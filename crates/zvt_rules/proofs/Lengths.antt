@@ -12,7 +12,8 @@ use Rattle.zvt_rules.specs.Objects.{Form, bare, one, two, formSize, Len,
 use Rattle.zvt_rules.specs.Writing.{lenBytes, sized}
 use Rattle.zvt_rules.specs.Shortest.{formFor, isShortest}
 use Rattle.zvt_rules.specs.Grammar.{Bytes, FormOk}
-use Rattle.zvt_rules.proofs.Readings.{got-same, got-not-refused, pick-test}
+use Rattle.zvt_rules.proofs.Tests.{pick-test}
+use Rattle.zvt_rules.proofs.Readings.{got-same, got-not-refused}
 
 -- ---- what is written is read, and what is read was written
 pub lenBytes-size : (form : Form) (v : ℕ) → length (lenBytes form v) ≡ formSize form

@@ -1,5 +1,6 @@
 -- The laws of the definitions, by subject.
 pub mod Readings
+pub mod Tests
 pub mod ObjectSteps
 pub mod Lengths
 pub mod ObjectShort

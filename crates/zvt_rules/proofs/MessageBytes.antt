@@ -16,7 +16,8 @@ use Rattle.zvt_rules.specs.Fields.{Field, countFields, ListRead, listOf}
 use Rattle.zvt_rules.specs.Message.{BodyLength, longLength, lengthOf, Header, headerSize, start, end, headerWith, headerOf, layoutOf, Body, bytes, listed, securedOf, bodyOf, Message, messageOf, firstOf, wholeHeader, readOf, countBody, countOf}
 use Rattle.zvt_rules.specs.Writing.{listBytes, bodyBytes, lengthBytes, messageBytes}
 use Rattle.zvt_rules.specs.Grammar.{Bytes, FieldsOk, LayoutOk, LengthOk, MessageOk}
-use Rattle.zvt_rules.proofs.Readings.{got-same, got-not-refused, unless-got, unless-on, then-got, then-on, pick-test}
+use Rattle.zvt_rules.proofs.Tests.{pick-test}
+use Rattle.zvt_rules.proofs.Readings.{got-same, got-not-refused, unless-got, unless-on, then-got, then-on}
 use Rattle.zvt_rules.proofs.ObjectSteps.{part-length}
 use Rattle.zvt_rules.proofs.ObjectBytes.{bytes-drop, bytes-part}
 use Rattle.zvt_rules.proofs.FieldSteps.{undecimal-got, with-in, header-in}

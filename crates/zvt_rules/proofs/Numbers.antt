@@ -1,12 +1,10 @@
 -- A reading is refused with one of document 01's numbers 1 to 10. Assumes nothing.
 use mathlib.Core.Path.{_≡_, refl}
-use mathlib.Core.Bool.{Bool, true, false, _&&_, and-eq-true-iff}
-use mathlib.Core.Logic.{_↔_}
+use mathlib.Core.Bool.{Bool, true, false, _&&_}
 use mathlib.Core.List.{List, [], _∷_}
 use Prim.Native.Nat.{ℕ, zero, suc, _+_, _≤_}
 use lib.ListN.{getD, drop}
 use lib.Dec.{leb, ltb, eqb}
-use borrow.Author.Tests.{leb-true, le-leb}
 use Rattle.zvt_rules.specs.declared.Fault.{Fault}
 use Rattle.zvt_rules.specs.declared.Format.{Format}
 use Rattle.zvt_rules.specs.declared.Format.the-variants.{Unknown, Fixed, Digits, Container}
@@ -16,13 +14,8 @@ use Rattle.zvt_rules.specs.Reading.{Reading, got, refused, pick, unless,
 use Rattle.zvt_rules.specs.Objects.{longTag, nested, secondTag, tagSize, oneByte, twoBytes, lenOf, Head, headWith, headOf, RunReader, insideOf, oneBy, runBy, runOf}
 use Rattle.zvt_rules.specs.Fields.{digitsOf, unlessUndecimal, holdsDigits, digitsIn, valueOf, plainOf, containerOf, fieldBy, fieldOf, listBy, listOf}
 use Rattle.zvt_rules.specs.Message.{longLength, lengthOf, headerWith, headerOf, securedOf, bodyOf, messageOf, wholeHeader, readOf}
-use Rattle.zvt_rules.proofs.Readings.{got-not-refused, pick-test}
-
-pub between : (n top : ℕ) → (leb 1 n && leb n top ≡ true) ↔ ((1 ≤ n) × (n ≤ top))
-between n top = (
-  λ h. let k = and-eq-true-iff (leb 1 n) (leb n top) .0 h in (leb-true 1 n (k .0), leb-true n top (k .1)),
-  λ k. rw (le-leb 1 n (k .0), le-leb n top (k .1)),
-)
+use Rattle.zvt_rules.proofs.Readings.{got-not-refused}
+use Rattle.zvt_rules.proofs.Tests.{pick-test, between}
 
 abbrev Low : Fault → Type 0
 Low f = leb 1 (f .number) && leb (f .number) 10 ≡ true
@@ -170,7 +163,7 @@ read-small s = small-then _ _ (whole-small s) λ h. small-then _ _ (body-small _
 -- ---- the numbers
 small-number : {A : Type 0} {x : Reading A} (f : Fault) → Small x → x ≡ refused f → (1 ≤ f .number) × (f .number ≤ 10)
 small-number f (is a) e = absurd (got-not-refused e)
-small-number f (no g l) e = let same : g .number ≡ f .number = cc in rw same at (between (g .number) 10 .0 l)
+small-number f (no g l) e = let same : g .number ≡ f .number = cc in rw same at (between (g .number) 1 10 .0 l)
 
 pub header-numbers : (s : List ℕ) (f : Fault) → wholeHeader s ≡ refused f → (1 ≤ f .number) × (f .number ≤ 10)
 header-numbers s f e = small-number f (whole-small s) e

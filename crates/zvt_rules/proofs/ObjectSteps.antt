@@ -13,7 +13,8 @@ use Rattle.zvt_rules.specs.Reading.{Reading, got, no, unless, andThen, p
 use Rattle.zvt_rules.specs.Objects.{longTag, topBit, nested, secondTag, tagSize, formSize, Len, oneByte, twoBytes, lenOf}
 use Rattle.zvt_rules.specs.Objects.{Head, from, to, headWith, headOf, Obj, leaf, branch, none, more}
 use Rattle.zvt_rules.specs.Objects.{OneRead, RunRead, RunReader, insideOf, oneBy, runBy, runOf, oneOf}
-use Rattle.zvt_rules.proofs.Readings.{got-same, got-not-refused, unless-got, then-got, then-alike, pick-test}
+use Rattle.zvt_rules.proofs.Tests.{pick-test}
+use Rattle.zvt_rules.proofs.Readings.{got-same, got-not-refused, unless-got, then-got, then-alike}
 
 -- a part up to the end is what is left
 pub tail : (k : ℕ) (s : List ℕ) → take (length s - k) (drop k s) ≡ drop k s
