@@ -18,11 +18,11 @@ use Rattle.zvt_rules.specs.Fields.{formatOf, unknown, lengthDigit, digit
 use Rattle.zvt_rules.specs.Message.{BodyLength, lengthOf, Header, headerSize, end, headerWith, headerOf}
 use Rattle.zvt_rules.specs.Grammar.{Decimals}
 use Rattle.zvt_rules.proofs.Readings.{got-same, got-not-refused, unless-got, unless-on, then-got, then-alike}
-use Rattle.zvt_rules.proofs.Tests.{pick-test, between}
+use Rattle.zvt_rules.proofs.Tests.{pick-test, leb-test, and-test}
 
 -- ---- length digits, from the i-th on
 pub digit-in : (b : ℕ) → lengthDigit b ≡ true → (0xF0 ≤ b) × (b ≤ 0xF9)
-digit-in b e = between b 0xF0 0xF9 .0 e
+digit-in b e = and-test (leb-test 0xF0 b) (leb-test b 0xF9) .0 e
 
 digits-first : (d v at : ℕ) (s : List ℕ) (i : ℕ) → i < d → i < length s
     → digitsOf (d - i) v (at + i) (drop i s)

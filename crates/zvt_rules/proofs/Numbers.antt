@@ -163,7 +163,7 @@ read-small s = small-then _ _ (whole-small s) λ h. small-then _ _ (body-small _
 -- ---- the numbers
 small-number : {A : Type 0} {x : Reading A} (f : Fault) → Small x → x ≡ refused f → (1 ≤ f .number) × (f .number ≤ 10)
 small-number f (is a) e = absurd (got-not-refused e)
-small-number f (no g l) e = let same : g .number ≡ f .number = cc in rw same at (between (g .number) 1 10 .0 l)
+small-number f (no g l) e = let same : g .number ≡ f .number = cc in rw same at (between (g .number) 10 .0 l)
 
 pub header-numbers : (s : List ℕ) (f : Fault) → wholeHeader s ≡ refused f → (1 ≤ f .number) × (f .number ≤ 10)
 header-numbers s f e = small-number f (whole-small s) e

@@ -56,8 +56,8 @@ pub or-test : {A B : Type 0} {t u : Bool} → ((t ≡ true) ↔ A) → ((u ≡ t
 or-test {t = true} r q = (λ e. inl (r .0 refl), λ k. refl)
 or-test {t = false} r q = (λ e. inr (q .0 e), ⊎-elim (λ a. absurd (false≢true (r .1 a))) (q .1))
 
-pub between : (n low top : ℕ) → (leb low n && leb n top ≡ true) ↔ ((low ≤ n) × (n ≤ top))
-between n low top = and-test (leb-test low n) (leb-test n top)
+pub between : (n top : ℕ) → (leb 1 n && leb n top ≡ true) ↔ ((1 ≤ n) × (n ≤ top))
+between n top = and-test (leb-test 1 n) (leb-test n top)
 
 pub case : {A X : Type 0} {t : Bool} → ((t ≡ true) ↔ A) → (A → X) → ((A → ⊥) → X) → X
 case {t} r h k = by-test t (λ e. h (r .0 e)) (λ f. k λ a. true-false (r .1 a) f)

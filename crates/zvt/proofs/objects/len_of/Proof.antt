@@ -15,27 +15,12 @@ returns-2 c = sym (len-bare _ (c .before .before .before .args .s .now) (omega a
 returns-3 : tie.Need-returns-3
 returns-3 c = sym (len-cut-one _ (c .before .before .before .before .before .args .s .now) (omega arith) (c .if4 .taken) (c .before .if3 .taken))
 
-cast-one : tie.Need-cast-one
-cast-one c = omega (arith, c .shared-slice-known2 .given 1)
-
 returns-4 : tie.Need-returns-4
 returns-4 c = sym (len-one _ (c .before .before .before .before .before .before .args .s .now) (omega arith) (c .before .before .if3 .taken))
 
 returns-5 : tie.Need-returns-5
 returns-5 c =
     sym (len-cut-two _ (c .before .before .before .before .before .before .args .s .now) (omega arith) (c .if6 .taken) (c .before .if5 .taken))
-
-cast-high : tie.Need-cast-high
-cast-high c = omega (arith, c .shared-slice-known3 .given 1)
-
-cast-low : tie.Need-cast-low
-cast-low c = omega (arith, c .shared-slice-known4 .given 2)
-
-mul-two : tie.Need-mul-two
-mul-two c = omega (arith, c .shared-slice-known4 .given 1)
-
-add-two : tie.Need-add-two
-add-two c = omega (arith, c .shared-slice-known4 .given 1, c .shared-slice-known4 .given 2)
 
 returns-6 : tie.Need-returns-6
 returns-6 c =
@@ -50,5 +35,7 @@ pub len-of-spec : {M : Type 1} → statement M
 len-of-spec =
     tie.close
     (tie.spec (λ c. search needs) returns (λ c. search needs) (λ c. search needs) returns-2 returns-3
-    (λ c. search needs) cast-one returns-4 returns-5 (λ c. search needs) cast-high (λ c. search needs) cast-low mul-two
-    add-two returns-6 returns-7)
+    (λ c. search needs) (λ c. omega (arith, c .shared-slice-known2 .given 1)) returns-4 returns-5 (λ c. search needs)
+    (λ c. omega (arith, c .shared-slice-known3 .given 1)) (λ c. search needs)
+    (λ c. omega (arith, c .shared-slice-known4 .given 2)) (λ c. omega (arith, c .shared-slice-known4 .given 1))
+    (λ c. omega (arith, c .shared-slice-known4 .given 1, c .shared-slice-known4 .given 2)) returns-6 returns-7)
