@@ -26,7 +26,8 @@ use Rattle.zvt.specs.declared.HeaderAnswer.the-variants.{Header as header-got, 
 use Rattle.zvt.specs.declared.ReadAnswer.the-variants.{Accepted, Refused as read-refused}
 use Rattle.zvt.specs.Header.{headerIn}
 use Rattle.zvt.specs.Answers.{refusalOf, asHeaderAnswer, headerAnswer, messageAnswer, asReadAnswer, readAnswer}
-use Rattle.zvt.proofs.Tables.{allIn, allFrom, anyOf, NoneOf, at-key, Table, keyed, ranged}
+use Rattle.zvt_rules.proofs.Tests.{allFrom}
+use Rattle.zvt.proofs.Tables.{allIn, anyOf, NoneOf, at-key, Table, keyed, ranged}
 use Rattle.desk_rules.specs.declared.Kind.{Kind}
 use Rattle.desk_rules.specs.declared.Kind.the-variants.{Sale, Refund, Reversal}
 use Rattle.desk_rules.specs.declared.Outcome.{Outcome}

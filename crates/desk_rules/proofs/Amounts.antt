@@ -15,8 +15,7 @@ use Rattle.zvt_rules.specs.declared.ToldCode.{ToldCode}
 use Rattle.zvt_rules.specs.declared.ToldCode.the-variants.{Missing as no-code, Code}
 use Rattle.zvt_rules.specs.declared.ToldAmount.{ToldAmount}
 use Rattle.zvt_rules.specs.declared.ToldAmount.the-variants.{Missing as no-amount, Amount}
-use Rattle.zvt_rules.proofs.Readings.{pick-test}
-use Rattle.zvt_rules.proofs.Numbers.{between}
+use Rattle.zvt_rules.proofs.Tests.{pick-test, between}
 use Rattle.zvt_rules.proofs.Told.{Twelve, told-twelve}
 use Rattle.desk_rules.specs.declared.Phase.{Phase}
 use Rattle.desk_rules.specs.declared.Phase.the-variants.{Idle, Waiting, Running}

@@ -11,7 +11,7 @@ use lib.Seq.{length-take-le, set-getD, take-suc-set}
 use lib.Dec.{ltb, leb, eqb}
 use borrow.Author.Tests.{leb-false, ltb-false}
 use Rattle.zvt_rules.specs.Reading.{pick}
-use Rattle.zvt_rules.proofs.Readings.{pick-test}
+use Rattle.zvt_rules.proofs.Tests.{pick-test}
 use Rattle.desk_rules.specs.declared.Lane.{Lane}
 use Rattle.desk_rules.specs.declared.Line.{Line}
 use Rattle.desk_rules.specs.declared.Moved.{Moved}

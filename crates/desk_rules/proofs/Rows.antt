@@ -15,8 +15,8 @@ use Rattle.zvt_rules.specs.declared.ToldCode.{ToldCode}
 use Rattle.zvt_rules.specs.declared.ToldCode.the-variants.{Missing, Code}
 use Rattle.zvt_rules.specs.Reading.{Reading, got, refused, pick, among}
 use Rattle.zvt_rules.specs.Message.{Header, wholeHeader, Body, bytes, listed, Message, layoutOf, bodyOf, messageOf, readOf}
-use Rattle.zvt_rules.proofs.Readings.{got-same, then-got, pick-test}
-use Rattle.zvt_rules.proofs.Numbers.{between}
+use Rattle.zvt_rules.proofs.Tests.{pick-test, between}
+use Rattle.zvt_rules.proofs.Readings.{got-same, then-got}
 use Rattle.desk_rules.specs.declared.Phase.{Phase}
 use Rattle.desk_rules.specs.declared.Phase.the-variants.{Idle, Waiting, Running}
 use Rattle.desk_rules.specs.declared.Lane.{Lane}

@@ -14,7 +14,7 @@ use Rattle.zvt_rules.specs.Writing.{fieldBytes}
 use Rattle.zvt_rules.specs.Grammar.{Bytes}
 use Rattle.zvt_rules.specs.Digits.{digitBytesOf}
 use Rattle.zvt_rules.specs.Values.{fieldValue, statusFields, statusOf, isStatus, statusIn, bodyFields}
-use Rattle.zvt_rules.proofs.Readings.{pick-test}
+use Rattle.zvt_rules.proofs.Tests.{pick-test}
 use Rattle.zvt_rules.proofs.MessageBytes.{read-sound}
 use Rattle.zvt.specs.Answers.{messageAnswer, asReadAnswer, readAnswer}
 use Rattle.zvt.specs.List.{listedAt, listedFrom, listedBody, listedMessage, nthListed, fieldAnswer}
