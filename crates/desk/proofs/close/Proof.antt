@@ -7,21 +7,12 @@ use borrow.Author.Needs.{needs}
 use Rattle.desk.proofs.close.Statement.{statement}
 use Rattle.desk.proofs.close.Tie as tie
 
-places-in-requires : tie.Need-places-in-requires
-places-in-requires c κs = search needs
-
-refused-requires : tie.Need-refused-requires
-refused-requires c κs = search needs
-
 returns : tie.Need-returns
 unfolding closeAnswer
 returns c =
     let d = c .before .before .before .args .desk in
     let n : places (d .lanes) ≡ 0 → ⊥ = λ e. c .before .if1 .taken (c .before .before .places-in .ensures ∙ e) in
     rw (ne-eqb (places (d .lanes)) 0 n) (c .refused .ensures)
-
-fresh-requires : tie.Need-fresh-requires
-fresh-requires c κs = search needs
 
 returns-2 : tie.Need-returns-2
 unfolding closeAnswer
@@ -31,5 +22,4 @@ returns-2 c =
     rw (e, c .fresh .ensures)
 
 pub close-spec : {M : Type 1} → statement M
-close-spec =
-    tie.close (tie.spec places-in-requires refused-requires returns fresh-requires returns-2)
+close-spec = tie.close (tie.spec (λ c κs. search needs) (λ c κs. search needs) returns (λ c κs. search needs) returns-2)

@@ -10,25 +10,10 @@ use Rattle.desk.proofs.link_lost.Tie as tie
 open-lane : (c : tie.Else2) → place (laneAt (c .before .before .before .before .args .t1 .lanes) (c .before .before .before .before .args .lane)) ≡ 0 → ⊥
 open-lane c e = c .if2 .left (c .before .place .ensures ∙ e)
 
-refused-requires : tie.Need-refused-requires
-refused-requires c κs = search needs
-
 returns : tie.Need-returns
 returns c =
     let a = c .before .before .args in
     c .refused .ensures ∙ sym (lost-12 (a .t1) (a .lane) 0 (c .before .if1 .taken))
-
-mul-l : tie.Need-mul-l
-mul-l c = search needs
-
-element-copy-out-l : tie.Need-element-copy-out-l
-element-copy-out-l c = search needs
-
-place-requires : tie.Need-place-requires
-place-requires c κs = search needs
-
-refused-requires-2 : tie.Need-refused-requires-2
-refused-requires-2 c κs = search needs
 
 returns-2 : tie.Need-returns-2
 returns-2 c =
@@ -51,13 +36,5 @@ returns-3 c =
 pub link-lost-spec : {M : Type 1} → statement M
 link-lost-spec =
     tie.close
-    (tie.spec
-    refused-requires
-    returns
-    mul-l
-    element-copy-out-l
-    place-requires
-    refused-requires-2
-    returns-2
-    moved-requires
-    returns-3)
+    (tie.spec (λ c κs. search needs) returns (λ c. search needs) (λ c. search needs) (λ c κs. search needs)
+    (λ c κs. search needs) returns-2 moved-requires returns-3)

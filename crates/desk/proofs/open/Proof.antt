@@ -21,29 +21,17 @@ opens : (c : tie.Else1) → let a = c .before .before .before .before .args in
     Opens (a .desk) (a .lane) (a .within) (a .sale) (length (a .command .now)) (length (a .out .now))
 opens c = opens-tells _ _ _ _ _ _ (c .before .before .before .before .pre) (none c)
 
-opening-requires : tie.Need-opening-requires
-opening-requires c κs = search needs
-
-refused-requires : tie.Need-refused-requires
-refused-requires c κs = search needs
-
 returns : tie.Need-returns
 unfolding openAnswer openLeaves
 returns c =
     let n : _ ≡ c .before .before .opening .result = sym (c .before .before .opening .ensures) in
     (rw (n, ne-eqb _ 0 (c .before .if1 .taken)) (c .refused .ensures), rw (n, ne-eqb _ 0 (c .before .if1 .taken)))
 
-copy-requires : tie.Need-copy-requires
-copy-requires c κs = opens (c .before) .fits
-
 moved-requires : tie.Need-moved-requires
 moved-requires c κs =
     let o = opens (c .before .before .before .before) in
     let v = c .before .before .before .before .before .before .before .before .pre in
     (o .lane, v .lanes, omega arith, v .lines)
-
-same-length : tie.Need-same-length
-same-length c = search needs
 
 returns-2 : tie.Need-returns-2
 unfolding openAnswer openLeaves
@@ -57,11 +45,5 @@ returns-2 c =
 pub open-spec : {M : Type 1} → statement M
 open-spec =
     tie.close
-    (tie.spec
-    opening-requires
-    refused-requires
-    returns
-    copy-requires
-    moved-requires
-    same-length
-    returns-2)
+    (tie.spec (λ c κs. search needs) (λ c κs. search needs) returns (λ c κs. opens (c .before) .fits) moved-requires
+    (λ c. search needs) returns-2)

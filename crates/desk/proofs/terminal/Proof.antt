@@ -20,29 +20,11 @@ low c = c .before .before .if1 .left
 passes : (c : tie.At-match-keys2) → let a = begun (c .before) .args in Passes (heard (laneAt (a .t1 .lanes) (a .lane)) (a .s .now))
 passes c = rw (c .before .heard .ensures) at (passes-tag (c .before .heard .result) (c .match .keys2))
 
-refused-requires : tie.Need-refused-requires
-refused-requires c κs = search needs
-
 returns : tie.Need-returns
 returns c =
     let a = c .before .before .before .before .args in
     let m = message-12 (a .t1) (a .lane) (a .s .now) (a .out .now) (c .before .if1 .taken) in
     (c .refused .ensures ∙ sym (m .0), sym (m .1))
-
-mul-l : tie.Need-mul-l
-mul-l c = search needs
-
-element-copy-out-l : tie.Need-element-copy-out-l
-element-copy-out-l c = search needs
-
-heard-requires : tie.Need-heard-requires
-heard-requires c κs = search needs
-
-enum-known-m : tie.Need-enum-known-m
-enum-known-m c = search needs
-
-refused-requires-2 : tie.Need-refused-requires-2
-refused-requires-2 c κs = search needs
 
 returns-2 : tie.Need-returns-2
 returns-2 c =
@@ -51,12 +33,6 @@ returns-2 c =
     let e = sym (h .heard .ensures) ∙ c .before .before .m .given .1 in
     let m = message-refused (a .t1) (a .lane) (a .s .now) (a .out .now) (low h) _ e in
     (c .refused2 .ensures ∙ sym (m .0), sym (m .1))
-
-reply-size-requires : tie.Need-reply-size-requires
-reply-size-requires c κs = search needs
-
-refused-requires-3 : tie.Need-refused-requires-3
-refused-requires-3 c κs = search needs
 
 returns-3 : tie.Need-returns-3
 returns-3 c =
@@ -67,18 +43,12 @@ returns-3 c =
     let m = message-11 (a .t1) (a .lane) (a .s .now) (a .out .now) (low h) (passes (r .before)) k in
     (c .refused3 .ensures ∙ sym (m .0), sym (m .1))
 
-put-reply-requires : tie.Need-put-reply-requires
-put-reply-requires c κs = search needs
-
 moved-requires : tie.Need-moved-requires
 moved-requires c κs =
     let k = c .before .before .before .before .before .before in
     let h = k .before in
     let v = begun h .pre in
     (low h, v .lanes, room-left _ (begun h .args .lane) v (heard-open _ (begun h .args .s .now) (passes k)), v .lines)
-
-same-length : tie.Need-same-length
-same-length c = search needs
 
 returns-4 : tie.Need-returns-4
 returns-4 c =
@@ -95,19 +65,6 @@ returns-4 c =
 pub terminal-spec : {M : Type 1} → statement M
 terminal-spec =
     tie.close
-    (tie.spec
-    refused-requires
-    returns
-    mul-l
-    element-copy-out-l
-    heard-requires
-    enum-known-m
-    refused-requires-2
-    returns-2
-    reply-size-requires
-    refused-requires-3
-    returns-3
-    put-reply-requires
-    moved-requires
-    same-length
-    returns-4)
+    (tie.spec (λ c κs. search needs) returns (λ c. search needs) (λ c. search needs) (λ c κs. search needs)
+    (λ c. search needs) (λ c κs. search needs) returns-2 (λ c κs. search needs) (λ c κs. search needs) returns-3
+    (λ c κs. search needs) moved-requires (λ c. search needs) returns-4)

@@ -11,30 +11,9 @@ use Rattle.desk.proofs.hear.heard.Tie as tie
 header-got : (c : tie.After-h) → headerAnswer (c .before .before .before .before .before .args .s .now) ≡ Header (c .h .given .0 .0)
 header-got c = sym (c .before .before .read-header .ensures) ∙ c .h .given .1
 
-enum-told : tie.Need-enum-told
-enum-told c = search needs
-
 returns : tie.Need-returns
 unfolding heard isIdle
 returns c = rw (c .enum-told .given .1)
-
-read-header-requires : tie.Need-read-header-requires
-read-header-requires c κs = search needs
-
-enum-known-r : tie.Need-enum-known-r
-enum-known-r c = search needs
-
-enum-known-h : tie.Need-enum-known-h
-enum-known-h c = search needs
-
-enum-told-2 : tie.Need-enum-told-2
-enum-told-2 c = search needs
-
-heard-running-requires : tie.Need-heard-running-requires
-heard-running-requires c κs = search needs
-
-heard-waiting-requires : tie.Need-heard-waiting-requires
-heard-waiting-requires c κs = search needs
 
 returns-2 : tie.Need-returns-2
 returns-2 c =
@@ -53,15 +32,5 @@ returns-4 c =
 pub heard-spec : {M : Type 1} → statement M
 heard-spec =
     tie.close
-    (tie.spec
-    enum-told
-    returns
-    read-header-requires
-    enum-known-r
-    enum-known-h
-    enum-told-2
-    heard-running-requires
-    heard-waiting-requires
-    returns-2
-    returns-3
-    returns-4)
+    (tie.spec (λ c. search needs) returns (λ c κs. search needs) (λ c. search needs) (λ c. search needs)
+    (λ c. search needs) (λ c κs. search needs) (λ c κs. search needs) returns-2 returns-3 returns-4)

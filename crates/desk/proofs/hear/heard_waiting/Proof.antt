@@ -22,9 +22,6 @@ returns-4 : tie.Need-returns-4
 unfolding waitingMoved heardWaiting headerBy
 returns-4 c = rw (c .before .before .before .before .before .before .if1 .left, c .before .before .if3 .left, ne-eqb _ _ (c .if4 .taken))
 
-running-requires : tie.Need-running-requires
-running-requires c κs = search needs
-
 returns-5 : tie.Need-returns-5
 unfolding waitingMoved heardWaiting headerBy
 returns-5 c =
@@ -32,5 +29,4 @@ returns-5 c =
     rw (c .running .ensures, class .before .before .before .before .if1 .left, class .if3 .left, c .before .if4 .left)
 
 pub heard-waiting-spec : {M : Type 1} → statement M
-heard-waiting-spec =
-    tie.close (tie.spec returns returns-2 returns-3 returns-4 running-requires returns-5)
+heard-waiting-spec = tie.close (tie.spec returns returns-2 returns-3 returns-4 (λ c κs. search needs) returns-5)

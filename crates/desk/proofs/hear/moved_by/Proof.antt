@@ -5,15 +5,9 @@ use borrow.Author.Needs.{needs}
 use Rattle.desk.proofs.hear.moved_by.Statement.{statement}
 use Rattle.desk.proofs.hear.moved_by.Tie as tie
 
-completed-requires : tie.Need-completed-requires
-completed-requires c κs = search needs
-
 returns : tie.Need-returns
 unfolding movedAs
 returns c = rw (c .completed .ensures, c .before .before .before .if1 .taken, c .before .if2 .taken)
-
-aborted-requires : tie.Need-aborted-requires
-aborted-requires c κs = search needs
 
 returns-2 : tie.Need-returns-2
 unfolding movedAs
@@ -22,12 +16,6 @@ returns-2 c = rw (c .aborted .ensures, c .before .before .before .before .before
 returns-3 : tie.Need-returns-3
 unfolding movedAs
 returns-3 c = rw (c .before .before .before .before .if1 .taken, ne-eqb _ _ (c .before .before .if2 .left), ne-eqb _ _ (c .if3 .left))
-
-read-status-requires : tie.Need-read-status-requires
-read-status-requires c κs = search needs
-
-reported-requires : tie.Need-reported-requires
-reported-requires c κs = search needs
 
 returns-4 : tie.Need-returns-4
 unfolding movedAs
@@ -40,13 +28,5 @@ returns-5 c = rw (ne-eqb _ _ (c .before .before .if1 .left), ne-eqb _ _ (c .if4 
 pub moved-by-spec : {M : Type 1} → statement M
 moved-by-spec =
     tie.close
-    (tie.spec
-    completed-requires
-    returns
-    aborted-requires
-    returns-2
-    returns-3
-    read-status-requires
-    reported-requires
-    returns-4
-    returns-5)
+    (tie.spec (λ c κs. search needs) returns (λ c κs. search needs) returns-2 returns-3 (λ c κs. search needs)
+    (λ c κs. search needs) returns-4 returns-5)

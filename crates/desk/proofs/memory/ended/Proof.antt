@@ -4,22 +4,10 @@ use borrow.Author.Needs.{needs}
 use Rattle.desk.proofs.memory.ended.Statement.{statement}
 use Rattle.desk.proofs.memory.ended.Tie as tie
 
-idle-requires : tie.Need-idle-requires
-idle-requires c κs = search needs
-
-mul-t8 : tie.Need-mul-t8
-mul-t8 c = search needs
-
-element-set-from-next : tie.Need-element-set-from-next
-element-set-from-next c = search needs
-
-with-line-requires : tie.Need-with-line-requires
-with-line-requires c κs = search needs
-
 returns : tie.Need-returns
 unfolding endedDesk
 returns c = rw (c .with-line .ensures, c .before .idle .ensures)
 
 pub ended-spec : {M : Type 1} → statement M
 ended-spec =
-    tie.close (tie.spec idle-requires mul-t8 element-set-from-next with-line-requires returns)
+    tie.close (tie.spec (λ c κs. search needs) (λ c. search needs) (λ c. search needs) (λ c κs. search needs) returns)

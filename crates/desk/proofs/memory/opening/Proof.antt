@@ -24,15 +24,6 @@ returns c =
     let a = c .before .args in
     sym (on-12 (a .t1) (a .lane) (a .within) (a .sale) (a .need) (a .room) (c .if1 .taken))
 
-mul-l : tie.Need-mul-l
-mul-l c = search needs
-
-element-copy-out-l : tie.Need-element-copy-out-l
-element-copy-out-l c = search needs
-
-place-requires : tie.Need-place-requires
-place-requires c κs = search needs
-
 returns-2 : tie.Need-returns-2
 returns-2 c =
     let a = c .before .before .before .before .args in
@@ -49,12 +40,6 @@ returns-4 c =
     let a = begun (c .before .before) .args in
     sym (on-17 (a .t1) (a .lane) (a .within) (a .sale) (a .need) (a .room) (low (c .before .before)) (idle (c .before .before))
     (not-false _ (c .before .if3 .left)) (not-true _ (c .if4 .taken)))
-
-places-in-requires : tie.Need-places-in-requires
-places-in-requires c κs = search needs
-
-add-if5 : tie.Need-add-if5
-add-if5 c = search needs
 
 returns-5 : tie.Need-returns-5
 returns-5 c =
@@ -83,16 +68,5 @@ returns-7 c =
 pub opening-spec : {M : Type 1} → statement M
 opening-spec =
     tie.close
-    (tie.spec
-    returns
-    mul-l
-    element-copy-out-l
-    place-requires
-    returns-2
-    returns-3
-    returns-4
-    places-in-requires
-    add-if5
-    returns-5
-    returns-6
-    returns-7)
+    (tie.spec returns (λ c. search needs) (λ c. search needs) (λ c κs. search needs) returns-2 returns-3 returns-4
+    (λ c κs. search needs) (λ c. search needs) returns-5 returns-6 returns-7)

@@ -21,27 +21,12 @@ loop-holds : tie.Need-loop-holds Inv-loop μ-loop
 unfolding places
 loop-holds c = omega arith
 
-mul-l : tie.Need-mul-l Inv-loop μ-loop
-mul-l c = omega arith
-
-element-copy-out-l : tie.Need-element-copy-out-l Inv-loop μ-loop
-element-copy-out-l c = omega arith
-
-place-requires : tie.Need-place-requires Inv-loop μ-loop
-place-requires c κs = tt
-
 add-n : tie.Need-add-n Inv-loop μ-loop
 add-n c =
     let d = c .before .before .before .before .args .t1 in
     let i = c .before .before .before .loop .i in
     let e : c .place .result ≡ place (laneAt (d .lanes) i) = c .place .ensures in
     omega (arith, place-most (laneAt (d .lanes) i), places-most i (d .lanes))
-
-add-i : tie.Need-add-i Inv-loop μ-loop
-add-i c = omega arith
-
-loop-less : tie.Need-loop-less Inv-loop μ-loop
-loop-less c = omega arith
 
 loop-again : tie.Need-loop-again Inv-loop μ-loop
 loop-again c =
@@ -58,15 +43,5 @@ returns c =
 pub places-in-spec : {M : Type 1} → statement M
 places-in-spec =
     tie.close
-    (tie.spec
-    Inv-loop
-    μ-loop
-    loop-holds
-    mul-l
-    element-copy-out-l
-    place-requires
-    add-n
-    add-i
-    loop-less
-    loop-again
-    returns)
+    (tie.spec Inv-loop μ-loop loop-holds (λ c. omega arith) (λ c. omega arith) (λ c κs. tt) add-n (λ c. omega arith)
+    (λ c. omega arith) loop-again returns)
