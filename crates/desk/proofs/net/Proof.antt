@@ -1,4 +1,5 @@
--- `desk::net` meets its contract. Assumes nothing.
+-- `desk::net` meets its contract. The invariant: plus and minus are what the first i lines gain and lose; the measure is the
+-- number of lines left. Assumes nothing.
 use mathlib.Core.Path.{_≡_, _∙_}
 use Prim.Native.Nat.{_≤_, _<_, _-_, _^_}
 use native.Mathlib.Omega.{arith}

@@ -1,4 +1,5 @@
--- `lister::list`: safe, and each turn lists a message. Assumes nothing.
+-- `lister::list`: safe, and each turn lists a message. The invariant: `at` lies within the input, and the count, once it is not
+-- zero, with the bytes that are left is at most 65,536; the measure is what is left of the input. Assumes nothing.
 use Prim.Native.Nat.{_+_, _≤_, _-_}
 use mathlib.Core.Logic.{_⊎_, inl, inr, ⊎-elim}
 use Rattle.listing.specs.Lines.{Bounded}

@@ -1,4 +1,5 @@
--- `desk::memory::last_line` meets its contract. Assumes nothing.
+-- `desk::memory::last_line` meets its contract. The invariant: last is the last of the first i lines that concern the receipt;
+-- the measure is the number of lines left. Assumes nothing.
 use mathlib.Core.Path.{_≡_, sym, _∙_}
 use mathlib.Core.Logic.{⊎-elim}
 use Prim.Native.Nat.{_≤_, _<_, _-_}

@@ -1,4 +1,5 @@
--- `desk::memory::places_in` meets its contract. Assumes nothing.
+-- `desk::memory::places_in` meets its contract. The invariant: n is the number of places that the first i lanes take; the
+-- measure is the number of lanes left. Assumes nothing.
 use mathlib.Core.Path.{_≡_, _∙_, ap}
 use Prim.Native.Nat.{_≤_, _-_}
 use native.Mathlib.Omega.{arith}

@@ -1,5 +1,5 @@
--- `zvt::digits::number` meets its contract. The loop's invariant: what is left, read behind v, gives the number, and v is small enough.
--- Assumes nothing.
+-- `zvt::digits::number` meets its contract. The invariant: what is left, read behind v, gives the number, and v is small
+-- enough; the measure is what is left. Assumes nothing.
 use mathlib.Core.Path.{_≡_, refl, sym, _∙_}
 use Prim.Native.Nat.{_-_, _≤_}
 use native.Mathlib.Omega.{arith}

@@ -1,5 +1,5 @@
--- `zvt::digits::put_digits` meets its contract. The loop's invariant: the i bytes before those that stand are the digits of v.
--- The measure is i. Assumes nothing.
+-- `zvt::digits::put_digits` meets its contract. The invariant: the digits of v in i bytes, and the bytes that stand from the
+-- i-th on, are the digits of n; the measure is i. Assumes nothing.
 use mathlib.Core.Path.{_≡_, refl, sym, _∙_}
 use mathlib.Core.List.{_++_, append-nil}
 use Prim.Native.Nat.{suc, _-_, _<_, _≤_}

@@ -1,4 +1,5 @@
--- `zvt::fields::all_decimal` meets its contract. The loop's invariant: the bytes from i on answer as the whole does. Assumes nothing.
+-- `zvt::fields::all_decimal` meets its contract. The invariant: the bytes from i on answer as the whole does; the measure is
+-- what is left of them. Assumes nothing.
 use mathlib.Core.Path.{_≡_, sym, ap, _∙_}
 use mathlib.Core.Bool.{false}
 use mathlib.Core.Logic.{⊎-elim}

@@ -1,5 +1,5 @@
--- `zvt::fields::digits_of` meets its contract. The loop's invariant: the digits from i on, behind those that gave v, answer as the
--- whole does. Assumes nothing.
+-- `zvt::fields::digits_of` meets its contract. The invariant: the digits from i on, behind those that gave v, answer as the
+-- whole does; the measure is the number of digits left. Assumes nothing.
 use mathlib.Core.Path.{_≡_, sym, ap, _∙_}
 use mathlib.Core.Bool.{true, false}
 use mathlib.Core.Logic.{_⊎_, inl, inr, ⊎-elim}

@@ -1,5 +1,5 @@
--- `zvt::fields::read_list` meets its contract. The loop's invariant: the array marks the ids that came, and the bytes from i on,
--- with what is spared before, answer as the whole list does. Assumes nothing.
+-- `zvt::fields::read_list` meets its contract. The invariant: the array marks the ids that came, and the bytes from i on, with
+-- what is spared before, answer as the whole list does; the measure is what is left of the bytes. Assumes nothing.
 use mathlib.Core.Path.{_≡_, sym, _∙_}
 use mathlib.Core.List.{List, [], _∷_}
 use Prim.Native.Nat.{ℕ, _-_, _<_, _≤_}

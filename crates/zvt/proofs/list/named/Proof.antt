@@ -1,5 +1,5 @@
--- `zvt::list::named` meets its contract. The loop's invariant: from `at` on stands a list, and no field before it has the id.
--- The measure is what is left of the list. Assumes nothing.
+-- `zvt::list::named` meets its contract. The invariant: from `at` on stands a list, and no field before it has the id; the
+-- measure is what is left of the list. Assumes nothing.
 use mathlib.Core.Path.{_≡_, refl, sym, ap, _∙_}
 use Prim.Native.Nat.{_-_}
 use native.Mathlib.Omega.{arith}

@@ -1,5 +1,5 @@
--- `zvt::list::nth` meets its contract. The loop's invariant: from `at` on stands a list, whose field number `left` is the one asked for.
--- The measure is what is left of the list. Assumes nothing.
+-- `zvt::list::nth` meets its contract. The invariant: from `at` on stands a list, whose field number `left` is the one asked
+-- for; the measure is what is left of the list. Assumes nothing.
 use mathlib.Core.Path.{_≡_, refl, sym, ap, _∙_}
 use Prim.Native.Nat.{_-_}
 use native.Mathlib.Omega.{arith}

@@ -1,5 +1,5 @@
--- `zvt::name::name_size` meets its contract. The loop's invariant: no byte before the i-th is zero, so the count goes on from there.
--- Assumes nothing.
+-- `zvt::name::name_size` meets its contract. The invariant: no byte before the i-th is zero, so the count goes on from there;
+-- the measure is what is left of the bytes. Assumes nothing.
 use mathlib.Core.Path.{_≡_}
 use Prim.Native.Nat.{_+_, _-_, _≤_}
 use native.Mathlib.Omega.{arith}
