@@ -5,10 +5,10 @@ use desk_rules::Line;
 use desk_rules::Moved;
 use desk_rules::Outcome;
 use desk_rules::Phase;
-use zvt::Header;
-use zvt::HeaderAnswer;
-use zvt::Message;
-use zvt::ReadAnswer;
+use zvt_rules::Header;
+use zvt_rules::HeaderAnswer;
+use zvt_rules::Outline;
+use zvt_rules::ReadAnswer;
 use zvt_rules::Refusal;
 use zvt_rules::Status;
 use zvt_rules::ToldAmount;
@@ -188,7 +188,7 @@ pub(crate) fn completed(l: Lane) -> Moved
 }
 
 // 06 1E: the first body byte is the code.
-pub(crate) fn aborted(s: &[u8], m: Message) -> Moved
+pub(crate) fn aborted(s: &[u8], m: Outline) -> Moved
     requires { ⌜ ReadIn m (now s) ⌝ }
     ensures { λ r. ⌜ r ≡ abortedIn m (now (s .entry)) ⌝ }
 {
@@ -212,7 +212,7 @@ pub(crate) fn reported(l: Lane, status: Status) -> Moved
 }
 
 // A message of the course, read, on a running lane.
-pub(crate) fn moved_by(l: Lane, s: &[u8], m: Message) -> Moved
+pub(crate) fn moved_by(l: Lane, s: &[u8], m: Outline) -> Moved
     requires { ⌜ ReadIn m (now s) ⌝ }
     ensures { λ r. ⌜ r ≡ movedAs l m (now (s .entry)) ⌝ }
 {

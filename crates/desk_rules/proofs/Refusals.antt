@@ -7,7 +7,7 @@ use Prim.Native.Nat.{ℕ, _≤_, _<_}
 use native.Mathlib.Omega.{arith}
 use Rattle.zvt_rules.specs.declared.Refusal.{Refusal}
 use Rattle.zvt_rules.specs.Reading.{got}
-use Rattle.zvt_rules.specs.Message.{Header, wholeHeader}
+use Rattle.zvt_rules.specs.Message.{Heading, wholeHeader}
 use Rattle.zvt_rules.proofs.Numbers.{header-numbers, read-numbers}
 use Rattle.desk_rules.specs.declared.Phase.the-variants.{Idle, Running}
 use Rattle.desk_rules.specs.declared.Lane.{Lane}
@@ -162,11 +162,11 @@ module _ (s : State) (i : ℕ) (b : List ℕ) (room : ℕ) where
 
   -- "15 pair or non-empty body not allowed in this phase"
   pub not-allowed-exactly : (decide s (message i b) room ≡ refuse 15)
-      ↔ ((i < 8) × (phaseAt s i ≡ Idle → ⊥) × ((h : Header) × (wholeHeader b ≡ got h) × (Allowed (phaseAt s i) h → ⊥)))
+      ↔ ((i < 8) × (phaseAt s i ≡ Idle → ⊥) × ((h : Heading) × (wholeHeader b ≡ got h) × (Allowed (phaseAt s i) h → ⊥)))
   not-allowed-exactly = (λ e. inv (row _ .0 e), λ k. row _ .1 (not-allowed (k .2 .0) (k .0) (k .1) (k .2 .1) (k .2 .2)))
     where
       inv : Hearing s i b room (refuse 15)
-          → (i < 8) × (phaseAt s i ≡ Idle → ⊥) × ((h : Header) × (wholeHeader b ≡ got h) × (Allowed (phaseAt s i) h → ⊥))
+          → (i < 8) × (phaseAt s i ≡ Idle → ⊥) × ((h : Heading) × (wholeHeader b ≡ got h) × (Allowed (phaseAt s i) h → ⊥))
       inv (bad-header _ f l n e q) = absurd (omega (arith, header-numbers b f e))
       inv (not-allowed h l n e a) = (l, n, (h, e, a))
       inv (bad-body _ h f l p e a r q) = absurd (omega (arith, read-numbers b f r))

@@ -5,7 +5,7 @@ use mathlib.Core.Bool.{Bool, true, false, not, _&&_, _||_}
 use mathlib.Core.List.{List, [], _∷_}
 use lib.Dec.{eqb}
 use Rattle.zvt_rules.specs.Reading.{Reading, got, refused, pick, among}
-use Rattle.zvt_rules.specs.Message.{Header, wholeHeader, Body, bytes, listed, Message, readOf}
+use Rattle.zvt_rules.specs.Message.{Heading, wholeHeader, Body, bytes, listed, Message, readOf}
 use Rattle.zvt_rules.specs.Values.{statusIn, bodyFields}
 use Rattle.zvt_rules.specs.Grammar.{Bytes}
 use Rattle.zvt_rules.specs.declared.Status.{Status}
@@ -37,7 +37,7 @@ pairIs class instruction c i = eqb class c && eqb instruction i
 
 -- "waiting: 80 00 with empty body makes the lane running; 84 xx with empty body ends it, declined, code xx"; else "15 pair or
 -- non-empty body not allowed in this phase"
-unfoldable pub heardWaiting : Lane → Header → Moved
+unfoldable pub heardWaiting : Lane → Heading → Moved
 heardWaiting l h =
     pick (eqb (h .size) 0)
     (pick (pairIs (h .class) (h .instruction) 0x80 0x00) (Becomes (runningLane l))
@@ -93,16 +93,16 @@ afterBody l (got m) = movedBy l m
 abbrev pub runningPairs : List ℕ
 runningPairs = 0x04FF ∷ 0x06D1 ∷ 0x06D3 ∷ 0x040F ∷ 0x061E ∷ 0x060F ∷ []
 
-unfoldable pub heardRunning : Lane → List ℕ → Header → Moved
+unfoldable pub heardRunning : Lane → List ℕ → Heading → Moved
 heardRunning l s h =
     pick (among runningPairs (h .class * 256 + h .instruction)) (afterBody l (readOf s)) (no 15)
 
-unfoldable pub heardBy : Phase → Lane → List ℕ → Header → Moved
+unfoldable pub heardBy : Phase → Lane → List ℕ → Heading → Moved
 heardBy Idle l s h = no 14
 heardBy Waiting l s h = heardWaiting l h
 heardBy Running l s h = heardRunning l s h
 
-unfoldable pub afterHeader : Lane → List ℕ → Reading Header → Moved
+unfoldable pub afterHeader : Lane → List ℕ → Reading Heading → Moved
 afterHeader l s (refused f) = no (f .number)
 afterHeader l s (got h) = heardBy (l .phase) l s h
 

@@ -7,7 +7,7 @@ use mathlib.Core.List.{List, [], _∷_, _++_}
 use Prim.Native.Nat.{ℕ, _+_, _*_, _≤_, _<_}
 use Rattle.zvt_rules.specs.declared.Fault.{Fault}
 use Rattle.zvt_rules.specs.Reading.{got, refused}
-use Rattle.zvt_rules.specs.Message.{Header, wholeHeader, bytes, Message, readOf}
+use Rattle.zvt_rules.specs.Message.{Heading, wholeHeader, bytes, Message, readOf}
 use Rattle.desk_rules.specs.declared.Kind.the-variants.{Sale}
 use Rattle.desk_rules.specs.declared.Phase.{Phase}
 use Rattle.desk_rules.specs.declared.Phase.the-variants.{Idle, Waiting, Running}
@@ -84,7 +84,7 @@ OneOf (k ∷ ks) x = (k ≡ x) ⊎ OneOf ks x
 
 -- "15 pair or non-empty body not allowed in this phase". "waiting: 80 00 with empty body ..; 84 xx with empty body .." Running: 04 FF,
 -- 06 D1, 06 D3, 04 0F, 06 1E, 06 0F
-abbrev pub Allowed : Phase → Header → Type 0
+abbrev pub Allowed : Phase → Heading → Type 0
 Allowed Idle h = ⊥
 Allowed Waiting h = (h .size ≡ 0) × (((h .class ≡ 0x80) × (h .instruction ≡ 0x00)) ⊎ (h .class ≡ 0x84))
 Allowed Running h = OneOf runningPairs (h .class * 256 + h .instruction)
@@ -95,7 +95,7 @@ EmptyAbort m = ((m .class ≡ 0x06) × (m .instruction ≡ 0x1E)) × (m .body �
 
 -- "header, 15": the bytes have a header, and the phase allows its pair
 abbrev pub GoodHeader : Phase → List ℕ → Type 0
-GoodHeader p b = (h : Header) × (wholeHeader b ≡ got h) × Allowed p h
+GoodHeader p b = (h : Heading) × (wholeHeader b ≡ got h) × Allowed p h
 
 -- "body": the bytes are read, and are no empty 06 1E
 abbrev pub GoodBody : List ℕ → Type 0

@@ -11,8 +11,8 @@ use Rattle.zvt_rules.specs.Writing.{messageBytes}
 use Rattle.zvt_rules.specs.Grammar.{Bytes}
 use Rattle.zvt_rules.proofs.MessageBytes.{first-sound, read-complete}
 use Rattle.zvt_rules.specs.declared.Refusal.{Refusal}
-use Rattle.zvt.specs.declared.Message.{Message as ReadMessage}
-use Rattle.zvt.specs.declared.FirstAnswer.the-variants.{Accepted as first-accepted, Refused as first-refused}
+use Rattle.zvt_rules.specs.declared.Outline.{Outline}
+use Rattle.zvt_rules.specs.declared.FirstAnswer.the-variants.{Accepted as first-accepted, Refused as first-refused}
 use Rattle.zvt.specs.Answers.{refusalOf, messageAnswer, asFirstAnswer, firstAnswer}
 use Rattle.zvt.specs.List.{listedMessage}
 use Rattle.listing.specs.declared.Line.the-variants.{Message as message-line, Last}
@@ -56,14 +56,14 @@ module _ (count : ℕ) (s : List ℕ) (most : length s ≤ 65536) (some : length
       go (refused r) k = let same : refusalOf r ≡ f = cc in ap (λ (q : Refusal). last (refusedText count (q .number))) same
 
 -- the text of a message by what the reader answers
-told : (count : ℕ) (t : Message) (m : ReadMessage) (x : Reading Message) (next : ℕ) → messageAnswer t ≡ m
+told : (count : ℕ) (t : Message) (m : Outline) (x : Reading Message) (next : ℕ) → messageAnswer t ≡ m
     → length (messageBytes t) ≡ next → x ≡ got t
     → nextBy count (got t) ≡ message (readText (count + 1) m (listedMessage x)) next
 unfolding nextBy messageText readText messageAnswer
 told count t m x next same size e = rw (e, ← size, ← same, message-ids t)
 
 -- a message's own part of the input is that message
-module _ (s : List ℕ) (b : Bytes s) (m : ReadMessage) (next : ℕ) (e : firstAnswer s ≡ first-accepted m next) where
+module _ (s : List ℕ) (b : Bytes s) (m : Outline) (next : ℕ) (e : firstAnswer s ≡ first-accepted m next) where
   whole : (x : Reading Message) → firstOf s ≡ x → asFirstAnswer x ≡ first-accepted m next
       → (t : Message) × (firstOf s ≡ got t) × (messageAnswer t ≡ m) × (length (messageBytes t) ≡ next) × (readOf (take next s) ≡ got t)
   unfolding asFirstAnswer

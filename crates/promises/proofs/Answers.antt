@@ -12,10 +12,10 @@ use Rattle.zvt_rules.specs.declared.Fault.{Fault}
 use Rattle.zvt_rules.specs.declared.Refusal.{Refusal}
 use Rattle.zvt_rules.specs.Reading.{Reading, got, refused}
 use Rattle.zvt_rules.specs.Message.{wholeHeader, readOf, firstOf}
-use Rattle.zvt.specs.declared.HeaderAnswer.the-variants.{Refused as header-refused}
-use Rattle.zvt.specs.declared.ReadAnswer.the-variants.{Refused as read-refused}
-use Rattle.zvt.specs.declared.FirstAnswer.the-variants.{Refused as first-refused}
-use Rattle.zvt.specs.declared.ShortenAnswer.the-variants.{Written as short-written, Refused as short-refused}
+use Rattle.zvt_rules.specs.declared.HeaderAnswer.the-variants.{Refused as header-refused}
+use Rattle.zvt_rules.specs.declared.ReadAnswer.the-variants.{Refused as read-refused}
+use Rattle.zvt_rules.specs.declared.FirstAnswer.the-variants.{Refused as first-refused}
+use Rattle.zvt_rules.specs.declared.ShortenAnswer.the-variants.{Written as short-written, Refused as short-refused}
 use Rattle.zvt.specs.Answers.{refusalOf, asHeaderAnswer, headerAnswer, asReadAnswer, readAnswer, asFirstAnswer, firstAnswer}
 use Rattle.zvt.specs.Writing.{front, shortened, asShortenAnswer, shortenAnswer, lent, shortenLeaves}
 use Rattle.desk_rules.specs.declared.Phase.{Phase}

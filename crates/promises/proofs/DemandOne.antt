@@ -8,11 +8,11 @@ use mathlib.Core.List.{List}
 use Prim.Native.Nat.{ℕ, _<_, _≤_}
 use lib.ListN.{length, drop}
 use Rattle.zvt_rules.specs.Reading.{got}
-use Rattle.zvt_rules.specs.Message.{Header, wholeHeader}
-use Rattle.zvt.specs.declared.HeaderAnswer.the-variants.{Refused as header-refused}
-use Rattle.zvt.specs.declared.ReadAnswer.the-variants.{Refused as read-refused}
-use Rattle.zvt.specs.declared.FirstAnswer.the-variants.{Refused as first-refused}
-use Rattle.zvt.specs.declared.ShortenAnswer.the-variants.{Written as short-written, Refused as short-refused}
+use Rattle.zvt_rules.specs.Message.{Heading, wholeHeader}
+use Rattle.zvt_rules.specs.declared.HeaderAnswer.the-variants.{Refused as header-refused}
+use Rattle.zvt_rules.specs.declared.ReadAnswer.the-variants.{Refused as read-refused}
+use Rattle.zvt_rules.specs.declared.FirstAnswer.the-variants.{Refused as first-refused}
+use Rattle.zvt_rules.specs.declared.ShortenAnswer.the-variants.{Written as short-written, Refused as short-refused}
 use Rattle.zvt.specs.Answers.{headerAnswer, readAnswer, firstAnswer}
 use Rattle.zvt.specs.Writing.{shortenAnswer, shortenLeaves}
 use Rattle.desk_rules.specs.declared.Phase.the-variants.{Idle, Running}
@@ -89,7 +89,7 @@ module _ (d : Desk) (i : ℕ) (b : List ℕ) (room : ℕ) where
   -- A terminal says nothing out of turn.
   pub out-of-turn : Refuses (answerOf d (message i b) room) 15
       ↔ ((i < 8) × (phaseAt (view d) i ≡ Idle → ⊥)
-      × ((h : Header) × (wholeHeader b ≡ got h) × (Allowed (phaseAt (view d) i) h → ⊥)))
+      × ((h : Heading) × (wholeHeader b ≡ got h) × (Allowed (phaseAt (view d) i) h → ⊥)))
   out-of-turn = Iff·trans (decided-no d (message i b) room 15) (table.not-allowed-exactly (view d) i b room)
 
   -- 1 to 10 are the reader's own numbers, of the header and then of the body.

@@ -10,7 +10,7 @@ use lib.Dec.{ltb, eqb}
 use borrow.Author.Tests.{lt-ltb, le-ltb, ltb-true, ltb-false, eqb-true, eqb-false, ne-eqb}
 use Rattle.zvt_rules.specs.declared.Fault.{Fault}
 use Rattle.zvt_rules.specs.Reading.{Reading, got, refused, noHeader, unless, andThen}
-use Rattle.zvt_rules.specs.Message.{longLength, lengthOf, Header, headerSize, end, headerWith, headerOf, messageOf, wholeHeader, firstOf, readOf}
+use Rattle.zvt_rules.specs.Message.{longLength, lengthOf, Heading, headerSize, end, headerWith, headerOf, messageOf, wholeHeader, firstOf, readOf}
 use Rattle.zvt_rules.specs.Shortest.{write, shorten}
 use Rattle.zvt.specs.Writing.{shortened}
 use Rattle.zvt_rules.proofs.Readings.{got-same, got-not-refused, unless-got, unless-on, then-got, then-on, then-stop}
@@ -38,7 +38,7 @@ sized (c ∷ []) true v h = absurd (omega (arith, h .0))
 sized (c ∷ (i ∷ t)) long v h = rw (length-read c i t long v h)
 
 -- ---- each row of a header is given
-given : (s : List ℕ) {r : Reading Header} → HeaderRow s r → headerOf s ≡ r
+given : (s : List ℕ) {r : Reading Heading} → HeaderRow s r → headerOf s ≡ r
 unfolding headerOf lengthOf longLength headerWith andThen unless
 given [] (missing h) = refl
 given [] (long-missing m n e) = absurd (omega arith)
@@ -56,7 +56,7 @@ given s (there long v h m e) = sized s long v h ∙ rw (le-ltb 4096 v m, le-ltb 
 
 -- ---- and one of them is
 module _ (s : List ℕ) where
-  put : {r : Reading Header} → HeaderRow s r → HeaderRow s (headerOf s)
+  put : {r : Reading Heading} → HeaderRow s r → HeaderRow s (headerOf s)
   put x = rw (given s x) x
 
   by-size : (long : Bool) (v : ℕ) → Says s long v → HeaderRow s (headerOf s)
@@ -79,7 +79,7 @@ found (c ∷ (i ∷ (b ∷ t))) = go t (eqb b 0xFF) refl
     go (l ∷ []) true e = put (c ∷ (i ∷ (b ∷ (l ∷ [])))) (long-missing (omega arith) (omega arith) (eqb-true b 0xFF e))
     go (l ∷ (k ∷ t)) true e = by-size (c ∷ (i ∷ (b ∷ (l ∷ (k ∷ t))))) true (k * 256 + l) (omega arith, eqb-true b 0xFF e, refl)
 
-pub header-table : (s : List ℕ) (r : Reading Header) → (headerOf s ≡ r) ↔ HeaderRow s r
+pub header-table : (s : List ℕ) (r : Reading Heading) → (headerOf s ≡ r) ↔ HeaderRow s r
 header-table s r = (λ e. rw e at (found s), given s)
 
 -- ---- refused with a number
@@ -136,7 +136,7 @@ pub whole-no : (s : List ℕ) (n : ℕ) → No (wholeHeader s) n ↔ WholeNo s n
 unfolding wholeHeader
 whole-no s n = then-table (headerOf s) _ n (header-no s n) (λ h. header-table s (got h)) (λ h. over-no (end h) (length s) 3 h n)
 
-pub whole-table : (s : List ℕ) (h : Header) → (wholeHeader s ≡ got h) ↔ Whole s h
+pub whole-table : (s : List ℕ) (h : Heading) → (wholeHeader s ≡ got h) ↔ Whole s h
 unfolding wholeHeader
 whole-table s h = (
   λ e.
@@ -154,7 +154,7 @@ whole-table s h = (
 pub got-no : {A B : Type 0} (x : Reading A) (g : A → B) (n : ℕ) → No (andThen x λ a. got (g a)) n ↔ No x n
 got-no x g n = (λ k. ⊎-elim (λ b. b) (λ b. absurd (got-not-refused (b .2 .1))) (then-no x _ n k), λ k. no-then x _ n (inl k))
 
-message-no : (s : List ℕ) (h : Header) (n : ℕ) → No (messageOf s h) n ↔ BodyNo s h n
+message-no : (s : List ℕ) (h : Heading) (n : ℕ) → No (messageOf s h) n ↔ BodyNo s h n
 unfolding messageOf
 message-no s h n = got-no _ _ n
 

@@ -18,7 +18,7 @@ use Rattle.zvt_rules.proofs.Readings.{pick-test}
 use Rattle.zvt_rules.proofs.MessageBytes.{read-sound}
 use Rattle.zvt.specs.Answers.{messageAnswer, asReadAnswer, readAnswer}
 use Rattle.zvt.specs.List.{listedAt, listedFrom, listedBody, listedMessage, nthListed, fieldAnswer}
-use Rattle.zvt.specs.declared.Listed.{Listed}
+use Rattle.zvt_rules.specs.declared.Listed.{Listed}
 use Rattle.desk_rules.specs.declared.Phase.{Phase}
 use Rattle.desk_rules.specs.declared.Phase.the-variants.{Idle, Waiting, Running}
 use Rattle.desk_rules.specs.declared.Lane.{Lane}

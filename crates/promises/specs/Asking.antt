@@ -9,10 +9,10 @@ use Rattle.zvt_rules.specs.Reading.{Reading, got, refused}
 use Rattle.zvt_rules.specs.Fields.{Field}
 use Rattle.zvt_rules.specs.Message.{Message, readOf}
 use Rattle.zvt_rules.specs.Values.{bodyFields}
-use Rattle.zvt.specs.declared.ReadAnswer.{ReadAnswer}
-use Rattle.zvt.specs.declared.ReadAnswer.the-variants.{Accepted, Refused as read-refused}
-use Rattle.zvt.specs.declared.ShortenAnswer.{ShortenAnswer}
-use Rattle.zvt.specs.declared.ShortenAnswer.the-variants.{Written as short-written, Refused as short-refused}
+use Rattle.zvt_rules.specs.declared.ReadAnswer.{ReadAnswer}
+use Rattle.zvt_rules.specs.declared.ReadAnswer.the-variants.{Accepted, Refused as read-refused}
+use Rattle.zvt_rules.specs.declared.ShortenAnswer.{ShortenAnswer}
+use Rattle.zvt_rules.specs.declared.ShortenAnswer.the-variants.{Written as short-written, Refused as short-refused}
 use Rattle.zvt.specs.Answers.{readAnswer}
 use Rattle.zvt.specs.Writing.{shortenAnswer, shortenLeaves}
 use Rattle.zvt.specs.Name.{cardName}

@@ -11,8 +11,8 @@ use lib.Dec.{eqb}
 use borrow.Author.Tests.{eq-eqb, ne-eqb}
 use Rattle.zvt_rules.specs.Reading.{pick, part}
 use Rattle.zvt_rules.proofs.ObjectSteps.{part-length}
-use Rattle.zvt.specs.declared.Listed.{Listed}
-use Rattle.zvt.specs.declared.FieldAnswer.the-variants.{Field as listed-field, End}
+use Rattle.zvt_rules.specs.declared.Listed.{Listed}
+use Rattle.zvt_rules.specs.declared.FieldAnswer.the-variants.{Field as listed-field, End}
 use Rattle.zvt.specs.List.{namedListed, listedIn}
 use Rattle.zvt.specs.Name.{upToZero, own, between, sizedName, nameIn, nameAt, nameBytes, cardName, namePlace}
 use Rattle.zvt.proofs.PlaceLaws.{StatusIn}

@@ -8,7 +8,7 @@ use lib.Seq.{length-take-le}
 use borrow.Author.Tests.{lt-ltb, le-ltb}
 use Rattle.zvt_rules.specs.declared.Fault.{Fault}
 use Rattle.zvt_rules.specs.Reading.{Reading, got, refused, noHeader, unless, part}
-use Rattle.zvt_rules.specs.Message.{Header as MessageHeader, start, end, layoutOf, Body, bodyOf, messageOf, wholeHeader, readOf}
+use Rattle.zvt_rules.specs.Message.{Heading, start, end, layoutOf, Body, bodyOf, messageOf, wholeHeader, readOf}
 use Rattle.zvt_rules.specs.Writing.{bodyBytes, messageBytes}
 use Rattle.zvt_rules.specs.Shortest.{shortBody, shortMessage, write, shorten}
 use Rattle.zvt_rules.specs.Grammar.{Bytes}
@@ -18,12 +18,12 @@ use Rattle.zvt_rules.proofs.ObjectBytes.{bytes-part}
 use Rattle.zvt_rules.proofs.FieldSteps.{header-in}
 use Rattle.zvt_rules.proofs.MessageBytes.{body-sound, body-complete}
 use Rattle.zvt_rules.proofs.MessageShort.{body-shorter}
-use Rattle.zvt.specs.declared.Header.{Header}
+use Rattle.zvt_rules.specs.declared.Header.{Header}
 use Rattle.zvt.specs.declared.objects.Tally.{Tally}
 use Rattle.zvt.specs.declared.objects.PartRead.the-variants.{Part, Refused as part-refused}
 use Rattle.zvt.specs.declared.headers.HeaderRead.the-variants.{Header as header-read, Refused as header-refused}
-use Rattle.zvt.specs.declared.ShortenAnswer.{ShortenAnswer}
-use Rattle.zvt.specs.declared.ShortenAnswer.the-variants.{Written, Refused}
+use Rattle.zvt_rules.specs.declared.ShortenAnswer.{ShortenAnswer}
+use Rattle.zvt_rules.specs.declared.ShortenAnswer.the-variants.{Written, Refused}
 use Rattle.zvt.specs.Header.{headerIn, wholeAnswer}
 use Rattle.zvt.specs.Body.{spareBody, bodyTally, bodyAnswer, bodyIn}
 use Rattle.zvt.specs.Answers.{refusalOf}
@@ -69,10 +69,10 @@ pub record Short (s : List ℕ) (h : Header) (t : Tally) : Type 0 where
   pub spare : t .spare ≤ h .length
   pub size : length (headerBytes 0 0 (h .length - t .spare)) + (h .length - t .spare) ≡ length (shortMessageOf h s)
 
-abbrev inside : List ℕ → MessageHeader → List ℕ
+abbrev inside : List ℕ → Heading → List ℕ
 inside s m = part (start m) (end m) s
 
-module _ (s : List ℕ) (m : MessageHeader) (e : wholeHeader s ≡ got m) (bs : Bytes s) (fits : end m ≤ length s) where
+module _ (s : List ℕ) (m : Heading) (e : wholeHeader s ≡ got m) (bs : Bytes s) (fits : end m ≤ length s) where
   body-short : (b : Body) → bodyOf (start m) (inside s m) (layoutOf (m .class) (m .instruction)) ≡ got b
       → Short s (headerIn m) (bodyTally (inside s m) b)
   unfolding headerIn headerLayout bodyPart BodyReads shortMessageOf bodyTally spareBody headerBytes shorten readOf messageOf write messageBytes shortMessage

@@ -21,9 +21,9 @@ use Rattle.zvt_rules.proofs.FieldBytes.{list-sound}
 use Rattle.zvt_rules.proofs.DigitLaws.{number-fits}
 use Rattle.zvt.specs.declared.values.NumberFound.the-variants.{Missing as no-number, Number}
 use Rattle.zvt.specs.Numbers.{numberFound}
-use Rattle.zvt.specs.declared.Listed.{Listed}
-use Rattle.zvt.specs.declared.FieldAnswer.{FieldAnswer}
-use Rattle.zvt.specs.declared.FieldAnswer.the-variants.{Field as listed-field, End}
+use Rattle.zvt_rules.specs.declared.Listed.{Listed}
+use Rattle.zvt_rules.specs.declared.FieldAnswer.{FieldAnswer}
+use Rattle.zvt_rules.specs.declared.FieldAnswer.the-variants.{Field as listed-field, End}
 use Rattle.zvt.specs.List.{namedListed, listFields, fieldsBetween, listedIn, ListIn}
 use Rattle.zvt_rules.specs.Values.{fieldValue, Found, missing, found, valueIn}
 use Rattle.zvt.specs.Writing.{ListReads}

@@ -9,8 +9,8 @@ use Rattle.zvt_rules.specs.Reading.{part}
 use Rattle.zvt_rules.specs.Message.{Body, bodyOf, securedOf, layoutOf, countBody}
 use Rattle.zvt_rules.specs.Writing.{bodyBytes}
 use Rattle.zvt_rules.specs.Shortest.{shortBody}
-use Rattle.zvt.specs.declared.Header.{Header}
-use Rattle.zvt.specs.declared.Message.{Message}
+use Rattle.zvt_rules.specs.declared.Header.{Header}
+use Rattle.zvt_rules.specs.declared.Outline.{Outline}
 use Rattle.zvt.specs.declared.objects.Tally.{Tally}
 use Rattle.zvt.specs.declared.objects.PartRead.{PartRead}
 use Rattle.zvt.specs.Objects.{asPart}
@@ -32,7 +32,7 @@ unfoldable pub bodyIn : Header → List ℕ → PartRead
 bodyIn h s = bodyAnswer (h .start) (part (h .start) (h .start + h .length) s) (layoutOf (h .class) (h .instruction))
 
 -- a message by its header and the tally of its body
-unfoldable pub described : Header → Tally → Message
+unfoldable pub described : Header → Tally → Outline
 described h t =
     record {
       class = h .class;

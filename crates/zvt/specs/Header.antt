@@ -4,8 +4,8 @@ use mathlib.Core.List.{List}
 use lib.ListN.{length}
 use lib.Dec.{ltb}
 use Rattle.zvt_rules.specs.Reading.{Reading, got, refused, noHeader, unless, andThen}
-use Rattle.zvt_rules.specs.Message.{Header as MessageHeader, start, headerOf, wholeHeader}
-use Rattle.zvt.specs.declared.Header.{Header}
+use Rattle.zvt_rules.specs.Message.{Heading, start, headerOf, wholeHeader}
+use Rattle.zvt_rules.specs.declared.Header.{Header}
 use Rattle.zvt.specs.declared.headers.HeaderRead.{HeaderRead}
 use Rattle.zvt.specs.declared.headers.HeaderRead.the-variants.{Header as header-read, Refused as header-refused}
 
@@ -14,7 +14,7 @@ asHeader (got h) = header-read h
 asHeader (refused r) = header-refused r
 
 -- the header by the place where its body starts
-unfoldable pub headerIn : MessageHeader → Header
+unfoldable pub headerIn : Heading → Header
 headerIn h = record { class = h .class; instruction = h .instruction; start = start h; length = h .size }
 
 unfoldable pub fitting : Header → List ℕ → HeaderRead

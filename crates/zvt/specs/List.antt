@@ -8,11 +8,11 @@ use Rattle.zvt_rules.specs.Fields.{Field, fieldId, ListRead, listOf}
 use Rattle.zvt_rules.specs.Message.{headerSize, Body, bytes, listed, Message, readOf}
 use Rattle.zvt_rules.specs.Writing.{fieldBytes, messageBytes}
 use Rattle.zvt_rules.specs.Values.{fieldValue, isStatus}
-use Rattle.zvt.specs.declared.Listed.{Listed}
-use Rattle.zvt.specs.declared.FieldAnswer.{FieldAnswer}
-use Rattle.zvt.specs.declared.FieldAnswer.the-variants.{Field as listed-field, End}
-use Rattle.zvt.specs.declared.ListPlace.{ListPlace}
-use Rattle.zvt.specs.declared.ListPlace.the-variants.{Nowhere, Between}
+use Rattle.zvt_rules.specs.declared.Listed.{Listed}
+use Rattle.zvt_rules.specs.declared.FieldAnswer.{FieldAnswer}
+use Rattle.zvt_rules.specs.declared.FieldAnswer.the-variants.{Field as listed-field, End}
+use Rattle.zvt_rules.specs.declared.ListPlace.{ListPlace}
+use Rattle.zvt_rules.specs.declared.ListPlace.the-variants.{Nowhere, Between}
 use Rattle.zvt.specs.Writing.{ListReads}
 
 -- a field that begins at place at: a value ends where its field ends

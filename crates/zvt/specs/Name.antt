@@ -5,8 +5,8 @@ use lib.ListN.{length}
 use lib.Dec.{eqb}
 use Rattle.zvt_rules.specs.Reading.{Reading, got, refused, pick, part}
 use Rattle.zvt_rules.specs.Message.{Message, readOf}
-use Rattle.zvt.specs.declared.FieldAnswer.{FieldAnswer}
-use Rattle.zvt.specs.declared.FieldAnswer.the-variants.{Field as listed-field, End}
+use Rattle.zvt_rules.specs.declared.FieldAnswer.{FieldAnswer}
+use Rattle.zvt_rules.specs.declared.FieldAnswer.the-variants.{Field as listed-field, End}
 use Rattle.zvt_rules.specs.Values.{isStatus}
 use Rattle.zvt.specs.List.{listedMessage, namedListed}
 

@@ -11,10 +11,10 @@ use Rattle.zvt_rules.specs.Fields.{ListRead, listOf}
 use Rattle.zvt_rules.specs.Message.{Body, bodyOf, layoutOf}
 use Rattle.zvt_rules.specs.Writing.{lenBytes, runBytes, listBytes, bodyBytes, lengthBytes}
 use Rattle.zvt_rules.specs.Shortest.{formFor, shortRun, shortList, shortBody, shorten}
-use Rattle.zvt.specs.declared.Header.{Header}
+use Rattle.zvt_rules.specs.declared.Header.{Header}
 use Rattle.zvt.specs.declared.objects.Bounds.{Bounds}
-use Rattle.zvt.specs.declared.ShortenAnswer.{ShortenAnswer}
-use Rattle.zvt.specs.declared.ShortenAnswer.the-variants.{Written, Refused}
+use Rattle.zvt_rules.specs.declared.ShortenAnswer.{ShortenAnswer}
+use Rattle.zvt_rules.specs.declared.ShortenAnswer.the-variants.{Written, Refused}
 use Rattle.zvt.specs.Answers.{refusalOf}
 
 -- w at the end of d, and w at its front

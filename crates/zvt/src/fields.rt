@@ -1,5 +1,4 @@
 // Fields: one id byte, then the value; a list of them.
-use crate::Message;
 use crate::format::format_of;
 use crate::format::holds_digits;
 use crate::objects::Bounds;
@@ -13,6 +12,7 @@ use crate::objects::read_run;
 use crate::objects::tally_of;
 use zvt_rules::Fault;
 use zvt_rules::Format;
+use zvt_rules::Outline;
 use zvt_rules::Place;
 ghost use mathlib.Core.Path.{_≡_};
 ghost use Prim.Native.Nat.{_+_, _<_, _≤_};
@@ -149,7 +149,7 @@ pub(crate) fn read_field(s: &[u8], at: usize, n: u8, twice: bool) -> PartRead
             }
             let from = b.from;
             let to = b.to;
-            match read_run(&s[from..to], at + from, Message::LEVELS, n) {
+            match read_run(&s[from..to], at + from, Outline::LEVELS, n) {
                 PartRead::Refused(f) => PartRead::Refused(f),
                 PartRead::Part(r) => PartRead::Part(tally_of(b, r.objects, r.spare)),
             }

@@ -1,7 +1,7 @@
 // What a status information tells the desk.
-use crate::FieldAnswer;
 use crate::digits::number;
 use crate::list::named;
+use zvt_rules::FieldAnswer;
 use zvt_rules::ToldAmount;
 use zvt_rules::ToldCode;
 use zvt_rules::ToldReceipt;

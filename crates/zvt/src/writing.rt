@@ -1,12 +1,12 @@
 // The shortest writing of a message. It is put down from its end to its start, so that each length is known when its turn comes:
 // inner ones first.
-use crate::Header;
 use crate::fields::field_bounds;
 use crate::format::format_of;
 use crate::format::layout_of;
 use crate::objects::Bounds;
 use crate::objects::BoundsRead;
 use crate::objects::head_of;
+use zvt_rules::Header;
 use zvt_rules::Layout;
 ghost use mathlib.Core.Path.{_≡_};
 ghost use mathlib.Core.Bool.{true};

@@ -33,8 +33,8 @@ add-next c =
     let w = first-within _ _ (sym (header .header-of .ensures) ∙ body .before .before .h .given .1) in
     omega (arith, w .0, w .1)
 
-message-of-requires : tie.Need-message-of-requires
-message-of-requires c κs = search needs
+outline-of-requires : tie.Need-outline-of-requires
+outline-of-requires c κs = search needs
 
 returns : tie.Need-returns
 returns c = sym (first-no-header _ _ (sym (c .before .before .before .header-of .ensures) ∙ c .before .f .given .1))
@@ -51,7 +51,7 @@ returns-3 c =
     let body = c .before .before .before .before .before in
     let header = body .before .before .before .before in
     let start = header .before in
-    rw (c .message-of .ensures)
+    rw (c .outline-of .ensures)
     (sym (first-taken _ _ (sym (header .header-of .ensures) ∙ body .before .before .h .given .1)
     (bytes-known (start .before .args .s .now) (start .shared-slice-known .given)) _
     (sym (body .body-in .ensures) ∙ c .before .before .before .t .given .1)))
@@ -67,7 +67,7 @@ read-first-spec =
     enum-known-f-2
     enum-known-t
     add-next
-    message-of-requires
+    outline-of-requires
     returns
     returns-2
     returns-3)

@@ -1,10 +1,10 @@
--- `zvt::body::message_of` meets its contract. Assumes nothing.
+-- `zvt::body::outline_of` meets its contract. Assumes nothing.
 use mathlib.Core.Logic.{⊎-elim}
 use mathlib.Core.Path.{sym, _∙_}
 use borrow.Author.Tests.{eq-eqb, ne-eqb}
 use Rattle.zvt.proofs.MessageLaws.{described-spare, described-full, described-start}
-use Rattle.zvt.proofs.body.message_of.Statement.{statement}
-use Rattle.zvt.proofs.body.message_of.Tie as tie
+use Rattle.zvt.proofs.body.outline_of.Statement.{statement}
+use Rattle.zvt.proofs.body.outline_of.Tie as tie
 
 returns : tie.Need-returns
 returns c = described-full _ _ (c .before .before .before .before .if1 .taken) (c .if3 .taken)
@@ -17,5 +17,5 @@ returns-2 c =
 returns-3 : tie.Need-returns-3
 returns-3 c = described-spare _ _ (c .if1 .left)
 
-pub message-of-spec : {M : Type 1} → statement M
-message-of-spec = tie.close (tie.spec returns returns-2 returns-3)
+pub outline-of-spec : {M : Type 1} → statement M
+outline-of-spec = tie.close (tie.spec returns returns-2 returns-3)
