@@ -24,8 +24,7 @@ use Rattle.zvt_rules.specs.declared.Header.{Header}
 use Rattle.zvt_rules.specs.declared.Outline.{Outline}
 use Rattle.zvt_rules.specs.declared.HeaderAnswer.the-variants.{Header as header-got, Refused as header-refused}
 use Rattle.zvt_rules.specs.declared.ReadAnswer.the-variants.{Accepted, Refused as read-refused}
-use Rattle.zvt.specs.Header.{headerIn}
-use Rattle.zvt.specs.Answers.{refusalOf, asHeaderAnswer, headerAnswer, messageAnswer, asReadAnswer, readAnswer}
+use Rattle.zvt_rules.specs.Answers.{refusalOf, headerIn, asHeaderAnswer, headerAnswer, outlineOf, asReadAnswer, readAnswer}
 use Rattle.zvt.proofs.Tables.{allIn, allFrom, anyOf, NoneOf, at-key, Table, keyed, ranged}
 use Rattle.desk_rules.specs.declared.Kind.{Kind}
 use Rattle.desk_rules.specs.declared.Kind.the-variants.{Sale, Refund, Reversal}
@@ -114,17 +113,17 @@ pub reported-code : (l : Lane) (status : Status) (code : ℕ) → status .code �
 unfolding reportedAs reportedBy
 reported-code l status code e = rw e
 
-as-read : (x : Reading Message) (m : Outline) → asReadAnswer x ≡ Accepted m → (t : Message) × (x ≡ got t) × (messageAnswer t ≡ m)
+as-read : (x : Reading Message) (m : Outline) → asReadAnswer x ≡ Accepted m → (t : Message) × (x ≡ got t) × (outlineOf t ≡ m)
 unfolding asReadAnswer
 as-read (got t) m e = (t, refl, cc)
 as-read (refused f) m e = absurd (let z : _≡_ {A = ℕ} 0 1 = cc in omega arith)
 
-read-tree : (m : Outline) (s : List ℕ) → ReadIn m s → (t : Message) × (readOf s ≡ got t) × (messageAnswer t ≡ m)
+read-tree : (m : Outline) (s : List ℕ) → ReadIn m s → (t : Message) × (readOf s ≡ got t) × (outlineOf t ≡ m)
 unfolding ReadIn readAnswer
 read-tree m s e = as-read (readOf s) m e
 
-tree-extent : (t : Message) → messageAnswer t .start + messageAnswer t .length ≡ length (messageBytes t)
-unfolding messageAnswer
+tree-extent : (t : Message) → outlineOf t .start + outlineOf t .length ≡ length (messageBytes t)
+unfolding outlineOf
 tree-extent t = sym (message-size t)
 
 -- its body ends where the bytes end
@@ -133,20 +132,20 @@ extent m s b e =
     let k = read-tree m s e in rw (← (k .2)) (tree-extent (k .0) ∙ ap length (read-sound s (k .0) b (k .1) .0))
 
 -- 06 1E has a plain body: its first byte stands where the body starts
-aborted-plain : (t : Message) → LayoutOk Plain (t .body) → abortedIn (messageAnswer t) (messageBytes t) ≡ abortedBy (t .body)
-unfolding LayoutOk abortedBy abortedIn messageAnswer messageBytes bodyBytes lengthBytes
+aborted-plain : (t : Message) → LayoutOk Plain (t .body) → abortedIn (outlineOf t) (messageBytes t) ≡ abortedBy (t .body)
+unfolding LayoutOk abortedBy abortedIn outlineOf messageBytes bodyBytes lengthBytes
 aborted-plain t ok = go (t .long) (t .body) ok
   where
     go : (long : Bool) (body : Body) → LayoutOk Plain body
         → (let u : Message = record { class = t .class; instruction = t .instruction; long = long; body = body } in
-        abortedIn (messageAnswer u) (messageBytes u) ≡ abortedBy body)
+        abortedIn (outlineOf u) (messageBytes u) ≡ abortedBy body)
     go long (bytes []) ok = refl
     go true (bytes (b ∷ s)) ok = rw (ne-eqb (length (b ∷ s)) 0 (λ e. omega arith))
     go false (bytes (b ∷ s)) ok = rw (ne-eqb (length (b ∷ s)) 0 (λ e. omega arith))
     go long (listed password fs) ok = absurd ok
 
 module _ (l : Lane) (s : List ℕ) (t : Message) (b : Bytes s) (e : readOf s ≡ got t) where
-  aborted-same : t .class ≡ 0x06 → t .instruction ≡ 0x1E → abortedIn (messageAnswer t) s ≡ abortedBy (t .body)
+  aborted-same : t .class ≡ 0x06 → t .instruction ≡ 0x1E → abortedIn (outlineOf t) s ≡ abortedBy (t .body)
   unfolding MessageOk layoutOf among
   aborted-same c i = let k = read-sound s t b e in rw (← (k .0)) (aborted-plain t (rw (c, i) at (k .1 .0)))
 
@@ -161,12 +160,12 @@ module _ (l : Lane) (s : List ℕ) (t : Message) (b : Bytes s) (e : readOf s ≡
       go true = refl
       go false = refl
 
-  moved-same : movedAs l (messageAnswer t) s ≡ movedBy l t
-  unfolding movedAs movedBy messageAnswer
+  moved-same : movedAs l (outlineOf t) s ≡ movedBy l t
+  unfolding movedAs movedBy outlineOf
   moved-same = go (eqb (t .class) 0x06) refl (eqb (t .instruction) 0x0F) refl (eqb (t .instruction) 0x1E) refl
     where
       go : (x : Bool) → eqb (t .class) 0x06 ≡ x → (y : Bool) → eqb (t .instruction) 0x0F ≡ y → (z : Bool) → eqb (t .instruction) 0x1E ≡ z
-          → movedAs l (messageAnswer t) s ≡ movedBy l t
+          → movedAs l (outlineOf t) s ≡ movedBy l t
       go true c true i z j = rw (c, i)
       go true c false i true j = rw (c, i, j) (aborted-same (eqb-true _ _ c) (eqb-true _ _ j))
       go true c false i false j = rw (c, i, j, and-false)

@@ -9,7 +9,7 @@ use Rattle.zvt_rules.specs.Reading.{pick, among}
 use Rattle.zvt_rules.specs.Message.{Heading}
 use Rattle.zvt_rules.specs.Values.{statusOf}
 use Rattle.zvt_rules.specs.declared.Status.{Status}
-use Rattle.zvt.specs.Answers.{readAnswer}
+use Rattle.zvt_rules.specs.Answers.{readAnswer}
 use Rattle.zvt_rules.specs.declared.Header.{Header}
 use Rattle.zvt_rules.specs.declared.Outline.{Outline}
 use Rattle.zvt_rules.specs.declared.ReadAnswer.the-variants.{Accepted}

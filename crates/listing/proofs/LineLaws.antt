@@ -13,7 +13,7 @@ use Rattle.zvt_rules.specs.Grammar.{Bytes}
 use Rattle.zvt_rules.proofs.MessageBytes.{read-sound}
 use Rattle.zvt_rules.specs.declared.Listed.{Listed}
 use Rattle.zvt_rules.specs.declared.FieldAnswer.the-variants.{Field as listed-field, End}
-use Rattle.zvt.specs.List.{listedAt, listedFrom, listedBody, listedMessage, nthListed}
+use Rattle.zvt_rules.specs.Listed.{listedAt, listedFrom, listedBody, listedMessage, nthListed}
 use Rattle.listing.specs.Text.{Text, write, hexText}
 use Rattle.listing.specs.Lines.{idsText, bodyIds, listedText}
 use Rattle.listing.proofs.TextLaws.{write-append, write-first}

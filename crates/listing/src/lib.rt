@@ -9,7 +9,7 @@ use zvt_rules::FieldAnswer;
 use zvt_rules::FirstAnswer;
 use zvt_rules::Outline;
 ghost use mathlib.Core.Path.{_≡_};
-ghost use Rattle.zvt.specs.List.{listedMessage};
+ghost use Rattle.zvt_rules.specs.Listed.{listedMessage};
 ghost use Rattle.zvt_rules.specs.Message.{readOf};
 ghost use Rattle.listing.specs.Text.{text, write};
 ghost use Rattle.listing.specs.Lines.{listedText, startText, sizeText, readText, endText, okText, refusedText, nextOf, Shown, Bounded};

@@ -16,8 +16,8 @@ use Rattle.zvt_rules.specs.declared.HeaderAnswer.the-variants.{Refused as heade
 use Rattle.zvt_rules.specs.declared.ReadAnswer.the-variants.{Refused as read-refused}
 use Rattle.zvt_rules.specs.declared.FirstAnswer.the-variants.{Refused as first-refused}
 use Rattle.zvt_rules.specs.declared.ShortenAnswer.the-variants.{Written as short-written, Refused as short-refused}
-use Rattle.zvt.specs.Answers.{refusalOf, asHeaderAnswer, headerAnswer, asReadAnswer, readAnswer, asFirstAnswer, firstAnswer}
-use Rattle.zvt.specs.Writing.{front, shortened, asShortenAnswer, shortenAnswer, lent, shortenLeaves}
+use Rattle.zvt_rules.specs.Answers.{refusalOf, asHeaderAnswer, headerAnswer, asReadAnswer, readAnswer, asFirstAnswer, firstAnswer, shortened, asShortenAnswer, shortenAnswer, shortenLeaves}
+use Rattle.zvt_rules.specs.Buffers.{writtenLeaves}
 use Rattle.desk_rules.specs.declared.Phase.{Phase}
 use Rattle.desk_rules.specs.declared.Phase.the-variants.{Idle, Waiting, Running}
 use Rattle.desk_rules.specs.declared.Lane.{Lane}
@@ -71,14 +71,14 @@ short-says room s n =
 
 -- what a buffer that was lent holds at the end
 pub short-leaves : (s out : List ℕ) (n : ℕ) → shortenAnswer (length out) s ≡ short-refused (number n) → shortenLeaves s out ≡ out
-unfolding shortenLeaves lent
+unfolding shortenLeaves writtenLeaves
 short-leaves s out n e = let h = short-says (length out) s n .0 e in rw (h .1)
 
 pub short-beyond : (s out : List ℕ) (k : ℕ) → shortenAnswer (length out) s ≡ short-written k → drop k (shortenLeaves s out) ≡ drop k out
-unfolding shortenAnswer asShortenAnswer shortenLeaves lent front
+unfolding shortenAnswer asShortenAnswer shortenLeaves writtenLeaves
 short-beyond s out k = go (shortened (length out) s)
   where
-    go : (x : Reading (List ℕ)) → asShortenAnswer x ≡ short-written k → drop k (lent x out) ≡ drop k out
+    go : (x : Reading (List ℕ)) → asShortenAnswer x ≡ short-written k → drop k (writtenLeaves x out) ≡ drop k out
     go (got w) e = let q : length w ≡ k = cc in drop-at w (drop (length w) out) k q ∙ ap (λ (n : ℕ). drop n out) q
     go (refused f) e = absurd (let z : _≡_ {A = ℕ} 0 1 = cc in omega arith)
 

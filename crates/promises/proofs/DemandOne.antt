@@ -13,8 +13,7 @@ use Rattle.zvt_rules.specs.declared.HeaderAnswer.the-variants.{Refused as heade
 use Rattle.zvt_rules.specs.declared.ReadAnswer.the-variants.{Refused as read-refused}
 use Rattle.zvt_rules.specs.declared.FirstAnswer.the-variants.{Refused as first-refused}
 use Rattle.zvt_rules.specs.declared.ShortenAnswer.the-variants.{Written as short-written, Refused as short-refused}
-use Rattle.zvt.specs.Answers.{headerAnswer, readAnswer, firstAnswer}
-use Rattle.zvt.specs.Writing.{shortenAnswer, shortenLeaves}
+use Rattle.zvt_rules.specs.Answers.{headerAnswer, readAnswer, firstAnswer, shortenAnswer, shortenLeaves}
 use Rattle.desk_rules.specs.declared.Phase.the-variants.{Idle, Running}
 use Rattle.desk_rules.specs.declared.Desk.{Desk}
 use Rattle.desk_rules.specs.declared.Reply.the-variants.{Written}

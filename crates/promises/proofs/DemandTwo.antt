@@ -21,8 +21,8 @@ use Rattle.zvt_rules.proofs.MessageBytes as reading
 use Rattle.zvt_rules.proofs.MessageShort as shortest
 use Rattle.zvt_rules.specs.declared.Outline.{Outline}
 use Rattle.zvt_rules.specs.declared.ReadAnswer.the-variants.{Accepted}
-use Rattle.zvt.specs.Answers.{messageAnswer, asReadAnswer, readAnswer}
-use Rattle.zvt.specs.Name.{nameAt, cardName, namePlace}
+use Rattle.zvt_rules.specs.Answers.{outlineOf, asReadAnswer, readAnswer}
+use Rattle.zvt_rules.specs.Name.{nameAt, cardName, namePlace}
 use Rattle.desk_rules.specs.declared.Desk.{Desk}
 use Rattle.desk_rules.specs.declared.Reply.the-variants.{Written}
 use Rattle.desk_rules.specs.Numbers.{amountOk, receiptOk, passwordOk}
@@ -38,12 +38,12 @@ use Rattle.promises.proofs.NameTable.{shown, name-lies}
 
 -- Bytes are accepted exactly where they are those of a message within the limits, and what is answered is told of that message.
 pub read-exactly : (s : List ℕ) (t : Outline) → Bytes s
-    → (readAnswer s ≡ Accepted t) ↔ ((m : Message) × (messageBytes m ≡ s) × MessageOk m × (messageAnswer m ≡ t))
+    → (readAnswer s ≡ Accepted t) ↔ ((m : Message) × (messageBytes m ≡ s) × MessageOk m × (outlineOf m ≡ t))
 unfolding readAnswer asReadAnswer
 read-exactly s t b = (to (readOf s) refl, λ k. ap asReadAnswer (reading.read-exactly s (k .0) b .1 (k .1, k .2)) ∙ ap Accepted (k .3))
   where
     to : (x : Reading Message) → readOf s ≡ x → asReadAnswer x ≡ Accepted t
-        → (m : Message) × (messageBytes m ≡ s) × MessageOk m × (messageAnswer m ≡ t)
+        → (m : Message) × (messageBytes m ≡ s) × MessageOk m × (outlineOf m ≡ t)
     to (got m) e h = let k = reading.read-exactly s m b .0 e in (m, k .0, k .1, cc)
     to (refused f) e h = absurd (let z : _≡_ {A = ℕ} 0 1 = cc in omega arith)
 
@@ -58,7 +58,7 @@ first-of-many = reading.first-complete
 -- "The reader reports the number of objects, and it is the number that the definition counts", at most 64.
 pub objects-counted : (s : List ℕ) (t : Outline) → Bytes s → readAnswer s ≡ Accepted t
     → (m : Message) × (readOf s ≡ got m) × (t .objects ≡ countOf m) × (countOf m ≤ 64)
-unfolding messageAnswer
+unfolding outlineOf
 objects-counted s t b h =
     let k = read-exactly s t b .0 h in
     (k .0, reading.read-exactly s (k .0) b .1 (k .1, k .2), ap (λ (x : Outline). x .objects) (sym (k .3)), reading.count-limit (k .0) (k .2))
@@ -105,7 +105,7 @@ reply-reads-back = refl
 
 -- Shortening changes a message exactly where the reader says that it is not shortest.
 pub same-bytes-exactly : (s : List ℕ) (t : Outline) → Bytes s → readAnswer s ≡ Accepted t → (shorten s ≡ got s) ↔ (t .shortest ≡ true)
-unfolding messageAnswer
+unfolding outlineOf
 same-bytes-exactly s t b h =
     let k = read-exactly s t b .0 h in
     let m = k .0 in

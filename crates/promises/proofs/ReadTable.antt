@@ -12,9 +12,9 @@ use Rattle.zvt_rules.specs.declared.Fault.{Fault}
 use Rattle.zvt_rules.specs.Reading.{Reading, got, refused, noHeader, unless, andThen}
 use Rattle.zvt_rules.specs.Message.{longLength, lengthOf, Heading, headerSize, end, headerWith, headerOf, messageOf, wholeHeader, firstOf, readOf}
 use Rattle.zvt_rules.specs.Shortest.{write, shorten}
-use Rattle.zvt.specs.Writing.{shortened}
+use Rattle.zvt_rules.specs.Answers.{shortened}
 use Rattle.zvt_rules.proofs.Readings.{got-same, got-not-refused, unless-got, unless-on, then-got, then-on, then-stop}
-use Rattle.zvt_rules.proofs.FieldSteps.{header-in}
+use Rattle.zvt_rules.proofs.FieldReading.{header-in}
 use Rattle.promises.specs.ReadRows.{Says, HeaderRow, missing, long-missing, over-4096, cut-short, there}
 use Rattle.promises.specs.ReadRows.{HeaderNo, Whole, WholeNo, BodyNo, FirstNo, ReadNo, ShortNo}
 

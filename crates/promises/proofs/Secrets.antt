@@ -16,8 +16,8 @@ use Rattle.zvt_rules.specs.Digits.{digitBytesOf}
 use Rattle.zvt_rules.specs.Values.{fieldValue, statusFields, statusOf, isStatus, statusIn, bodyFields}
 use Rattle.zvt_rules.proofs.Readings.{pick-test}
 use Rattle.zvt_rules.proofs.MessageBytes.{read-sound}
-use Rattle.zvt.specs.Answers.{messageAnswer, asReadAnswer, readAnswer}
-use Rattle.zvt.specs.List.{listedAt, listedFrom, listedBody, listedMessage, nthListed, fieldAnswer}
+use Rattle.zvt_rules.specs.Answers.{outlineOf, asReadAnswer, readAnswer}
+use Rattle.zvt_rules.specs.Listed.{listedAt, listedFrom, listedBody, listedMessage, nthListed, fieldAnswer}
 use Rattle.zvt_rules.specs.declared.Listed.{Listed}
 use Rattle.desk_rules.specs.declared.Phase.{Phase}
 use Rattle.desk_rules.specs.declared.Phase.the-variants.{Idle, Waiting, Running}
@@ -64,8 +64,8 @@ unfolding listedBody maskBody
 body-places at (bytes s) = refl
 body-places at (listed password fs) = rw (length-replicate {A = ℕ} (length password) 0) (list-places (at + length password) fs)
 
-told-same : (m : Message) → messageAnswer (maskMessage m) ≡ messageAnswer m
-unfolding messageAnswer
+told-same : (m : Message) → outlineOf (maskMessage m) ≡ outlineOf m
+unfolding outlineOf
 told-same m = let k = mask-same m in rw (k .count, k .short, k .size, k .class, k .instruction, k .long)
 
 -- a reading's answer that is the same of a masked message is the same of masked bytes

@@ -11,8 +11,8 @@ use Rattle.zvt_rules.specs.Reading.{Reading, got}
 use Rattle.zvt_rules.specs.Message.{Message, readOf}
 use Rattle.zvt_rules.specs.Grammar.{Bytes}
 use Rattle.zvt_rules.specs.Values.{statusOf}
-use Rattle.zvt.specs.Answers.{readAnswer}
-use Rattle.zvt.specs.List.{fieldAnswer}
+use Rattle.zvt_rules.specs.Answers.{readAnswer}
+use Rattle.zvt_rules.specs.Listed.{fieldAnswer}
 use Rattle.desk_rules.specs.declared.Lane.{Lane}
 use Rattle.desk_rules.specs.declared.Reply.the-variants.{Written, Refused}
 use Rattle.desk_rules.specs.Course.{Call, heard, NumbersFit}

@@ -13,9 +13,8 @@ use Rattle.zvt_rules.specs.declared.ReadAnswer.{ReadAnswer}
 use Rattle.zvt_rules.specs.declared.ReadAnswer.the-variants.{Accepted, Refused as read-refused}
 use Rattle.zvt_rules.specs.declared.ShortenAnswer.{ShortenAnswer}
 use Rattle.zvt_rules.specs.declared.ShortenAnswer.the-variants.{Written as short-written, Refused as short-refused}
-use Rattle.zvt.specs.Answers.{readAnswer}
-use Rattle.zvt.specs.Writing.{shortenAnswer, shortenLeaves}
-use Rattle.zvt.specs.Name.{cardName}
+use Rattle.zvt_rules.specs.Answers.{readAnswer, shortenAnswer, shortenLeaves}
+use Rattle.zvt_rules.specs.Name.{cardName}
 use Rattle.desk_rules.specs.declared.Line.{Line}
 use Rattle.desk_rules.specs.declared.Desk.{Desk}
 use Rattle.desk_rules.specs.declared.Reply.{Reply}

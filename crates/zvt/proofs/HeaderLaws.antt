@@ -11,13 +11,13 @@ use Rattle.zvt_rules.specs.declared.Fault.{Fault}
 use Rattle.zvt_rules.specs.Reading.{Reading, got, refused, noHeader, unless, andThen}
 use Rattle.zvt_rules.specs.Message.{BodyLength, longLength, lengthOf, Heading, headerSize, end, headerWith, headerOf, wholeHeader}
 use Rattle.zvt_rules.proofs.Readings.{unless-got, then-got, then-on, then-stop}
-use Rattle.zvt_rules.proofs.FieldSteps.{header-in}
+use Rattle.zvt_rules.proofs.FieldReading.{header-in}
 use Rattle.zvt_rules.specs.declared.Header.{Header}
 use Rattle.zvt.specs.declared.headers.HeaderRead.{HeaderRead}
 use Rattle.zvt.specs.declared.headers.HeaderRead.the-variants.{Header as header-read, Refused as header-refused}
-use Rattle.zvt.specs.Header.{asHeader, headerIn, fitting, firstHeader, wholeAnswer}
+use Rattle.zvt.specs.HeaderSteps.{asHeader, fitting, firstHeader, wholeAnswer}
+use Rattle.zvt_rules.specs.Answers.{refusalOf, headerIn, asHeaderAnswer, headerAnswer}
 use Rattle.zvt_rules.specs.declared.HeaderAnswer.the-variants.{Header as answer-got, Refused as answer-no}
-use Rattle.zvt.specs.Answers.{refusalOf, asHeaderAnswer, headerAnswer}
 use Rattle.zvt.proofs.ObjectLaws.{unless-then}
 
 -- ---- where the body lies

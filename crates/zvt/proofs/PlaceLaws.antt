@@ -17,7 +17,7 @@ use Rattle.zvt_rules.specs.Fields.{Field, listOf}
 use Rattle.zvt_rules.specs.Message.{headerSize, layoutOf, Body, bytes, listed, Message, readOf}
 use Rattle.zvt_rules.specs.Writing.{listBytes, bodyBytes, lengthBytes, messageBytes}
 use Rattle.zvt_rules.specs.Grammar.{Bytes, FieldsOk, LayoutOk, LengthOk, MessageOk}
-use Rattle.zvt_rules.proofs.ObjectSteps.{tail}
+use Rattle.zvt_rules.proofs.ObjectReading.{tail}
 use Rattle.zvt_rules.proofs.FieldBytes.{list-complete}
 use Rattle.zvt_rules.proofs.MessageBytes.{read-sound, message-size}
 use Rattle.zvt_rules.specs.declared.Refusal.{Refusal}
@@ -26,11 +26,12 @@ use Rattle.zvt_rules.specs.declared.ReadAnswer.the-variants.{Accepted, Refused}
 use Rattle.zvt_rules.specs.declared.Listed.{Listed}
 use Rattle.zvt_rules.specs.declared.ListPlace.{ListPlace}
 use Rattle.zvt_rules.specs.declared.ListPlace.the-variants.{Nowhere, Between}
-use Rattle.zvt.specs.Answers.{messageAnswer, asReadAnswer, readAnswer}
-use Rattle.zvt.specs.List.{listedFrom, listedBody, listedMessage, listFields, fieldsBetween, listedIn, ListIn, bodyPlace, messagePlace, listPlace, placeOfStatus, statusPlace, namedListed}
+use Rattle.zvt_rules.specs.Answers.{outlineOf, asReadAnswer, readAnswer}
+use Rattle.zvt_rules.specs.Listed.{listedFrom, listedBody, listedMessage, namedListed, bodyPlace, messagePlace, listPlace}
+use Rattle.zvt.specs.ListSteps.{listFields, fieldsBetween, listedIn, ListIn, placeOfStatus, statusPlace}
 use Rattle.zvt_rules.specs.Values.{isStatus, bodyFields, statusFields}
-use Rattle.zvt.specs.Name.{NameAt, own, nameIn, nameOf, nameAt}
-use Rattle.zvt.specs.Writing.{ListReads}
+use Rattle.zvt_rules.specs.Name.{own, NameAt, nameIn, nameOf, nameAt}
+use Rattle.zvt.specs.WritingSteps.{ListReads}
 
 -- ---- the list of a message that is read
 pub fields-ok : (l : Layout) (password : List ℕ) (fs : List Field) → LayoutOk l (listed password fs) → FieldsOk fs
@@ -116,11 +117,11 @@ layout-place s m b e =
     rw (← (k .0)) (body-place (headerSize (m .long)) (length (messageBytes m)) (layoutOf (m .class) (m .instruction)) (m .body) (k .1 .0))
 
 -- ---- the message behind the reader's answer
-pub accepted : (s : List ℕ) (x : Outline) → readAnswer s ≡ Accepted x → (m : Message) × (readOf s ≡ got m) × (messageAnswer m ≡ x)
+pub accepted : (s : List ℕ) (x : Outline) → readAnswer s ≡ Accepted x → (m : Message) × (readOf s ≡ got m) × (outlineOf m ≡ x)
 unfolding readAnswer asReadAnswer
 accepted s x h = go (readOf s) refl h
   where
-    go : (y : Reading Message) → readOf s ≡ y → asReadAnswer y ≡ Accepted x → (m : Message) × (readOf s ≡ got m) × (messageAnswer m ≡ x)
+    go : (y : Reading Message) → readOf s ≡ y → asReadAnswer y ≡ Accepted x → (m : Message) × (readOf s ≡ got m) × (outlineOf m ≡ x)
     go (got m) q g = (m, q, cc)
     go (refused f) q g = absurd (let z : _≡_ {A = ℕ} 0 1 = cc in omega arith)
 
@@ -147,7 +148,7 @@ Was s x = Bytes s × (readAnswer s ≡ Accepted x)
 
 module _ (s : List ℕ) (x : Outline) (w : Was s x) where
   pub start-small : x .start ≤ 5
-  unfolding messageAnswer
+  unfolding outlineOf
   start-small = rw (← (accepted s x (w .1) .2)) (small (accepted s x (w .1) .0 .long))
     where
       small : (long : Bool) → headerSize long ≤ 5
@@ -155,27 +156,27 @@ module _ (s : List ℕ) (x : Outline) (w : Was s x) where
       small true = omega arith
 
   pub place-is : (l : Layout) → layoutOf (x .class) (x .instruction) ≡ l → placeBy (x .start) (length s) l ≡ listPlace s
-  unfolding listPlace messageAnswer
+  unfolding listPlace outlineOf
   place-is l h =
       let k = accepted s x (w .1) in
       rw (← h, ← (k .2), k .1) (layout-place s (k .0) (w .0) (k .1))
 
   pub other-class : (x .class ≡ 0x04 → ⊥) → Nowhere ≡ statusPlace s
-  unfolding statusPlace placeOfStatus messageAnswer
+  unfolding statusPlace placeOfStatus outlineOf
   other-class n =
       let k = accepted s x (w .1) in
       let c : eqb (k .0 .class) 0x04 ≡ false = rw (← (k .2)) at (ne-eqb (x .class) 0x04 n) in
       rw (k .1, c)
 
   pub other-instruction : (x .instruction ≡ 0x0F → ⊥) → Nowhere ≡ statusPlace s
-  unfolding statusPlace placeOfStatus messageAnswer
+  unfolding statusPlace placeOfStatus outlineOf
   other-instruction n =
       let k = accepted s x (w .1) in
       let c : eqb (k .0 .instruction) 0x0F ≡ false = rw (← (k .2)) at (ne-eqb (x .instruction) 0x0F n) in
       rw (k .1, c, and-false (eqb (k .0 .class) 0x04))
 
   pub status-is : x .class ≡ 0x04 → x .instruction ≡ 0x0F → Between (x .start) (length s) ≡ statusPlace s
-  unfolding listPlace statusPlace placeOfStatus placeBy messageAnswer layoutOf among
+  unfolding listPlace statusPlace placeOfStatus placeBy outlineOf layoutOf among
   status-is c i =
       let k = accepted s x (w .1) in
       let class : k .0 .class ≡ 0x04 = rw (← (k .2)) at c in

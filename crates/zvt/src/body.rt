@@ -13,7 +13,7 @@ use zvt_rules::Place;
 ghost use mathlib.Core.Path.{_≡_};
 ghost use Prim.Native.Nat.{_+_, _≤_};
 ghost use lib.ListN.{length};
-ghost use Rattle.zvt.specs.Body.{securedAnswer, bodyAnswer, bodyIn, described};
+ghost use Rattle.zvt.specs.BodySteps.{securedAnswer, bodyAnswer, bodyIn, described};
 
 // A password, then a list.
 pub(crate) fn read_secured(s: &[u8], at: usize) -> PartRead

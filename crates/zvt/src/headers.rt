@@ -4,7 +4,7 @@ use zvt_rules::Header;
 use zvt_rules::Outline;
 use zvt_rules::Place;
 ghost use mathlib.Core.Path.{_≡_};
-ghost use Rattle.zvt.specs.Header.{fitting, firstHeader, wholeAnswer};
+ghost use Rattle.zvt.specs.HeaderSteps.{fitting, firstHeader, wholeAnswer};
 
 pub(crate) enum HeaderRead {
     Header(Header),

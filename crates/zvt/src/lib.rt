@@ -27,12 +27,11 @@ use zvt_rules::ToldCode;
 use zvt_rules::ToldReceipt;
 ghost use mathlib.Core.Path.{_≡_};
 ghost use lib.ListN.{length};
-ghost use Rattle.zvt.specs.Answers.{headerAnswer, readAnswer, firstAnswer};
+ghost use Rattle.zvt_rules.specs.Answers.{headerAnswer, readAnswer, firstAnswer, shortenAnswer, shortenLeaves};
 ghost use Rattle.zvt_rules.specs.Digits.{digitBytesOf};
-ghost use Rattle.zvt.specs.List.{fieldAnswer, listPlace, namedAnswer};
-ghost use Rattle.zvt.specs.Name.{nameAt, cardName, namePlace};
+ghost use Rattle.zvt_rules.specs.Listed.{fieldAnswer, namedAnswer, listPlace};
+ghost use Rattle.zvt_rules.specs.Name.{nameAt, cardName, namePlace};
 ghost use Rattle.zvt_rules.specs.Values.{statusOf};
-ghost use Rattle.zvt.specs.Writing.{shortenAnswer, shortenLeaves};
 
 // The header of the message that s is.
 pub fn read_header(s: &[u8]) -> HeaderAnswer

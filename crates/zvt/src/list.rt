@@ -7,7 +7,8 @@ use zvt_rules::ListPlace;
 use zvt_rules::Listed;
 use zvt_rules::ReadAnswer;
 ghost use mathlib.Core.Path.{_≡_};
-ghost use Rattle.zvt.specs.List.{ListIn, statusPlace, firstListed, nthListed, namedListed, listedIn};
+ghost use Rattle.zvt.specs.ListSteps.{ListIn, statusPlace, firstListed, listedIn};
+ghost use Rattle.zvt_rules.specs.Listed.{nthListed, namedListed};
 
 // Where the list of a status information lies.
 pub(crate) fn status_place(s: &[u8]) -> ListPlace

@@ -7,7 +7,7 @@ ghost use Prim.Native.Nat.{_+_, _-_, _≤_};
 ghost use lib.ListN.{length};
 ghost use Rattle.zvt_rules.specs.Objects.{formSize};
 ghost use Rattle.zvt_rules.specs.Shortest.{formFor};
-ghost use Rattle.zvt.specs.Objects.{tagAnswer, lenAnswer, within, headAnswer, tallyOf, oneAnswer, runAnswer};
+ghost use Rattle.zvt.specs.ObjectSteps.{tagAnswer, lenAnswer, within, headAnswer, tallyOf, oneAnswer, runAnswer};
 
 // How many bytes a tag takes.
 pub(crate) enum TagRead {

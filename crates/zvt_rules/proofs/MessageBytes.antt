@@ -17,9 +17,9 @@ use Rattle.zvt_rules.specs.Message.{BodyLength, longLength, lengthOf, He
 use Rattle.zvt_rules.specs.Writing.{listBytes, bodyBytes, lengthBytes, messageBytes}
 use Rattle.zvt_rules.specs.Grammar.{Bytes, FieldsOk, LayoutOk, LengthOk, MessageOk}
 use Rattle.zvt_rules.proofs.Readings.{got-same, got-not-refused, unless-got, unless-on, then-got, then-on, pick-test}
-use Rattle.zvt_rules.proofs.ObjectSteps.{part-length}
+use Rattle.zvt_rules.proofs.ObjectReading.{part-length}
 use Rattle.zvt_rules.proofs.ObjectBytes.{bytes-drop, bytes-part}
-use Rattle.zvt_rules.proofs.FieldSteps.{undecimal-got, with-in, header-in}
+use Rattle.zvt_rules.proofs.FieldReading.{undecimal-got, with-in, header-in}
 use Rattle.zvt_rules.proofs.FieldBytes.{decimals-read, list-sound, list-complete}
 
 -- ---- the length of a body

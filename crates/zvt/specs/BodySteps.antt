@@ -1,4 +1,4 @@
--- What the readers of a body answer, by the definitions of crate zvt_rules. Definitions only.
+-- Steps of the code, private: what the readers of a body answer, by the definitions of crate zvt_rules. Definitions only.
 use Prim.Native.Nat.{ℕ, _+_, _-_}
 use mathlib.Core.Bool.{_&&_, _||_}
 use mathlib.Core.List.{List}
@@ -13,7 +13,7 @@ use Rattle.zvt_rules.specs.declared.Header.{Header}
 use Rattle.zvt_rules.specs.declared.Outline.{Outline}
 use Rattle.zvt.specs.declared.objects.Tally.{Tally}
 use Rattle.zvt.specs.declared.objects.PartRead.{PartRead}
-use Rattle.zvt.specs.Objects.{asPart}
+use Rattle.zvt.specs.ObjectSteps.{asPart}
 
 -- how many bytes fewer the shortest writing takes
 unfoldable pub spareBody : Body → ℕ
