@@ -18,7 +18,7 @@ use Rattle.desk_rules.specs.declared.Moved.{Moved}
 use Rattle.desk_rules.specs.declared.Moved.the-variants.{Stays, Ends}
 use Rattle.desk_rules.specs.declared.Outcome.the-variants.{Declined}
 use Rattle.desk_rules.specs.Commands.{replyBytes}
-use Rattle.desk_rules.specs.Course.{no, runningPairs, heardWaiting, heardRunning, completedBy, reportedBy}
+use Rattle.desk_rules.specs.Course.{noMove, runningPairs, heardWaiting, heardRunning, completedBy, reportedBy}
 
 -- the bytes were read as that message
 unfoldable pub ReadIn : Outline → List ℕ → Type 0
@@ -38,7 +38,7 @@ unfoldable pub runningMoved : Lane → Header → List ℕ → Moved
 runningMoved l h s = heardRunning l s (headerBy h)
 
 unfoldable pub abortedIn : Outline → List ℕ → Moved
-abortedIn m s = pick (eqb (m .length) 0) (no 1) (Ends Declined 0 (getD s (m .start) 0))
+abortedIn m s = pick (eqb (m .length) 0) (noMove 1) (Ends Declined 0 (getD s (m .start) 0))
 
 unfoldable pub reportedAs : Lane → Status → Moved
 reportedAs l status = reportedBy l status (status .code)

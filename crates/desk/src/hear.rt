@@ -20,7 +20,7 @@ ghost use Prim.Native.Nat.{_≤_};
 ghost use lib.ListN.{length};
 ghost use Rattle.desk_rules.specs.Lanes.{receiptBy, lineAt};
 ghost use Rattle.desk_rules.specs.Course.{isApproved, isSale, isReversal, concerns, completedBy, settledAs, amountBy, answered, heard};
-ghost use Rattle.desk_rules.specs.Desk.{place};
+ghost use Rattle.desk_rules.specs.Desk.{lanePlace};
 ghost use Rattle.desk_rules.specs.Turnover.{gain, loss};
 ghost use Rattle.desk.specs.Hear.{inCourse, waitingMoved, runningMoved, abortedIn, reportedAs, movedAs, ReadIn, replied};
 
@@ -32,7 +32,7 @@ pub(crate) fn both(a: bool, b: bool) -> bool
 
 // An open payment takes a place in the book, an idle lane none.
 pub(crate) fn place(l: Lane) -> usize
-    ensures { λ r. ⌜ r ≡ place l ⌝ }
+    ensures { λ r. ⌜ r ≡ lanePlace l ⌝ }
 {
     let p = l.phase;
     match p {

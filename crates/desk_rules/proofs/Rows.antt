@@ -121,7 +121,7 @@ module _ (s : State) (room : ℕ) where
     ready-says : Ready s c → decide s c room ≡ pick (ltb room (commandSize c)) (refuse 11) accept
     ready-says y =
         decide-opening c o
-        ∙ rw (lane (y .lane), idle (y .idle), within-test c o .1 (y .within), sold-test c o .1 (y .sold), lt-leb 64 (load s) (y .place))
+        ∙ rw (lane (y .lane), idle (y .idle), within-test c o .1 (y .within), sold-test c o .1 (y .sold), lt-leb 64 (load s) (y .free))
 
     opening-given : {d : Decision} → Opening s c room d → decide s c room ≡ d
     opening-given (no-lane k) = decide-opening c o ∙ rw (le-leb 8 (laneOf c) k)
@@ -143,7 +143,7 @@ module _ (s : State) (room : ℕ) where
         case (sold-test c o)
         (λ v.
         case (leb-test 64 (load s)) (λ f. put (full l d w v f)) λ f.
-        let ready : Ready s c = record { lane = l; idle = d; within = w; sold = v; place = omega arith } in
+        let ready : Ready s c = record { lane = l; idle = d; within = w; sold = v; free = omega arith } in
         case (leb-test (suc room) (commandSize c)) (λ r. put (tight ready r)) (λ r. put (opened ready (omega arith))))
         (λ v. put (no-sale l d w v)))
         (λ w. put (outside l d w)))

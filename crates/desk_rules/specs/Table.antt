@@ -73,7 +73,7 @@ pub record Ready (s : State) (c : Call) : Type 0 where
   pub idle : phaseOf s c ≡ Idle
   pub within : Within c
   pub sold : ToReverse s c
-  pub place : load s < 64
+  pub free : load s < 64
 
 -- ---- a terminal message
 
@@ -102,16 +102,16 @@ abbrev pub GoodBody : List ℕ → Type 0
 GoodBody b = (m : Message) × (readOf b ≡ got m) × (EmptyAbort m → ⊥)
 
 -- "header": it is refused with that number
-abbrev pub HeaderNo : List ℕ → ℕ → Type 0
-HeaderNo b n = (f : Fault) × (wholeHeader b ≡ refused f) × (f .number ≡ n)
+abbrev pub UnreadHeader : List ℕ → ℕ → Type 0
+UnreadHeader b n = (f : Fault) × (wholeHeader b ≡ refused f) × (f .number ≡ n)
 
 -- "body": it is refused with that number, or "an empty body" of 06 1E "with 1"
-abbrev pub BodyNo : List ℕ → ℕ → Type 0
-BodyNo b n = ((f : Fault) × (readOf b ≡ refused f) × (f .number ≡ n)) ⊎ ((m : Message) × (readOf b ≡ got m) × EmptyAbort m × (1 ≡ n))
+abbrev pub UnreadBody : List ℕ → ℕ → Type 0
+UnreadBody b n = ((f : Fault) × (readOf b ≡ refused f) × (f .number ≡ n)) ⊎ ((m : Message) × (readOf b ≡ got m) × EmptyAbort m × (1 ≡ n))
 
 -- "14, header, 15, body": the header's number on a lane that is not idle, the body's on one that is running
 abbrev pub Unread : State → ℕ → List ℕ → ℕ → Type 0
-Unread s i b n = ((phaseAt s i ≡ Idle → ⊥) × HeaderNo b n) ⊎ ((phaseAt s i ≡ Running) × GoodHeader Running b × BodyNo b n)
+Unread s i b n = ((phaseAt s i ≡ Idle → ⊥) × UnreadHeader b n) ⊎ ((phaseAt s i ≡ Running) × GoodHeader Running b × UnreadBody b n)
 
 -- waiting no room is needed: "Neither gets a reply." "Running, each answered with 80 00 00"
 abbrev pub Heard : State → ℕ → List ℕ → ℕ → Type 0

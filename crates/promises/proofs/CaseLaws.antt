@@ -21,7 +21,7 @@ use Rattle.desk_rules.specs.Commands.{saleCommand, reversalCommand, saleBytes, 
 use Rattle.desk_rules.specs.Course.{heardWaiting, amountBy, isReversal, settledAs, completedBy, abortedBy, reportedBy, movedBy, afterBody, heardRunning}
 use Rattle.desk_rules.specs.Course.{heardBy, afterHeader, isIdle, heard, isApproved, isSale, concerns, lastFrom, lastLine, openedBy}
 use Rattle.desk_rules.specs.Course.{laneOf, opens, moves, answered, writes}
-use Rattle.desk_rules.specs.Desk.{place, places, load, unlessRefused, decide}
+use Rattle.desk_rules.specs.Desk.{lanePlace, places, load, unlessRefused, decide}
 use Rattle.desk_rules.specs.Memory.{view, endedDesk, movedDesk, refusedAnswer, answerBy, answerOf, leavesBy, leavesOf}
 use Rattle.desk_rules.specs.Turnover.{gain, loss, gains, losses, netOf}
 use Rattle.promises.specs.Days.{buffer}
@@ -41,7 +41,7 @@ unfolding unless andThen among secondTag tagSize formSize oneByteLen twoByteLen 
     toldReceipt receiptBy lineAt saleCommand reversalCommand saleBytes reversalBytes
     heardWaiting amountBy isReversal settledAs completedBy abortedBy reportedBy movedBy afterBody heardRunning heardBy afterHeader isIdle heard
     isApproved isSale concerns lastFrom lastLine openedBy laneOf opens moves answered writes
-    place places load unlessRefused decide view endedDesk movedDesk refusedAnswer answerBy answerOf leavesBy leavesOf
+    lanePlace places load unlessRefused decide view endedDesk movedDesk refusedAnswer answerBy answerOf leavesBy leavesOf
     gain loss gains losses netOf
     readSays listSays shortSays callSays status output unlessNo afterDay answerTo computed stated buffer
     hex plainBody twoSales twoLines sold table

@@ -31,7 +31,7 @@ use Rattle.desk_rules.proofs.Commands.{refund-size, reversal-size, sale-reads, 
 use Rattle.tape_rules.specs.declared.Taped.{Taped}
 use Rattle.tape_rules.specs.Records.{secret, maskField, maskList, maskBody, maskMessage, masked, HiddenBody, Hidden, Record, replyEntry, entriesBy, entriesOf}
 use Rattle.tape_rules.specs.Recording.{callBytes, decideTaped, usedBy, tapedBy, tapedAnswer, tapeBy, tapedLeaves}
-use Rattle.tape_rules.specs.Taping.{Turn, Day, afterTurn, tapedRun}
+use Rattle.tape_rules.specs.Taping.{TapeTurn, Day, afterTurn, tapedRun}
 use Rattle.tape_rules.proofs.Masks.{mask-same, mask-reads, mask-hides, masked-refused, alike-recorded, sale-masked, refund-masked, reversal-masked}
 use Rattle.tape_rules.proofs.Unseen.{alike-heard, heard-reads}
 use Rattle.promises.specs.Days.{OfBytes}
@@ -201,7 +201,7 @@ module _ (c e : Call) (a : Agree c e) where
     tape-agree (refuse n) tape = refl
     tape-agree accept tape = rw (bytes-agree (view (t .desk)))
 
-turn-agree : (d : Day) (u v : Turn) → AlikeCall (u .call) (v .call) → u .room ≡ v .room → afterTurn d u ≡ afterTurn d v
+turn-agree : (d : Day) (u v : TapeTurn) → AlikeCall (u .call) (v .call) → u .room ≡ v .room → afterTurn d u ≡ afterTurn d v
 unfolding afterTurn tapedAnswer tapedLeaves
 turn-agree d u v a r =
     let k = agree a in
@@ -213,7 +213,7 @@ turn-agree d u v a r =
       tape-agree (u .call) (v .call) k (d .taped) x (d .tape),
     )
 
-pub alike-days : (us vs : List Turn) (d : Day) → AlikeDays us vs → tapedRun d us ≡ tapedRun d vs
+pub alike-days : (us vs : List TapeTurn) (d : Day) → AlikeDays us vs → tapedRun d us ≡ tapedRun d vs
 unfolding AlikeDays tapedRun
 alike-days [] [] d a = refl
 alike-days [] (v ∷ vs) d a = absurd a
