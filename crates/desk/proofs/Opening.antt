@@ -23,8 +23,8 @@ use Rattle.desk_rules.specs.declared.Reply.the-variants.{Written}
 use Rattle.desk_rules.specs.Numbers.{amountOk, receiptOk, passwordOk}
 use Rattle.desk_rules.specs.Lanes.{waitingLane}
 use Rattle.desk_rules.specs.Commands.{saleBytes, refundBytes, reversalBytes}
-use Rattle.desk_rules.specs.Course.{no, isIdle, heard, lostBy, isApproved, isSale, lastLine, Ask, openedBy, Call, sale, refund, reversal, message, lost, laneOf, opens, moves, answered, writes}
-use Rattle.desk_rules.specs.Desk.{laneAt, place, places, load, refuse, accept, unlessRefused, decide}
+use Rattle.desk_rules.specs.Course.{noMove, isIdle, heard, lostBy, isApproved, isSale, lastLine, Ask, openedBy, Call, sale, refund, reversal, message, lost, laneOf, opens, moves, answered, writes}
+use Rattle.desk_rules.specs.Desk.{laneAt, lanePlace, places, load, refuse, accept, unlessRefused, decide}
 use Rattle.desk_rules.specs.Memory.{linesOfDesk, view, laneFor, Valid, movedDesk, refusedAnswer, answerOf, leavesOf}
 use Rattle.desk_rules.specs.Payments.{askOf}
 use Rattle.desk.specs.Opening.{openingNumber, openAnswer, openLeaves}
@@ -38,13 +38,13 @@ use Rattle.desk_rules.proofs.Memory.{place-idle, place-open, place-in, load-is,
 -- what 0 tells
 pub record Opens (d : Desk) (i : ℕ) (within sale : Bool) (need room : ℕ) : Type 0 where
   pub lane : i < 8
-  pub idle : place (laneAt (d .lanes) i) ≡ 0
+  pub idle : lanePlace (laneAt (d .lanes) i) ≡ 0
   pub limits : within ≡ true
   pub sold : sale ≡ true
   pub few : d .book .count + places (d .lanes) < 64
   pub fits : need ≤ room
 
-taken-place : (l : Lane) → (place l ≡ 0 → ⊥) → isIdle (l .phase) ≡ false
+taken-place : (l : Lane) → (lanePlace l ≡ 0 → ⊥) → isIdle (l .phase) ≡ false
 taken-place l n = go (isIdle (l .phase)) (λ e. n (place-idle l .1 e))
   where
     go : (b : Bool) → (b ≡ true → ⊥) → b ≡ false
@@ -57,11 +57,11 @@ module _ (d : Desk) (i : ℕ) (within sale : Bool) (need room : ℕ) where
   on-12 h = rw (le-leb 8 i h)
 
   module _ (h : i < 8) where
-    pub on-13 : (place (laneAt (d .lanes) i) ≡ 0 → ⊥) → openingNumber d i within sale need room ≡ 13
+    pub on-13 : (lanePlace (laneAt (d .lanes) i) ≡ 0 → ⊥) → openingNumber d i within sale need room ≡ 13
     unfolding openingNumber
     on-13 n = rw (lt-leb 8 i h, taken-place (laneAt (d .lanes) i) n)
 
-    module _ (e : place (laneAt (d .lanes) i) ≡ 0) where
+    module _ (e : lanePlace (laneAt (d .lanes) i) ≡ 0) where
       pub on-16 : within ≡ false → openingNumber d i within sale need room ≡ 16
       unfolding openingNumber
       on-16 w = rw (lt-leb 8 i h, place-idle (laneAt (d .lanes) i) .0 e, w)
@@ -123,7 +123,7 @@ asks l ls (lost i) o = let z : _≡_ {A = ℕ} 0 1 = cc in absurd (omega arith)
 
 by-number : (a b w s f r : Bool) (l : Lane)
     → let n : ℕ = pick a 12 (pick b (pick w (pick s (pick f 18 (pick r 11 0)) 17) 16) 13) in
-    pick a (refuse 12) (unlessRefused (pick b (pick w (pick s (Becomes l) (no 17)) (no 16)) (no 13)) (pick f (refuse 18) (pick r (refuse 11) accept)))
+    pick a (refuse 12) (unlessRefused (pick b (pick w (pick s (Becomes l) (noMove 17)) (noMove 16)) (noMove 13)) (pick f (refuse 18) (pick r (refuse 11) accept)))
     ≡ pick (eqb n 0) accept (refuse n)
 unfolding unlessRefused
 by-number true b w s f r l = refl
@@ -273,13 +273,13 @@ module _ (d : Desk) (i room : ℕ) where
   lost-12 h = refused-same d (lost i) room 12 (no-lane d (lost i) room h)
 
   module _ (h : i < 8) where
-    pub lost-14 : place (laneAt (d .lanes) i) ≡ 0 → answerOf d (lost i) room ≡ refusedAnswer d 14
+    pub lost-14 : lanePlace (laneAt (d .lanes) i) ≡ 0 → answerOf d (lost i) room ≡ refusedAnswer d 14
     unfolding laneOf moves lostBy
     lost-14 e =
         refused-same d (lost i) room 14
         (not-moved d (lost i) room h (record { number = 14 }) (rw (place-idle (laneAt (d .lanes) i) .0 e)))
 
-    pub lost-taken : (place (laneAt (d .lanes) i) ≡ 0 → ⊥)
+    pub lost-taken : (lanePlace (laneAt (d .lanes) i) ≡ 0 → ⊥)
         → answerOf d (lost i) room ≡ record { reply = Written 0; desk = movedDesk d i (Ends Unclear 0 0) }
     unfolding laneOf moves lostBy opens writes
     lost-taken n =
@@ -288,10 +288,10 @@ module _ (d : Desk) (i room : ℕ) where
         accepted-answer d (lost i) room (goes-on d (lost i) room h refl (rw m tt) (omega arith)) ∙ rw m
 
 -- a lane that is not idle has a place in the book
-pub room-left : (d : Desk) (i : ℕ) → Valid d → (place (laneAt (d .lanes) i) ≡ 0 → ⊥) → d .book .count < 64
+pub room-left : (d : Desk) (i : ℕ) → Valid d → (lanePlace (laneAt (d .lanes) i) ≡ 0 → ⊥) → d .book .count < 64
 room-left d i v n = omega (arith, v .room, place-in (d .lanes) i, place-open (laneAt (d .lanes) i) (taken-place (laneAt (d .lanes) i) n))
 
 -- a message that is not refused finds its lane not idle
-pub heard-open : (l : Lane) (s : List ℕ) → Passes (heard l s) → place l ≡ 0 → ⊥
+pub heard-open : (l : Lane) (s : List ℕ) → Passes (heard l s) → lanePlace l ≡ 0 → ⊥
 unfolding heard
 heard-open l s p e = rw (place-idle l .0 e) at p

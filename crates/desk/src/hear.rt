@@ -5,10 +5,10 @@ use desk_rules::Line;
 use desk_rules::Moved;
 use desk_rules::Outcome;
 use desk_rules::Phase;
-use zvt::Header;
-use zvt::HeaderAnswer;
-use zvt::Message;
-use zvt::ReadAnswer;
+use zvt_rules::Header;
+use zvt_rules::HeaderAnswer;
+use zvt_rules::Outline;
+use zvt_rules::ReadAnswer;
 use zvt_rules::Refusal;
 use zvt_rules::Status;
 use zvt_rules::ToldAmount;
@@ -20,7 +20,7 @@ ghost use Prim.Native.Nat.{_≤_};
 ghost use lib.ListN.{length};
 ghost use Rattle.desk_rules.specs.Lanes.{receiptBy, lineAt};
 ghost use Rattle.desk_rules.specs.Course.{isApproved, isSale, isReversal, concerns, completedBy, settledAs, amountBy, answered, heard};
-ghost use Rattle.desk_rules.specs.Desk.{place};
+ghost use Rattle.desk_rules.specs.Desk.{lanePlace};
 ghost use Rattle.desk_rules.specs.Turnover.{gain, loss};
 ghost use Rattle.desk.specs.Hear.{inCourse, waitingMoved, runningMoved, abortedIn, reportedAs, movedAs, ReadIn, replied};
 
@@ -32,7 +32,7 @@ pub(crate) fn both(a: bool, b: bool) -> bool
 
 // An open payment takes a place in the book, an idle lane none.
 pub(crate) fn place(l: Lane) -> usize
-    ensures { λ r. ⌜ r ≡ place l ⌝ }
+    ensures { λ r. ⌜ r ≡ lanePlace l ⌝ }
 {
     let p = l.phase;
     match p {
@@ -188,7 +188,7 @@ pub(crate) fn completed(l: Lane) -> Moved
 }
 
 // 06 1E: the first body byte is the code.
-pub(crate) fn aborted(s: &[u8], m: Message) -> Moved
+pub(crate) fn aborted(s: &[u8], m: Outline) -> Moved
     requires { ⌜ ReadIn m (now s) ⌝ }
     ensures { λ r. ⌜ r ≡ abortedIn m (now (s .entry)) ⌝ }
 {
@@ -212,7 +212,7 @@ pub(crate) fn reported(l: Lane, status: Status) -> Moved
 }
 
 // A message of the course, read, on a running lane.
-pub(crate) fn moved_by(l: Lane, s: &[u8], m: Message) -> Moved
+pub(crate) fn moved_by(l: Lane, s: &[u8], m: Outline) -> Moved
     requires { ⌜ ReadIn m (now s) ⌝ }
     ensures { λ r. ⌜ r ≡ movedAs l m (now (s .entry)) ⌝ }
 {

@@ -11,9 +11,9 @@ use borrow.Author.Tests.{eq-eqb}
 use Rattle.desk_rules.specs.declared.Line.{Line}
 use Rattle.desk_rules.specs.Lanes.{blankLine, idleLane}
 use Rattle.desk_rules.specs.Course.{isIdle, Call}
-use Rattle.desk_rules.specs.Desk.{fresh, place, Accepted, run}
-use Rattle.desk_rules.specs.Runs.{callsOf, Own, own, total, openings}
-use Rattle.desk_rules.specs.Payments.{paymentsOf, joined, oneByOne, Begins, Whole, lineOf, linesOf, Says}
+use Rattle.desk_rules.specs.Desk.{fresh, lanePlace, Accepted, run}
+use Rattle.desk_rules.specs.Runs.{callsOf, Own, ownOf, total, openings}
+use Rattle.desk_rules.specs.Payments.{paymentsOf, flattened, oneByOne, Begins, WholePayment, lineOf, linesOf, LaneSays}
 use Rattle.desk_rules.proofs.Lanes.{total-append, opening-is, places-total}
 use Rattle.desk_rules.proofs.Runs.{count}
 use Rattle.desk_rules.proofs.Kept.{Blocks, Kept, kept}
@@ -22,7 +22,7 @@ pub book : (cs : List Call) → Accepted fresh cs → run fresh cs .lines ≡ li
 book cs h = kept cs h .lines
 
 -- each lane is what the calls of its open payment make of it
-pub lane-of-open : (cs : List Call) → Accepted fresh cs → (k : ℕ) → Says k (own k (run fresh cs)) (getD (paymentsOf cs .ongoing) k [])
+pub lane-of-open : (cs : List Call) → Accepted fresh cs → (k : ℕ) → LaneSays k (ownOf k (run fresh cs)) (getD (paymentsOf cs .ongoing) k [])
 lane-of-open cs h k = kept cs h .each k .says
 
 -- ---- line j is made by payment j
@@ -66,8 +66,8 @@ unfolding Begins begun total
 begins-one [] h = absurd h
 begins-one (o ∷ ds) h = (omega (arith, h .1, opening-is o true (h .0)), refl)
 
-says-one : (k : ℕ) (w : Own) (q : List Call) → Says k w q → (openings q ≡ begun q) × (begun q ≡ place (w .lane))
-unfolding Says begun total place isIdle
+says-one : (k : ℕ) (w : Own) (q : List Call) → LaneSays k w q → (openings q ≡ begun q) × (begun q ≡ lanePlace (w .lane))
+unfolding LaneSays begun total lanePlace isIdle
 says-one k w [] h = (refl, rw h)
 says-one k w (o ∷ ds) h = (begins-one (o ∷ ds) (h .1) .0, rw (h .2))
 
@@ -80,8 +80,8 @@ total-alike f g d e [] (y ∷ ys) l h = absurd (omega arith)
 total-alike f g d e (x ∷ xs) [] l h = absurd (omega arith)
 total-alike f g d e (x ∷ xs) (y ∷ ys) l h = omega (arith, h 0, total-alike f g d e xs ys (omega arith) (λ k. h (suc k)))
 
-openings-joined : (ps : List (List Call)) → openings (joined ps) ≡ total openings ps
-unfolding joined total
+openings-joined : (ps : List (List Call)) → openings (flattened ps) ≡ total openings ps
+unfolding flattened total
 openings-joined [] = refl
 openings-joined (p ∷ ps) = rw (total-append, openings-joined ps)
 
@@ -90,23 +90,23 @@ unfolding Blocks total
 blocks-count ls [] b = refl
 blocks-count ls (p ∷ ps) b = let o = begins-one p (b .0 .begins) in omega (arith, blocks-count _ ps (b .1))
 
-blocks-whole : (ls : List Line) (ps : List (List Call)) → Blocks ls ps → (j : ℕ) → j < length ps → Whole (getD ps j [])
+blocks-whole : (ls : List Line) (ps : List (List Call)) → Blocks ls ps → (j : ℕ) → j < length ps → WholePayment (getD ps j [])
 unfolding Blocks
 blocks-whole ls [] b j h = absurd (omega arith)
 blocks-whole ls (p ∷ ps) b zero h = let x = b .0 in (x .lane, x .small, x .its (x .lane) ∙ rw (eq-eqb (x .lane) (x .lane) refl), x .begins)
 blocks-whole ls (p ∷ ps) b (suc j) h = blocks-whole _ ps (b .1) j (omega arith)
 
-says-begins : (k : ℕ) (w : Own) (q : List Call) → Says k w q → (q ≡ []) ⊎ Begins q
-unfolding Says
+says-begins : (k : ℕ) (w : Own) (q : List Call) → LaneSays k w q → (q ≡ []) ⊎ Begins q
+unfolding LaneSays
 says-begins k w [] h = inl refl
 says-begins k w (o ∷ ds) h = inr (h .1)
 
 -- the payments of a run: each opening begins exactly one, ended or ongoing, and lane by lane their calls are those of the run
 pub record Paid (cs : List Call) : Type 0 where
   pub number : length (paymentsOf cs .ended) + total begun (paymentsOf cs .ongoing) ≡ openings cs
-  pub ended : (j : ℕ) → j < length (paymentsOf cs .ended) → Whole (getD (paymentsOf cs .ended) j [])
+  pub ended : (j : ℕ) → j < length (paymentsOf cs .ended) → WholePayment (getD (paymentsOf cs .ended) j [])
   pub ongoing : (k : ℕ) → (getD (paymentsOf cs .ongoing) k [] ≡ []) ⊎ Begins (getD (paymentsOf cs .ongoing) k [])
-  pub calls : (k : ℕ) → callsOf k cs ≡ callsOf k (joined (paymentsOf cs .ended)) ++ getD (paymentsOf cs .ongoing) k []
+  pub calls : (k : ℕ) → callsOf k cs ≡ callsOf k (flattened (paymentsOf cs .ended)) ++ getD (paymentsOf cs .ongoing) k []
 
 pub every-opening : (cs : List Call) → Accepted fresh cs → Paid cs
 every-opening cs h =
@@ -120,8 +120,8 @@ every-opening cs h =
     k : Kept (run fresh cs) (paymentsOf cs) cs
     k = kept cs h
 
-    begun-places : total begun (paymentsOf cs .ongoing) ≡ total place (run fresh cs .lanes)
-    begun-places = total-alike begun place [] idleLane _ _ (k .slots ∙ sym (k .lanes)) λ i. says-one i _ _ (k .each i .says) .1
+    begun-places : total begun (paymentsOf cs .ongoing) ≡ total lanePlace (run fresh cs .lanes)
+    begun-places = total-alike begun lanePlace [] idleLane _ _ (k .slots ∙ sym (k .lanes)) λ i. says-one i _ _ (k .each i .says) .1
 
 pub openings-same : (cs : List Call) → Accepted fresh cs → openings (oneByOne cs) ≡ openings cs
 unfolding oneByOne

@@ -16,8 +16,8 @@ use Rattle.desk_rules.specs.declared.Moved.the-variants.{Refused, Stays,
 use Rattle.desk_rules.specs.Lanes.{idleLane, lineAt}
 use Rattle.desk_rules.specs.Course.{Call, laneOf, moves}
 use Rattle.desk_rules.specs.Desk.{State, fresh, laneAfter, linesFrom, step, Accepts, Accepted, run}
-use Rattle.desk_rules.specs.Runs.{having, ofLane, callsOf, Own, own}
-use Rattle.desk_rules.specs.Payments.{Payments, withCall, paymentsFrom, paymentsOf, joined, lineOf, linesOf, Begins, Says}
+use Rattle.desk_rules.specs.Runs.{having, ofLane, callsOf, Own, ownOf}
+use Rattle.desk_rules.specs.Payments.{Payments, withCall, paymentsFrom, paymentsOf, flattened, lineOf, linesOf, Begins, LaneSays}
 use Rattle.desk_rules.proofs.Calls.{endsIn, ends-same}
 use Rattle.desk_rules.proofs.Lanes.{having-append, moves-local, after, by-lane, told, lanes-step}
 use Rattle.desk_rules.proofs.Payment.{Goes, goes, Brings, brings-more, Open, open-none, its-more}
@@ -46,8 +46,8 @@ unfolding linesOf
 lines-snoc ls [] p = refl
 lines-snoc ls (x ∷ ps) p = lines-snoc (ls ++ (lineOf ls x ∷ [])) ps p
 
-joined-append : (ps qs : List (List Call)) → joined (ps ++ qs) ≡ joined ps ++ joined qs
-unfolding joined
+joined-append : (ps qs : List (List Call)) → flattened (ps ++ qs) ≡ flattened ps ++ flattened qs
+unfolding flattened
 joined-append [] qs = refl
 joined-append (p ∷ ps) qs = rw (joined-append ps qs, append-assoc)
 
@@ -56,8 +56,8 @@ joined-append (p ∷ ps) qs = rw (joined-append ps qs, append-assoc)
 pub record Kept (s : State) (p : Payments) (past : List Call) : Type 0 where
   pub lanes : length (s .lanes) ≡ 8
   pub slots : length (p .ongoing) ≡ 8
-  pub calls : (k : ℕ) → callsOf k past ≡ callsOf k (joined (p .ended)) ++ getD (p .ongoing) k []
-  pub each : (k : ℕ) → Open k (own k s) (getD (p .ongoing) k [])
+  pub calls : (k : ℕ) → callsOf k past ≡ callsOf k (flattened (p .ended)) ++ getD (p .ongoing) k []
+  pub each : (k : ℕ) → Open k (ownOf k s) (getD (p .ongoing) k [])
   pub blocks : Blocks [] (p .ended)
   pub lines : s .lines ≡ linesOf [] (p .ended)
 
@@ -70,7 +70,7 @@ getD-set xs i k x d h = go (eqb i k) refl
 
 -- the call's lane, its payment with the call, and what the call does
 abbrev mine : State → Call → Own
-mine s c = own (laneOf c) s
+mine s c = ownOf (laneOf c) s
 
 abbrev grown : Payments → Call → List Call
 grown p c = getD (p .ongoing) (laneOf c) [] ++ (c ∷ [])
@@ -80,7 +80,7 @@ turn s c = moves (mine s c .lane) (mine s c .lines) c
 
 -- the payment with the call stands in ys, ended, or in x, still open
 kept-with : (s : State) (p : Payments) (past : List Call) (c : Call) → Kept s p past → Accepts s c
-    → (ys : List (List Call)) (x : List Call) → joined ys ++ x ≡ grown p c
+    → (ys : List (List Call)) (x : List Call) → flattened ys ++ x ≡ grown p c
     → Open (laneOf c) (after (mine s c) c) x → Blocks [] (p .ended ++ ys)
     → s .lines ++ linesFrom (laneOf c) (mine s c .lane) (turn s c) ≡ linesOf [] (p .ended ++ ys)
     → Kept (step s c) (record { ended = p .ended ++ ys; ongoing = set (p .ongoing) (laneOf c) x }) (past ++ (c ∷ []))
@@ -101,29 +101,29 @@ kept-with s p past c kept h ys x e now blocks lines =
     at : (k : ℕ) → getD (set (p .ongoing) (laneOf c) x) k [] ≡ pick (eqb (laneOf c) k) x (getD (p .ongoing) k [])
     at k = getD-set (p .ongoing) (laneOf c) k x [] (omega (arith, small, kept .slots))
 
-    go : (k : ℕ) (b : Bool) → eqb (laneOf c) k ≡ b → callsOf k (joined ys) ++ pick b x [] ≡ pick b (grown p c) []
-        → getD (p .ongoing) k [] ++ pick b (c ∷ []) [] ≡ callsOf k (joined ys) ++ pick b x (getD (p .ongoing) k [])
+    go : (k : ℕ) (b : Bool) → eqb (laneOf c) k ≡ b → callsOf k (flattened ys) ++ pick b x [] ≡ pick b (grown p c) []
+        → getD (p .ongoing) k [] ++ pick b (c ∷ []) [] ≡ callsOf k (flattened ys) ++ pick b x (getD (p .ongoing) k [])
     go k true q f = sym (rw (eqb-true (laneOf c) k q) at f)
-    go k false q f = rw (append-nil, sym (append-nil (callsOf k (joined ys))) ∙ f)
+    go k false q f = rw (append-nil, sym (append-nil (callsOf k (flattened ys))) ∙ f)
 
-    calls : (k : ℕ) → callsOf k (past ++ (c ∷ [])) ≡ callsOf k (joined (p .ended ++ ys)) ++ getD (set (p .ongoing) (laneOf c) x) k []
+    calls : (k : ℕ) → callsOf k (past ++ (c ∷ [])) ≡ callsOf k (flattened (p .ended ++ ys)) ++ getD (set (p .ongoing) (laneOf c) x) k []
     calls k =
         rw (
           having-append laneOf k past,
           kept .calls k,
           joined-append,
-          having-append laneOf k (joined (p .ended)),
-          append-assoc (callsOf k (joined (p .ended))) (getD (p .ongoing) k []),
+          having-append laneOf k (flattened (p .ended)),
+          append-assoc (callsOf k (flattened (p .ended))) (getD (p .ongoing) k []),
           append-assoc,
           at k,
         )
-        (ap (λ (z : List Call). callsOf k (joined (p .ended)) ++ z)
-        (go k (eqb (laneOf c) k) refl (rw (← now .its k, ← having-append laneOf k (joined ys) x, e)
+        (ap (λ (z : List Call). callsOf k (flattened (p .ended)) ++ z)
+        (go k (eqb (laneOf c) k) refl (rw (← now .its k, ← having-append laneOf k (flattened ys) x, e)
         (its-more (getD (p .ongoing) (laneOf c) []) c (kept .each (laneOf c) .its) k))))
 
 -- an accepted call goes on with its lane's payment, or ends it
 kept-step : (s : State) (p : Payments) (past : List Call) (c : Call) → Kept s p past → Accepts s c → Kept (step s c) (withCall p c) (past ++ (c ∷ []))
-unfolding withCall endsIn laneAfter linesFrom after joined Goes
+unfolding withCall endsIn laneAfter linesFrom after flattened Goes
 kept-step s p past c kept h =
     let passes = rw moves-local at (told s c h .moved) in
     rw (← ends-same (w .lane) (w .lines) c passes) (go (turn s c) refl (goes i w q c (now .says) refl passes))
@@ -144,7 +144,7 @@ kept-step s p past c kept h =
     brings = brings-more (w .lines) q (w .lane) c (now .brings)
 
     on : (n : Lane) → laneAfter (w .lane) (turn s c) ≡ n → linesFrom i (w .lane) (turn s c) ≡ []
-        → Says i (record { lane = n; lines = w .lines }) (q ++ (c ∷ []))
+        → LaneSays i (record { lane = n; lines = w .lines }) (q ++ (c ∷ []))
         → Kept (step s c) (record { ended = p .ended; ongoing = set (p .ongoing) i (q ++ (c ∷ [])) }) (past ++ (c ∷ []))
     on n e f g =
         rw (append-nil (p .ended)) at
@@ -183,7 +183,7 @@ all-same (suc n) zero a = refl
 all-same (suc n) (suc k) a = all-same n k a
 
 pub kept : (cs : List Call) → Accepted fresh cs → Kept (run fresh cs) (paymentsOf cs) cs
-unfolding paymentsOf fresh having joined Blocks linesOf
+unfolding paymentsOf fresh having flattened Blocks linesOf
 kept cs h = kept-run fresh (record { ended = []; ongoing = replicate 8 [] }) [] cs first h
   where
     first : Kept fresh (record { ended = []; ongoing = replicate 8 [] }) []

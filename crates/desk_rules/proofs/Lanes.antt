@@ -15,8 +15,8 @@ use Rattle.desk_rules.specs.declared.Moved.{Moved}
 use Rattle.desk_rules.specs.declared.Moved.the-variants.{Refused, Stays, Becomes, Ends}
 use Rattle.desk_rules.specs.Lanes.{idleLane, lineAt}
 use Rattle.desk_rules.specs.Course.{isIdle, concerns, lastFrom, lastLine, openedBy, askReversal, Call, sale, refund, reversal, message, lost, laneOf, opens, moves, writes}
-use Rattle.desk_rules.specs.Desk.{State, laneAt, place, places, load, Decision, refuse, accept, unlessRefused, decide, laneAfter, linesFrom, step, Accepts}
-use Rattle.desk_rules.specs.Runs.{having, ofLane, Own, own, total, opening}
+use Rattle.desk_rules.specs.Desk.{State, laneAt, lanePlace, places, load, Decision, refuse, accept, unlessRefused, decide, laneAfter, linesFrom, step, Accepts}
+use Rattle.desk_rules.specs.Runs.{having, ofLane, Own, ownOf, total, opening}
 use Rattle.desk_rules.specs.Payments.{askOf}
 use Rattle.desk_rules.proofs.Calls.{Passes, opened, Later, later}
 
@@ -91,7 +91,7 @@ lines-own i k l Stays = none (eqb i k)
 lines-own i k l (Becomes n) = none (eqb i k)
 lines-own i k l (Ends outcome settled code) = refl
 
-own-same : (s : State) (c : Call) → laneOf c < length (s .lanes) → own (laneOf c) (step s c) ≡ after (own (laneOf c) s) c
+own-same : (s : State) (c : Call) → laneOf c < length (s .lanes) → ownOf (laneOf c) (step s c) ≡ after (ownOf (laneOf c) s) c
 unfolding step after
 own-same s c h =
     let l = laneAt (s .lanes) (laneOf c) in
@@ -103,7 +103,7 @@ own-same s c h =
       moves-local l (s .lines) c,
     )
 
-own-other : (s : State) (c : Call) (k : ℕ) → (laneOf c ≡ k → ⊥) → own k (step s c) ≡ own k s
+own-other : (s : State) (c : Call) (k : ℕ) → (laneOf c ≡ k → ⊥) → ownOf k (step s c) ≡ ownOf k s
 unfolding step
 own-other s c k n =
     let l = laneAt (s .lanes) (laneOf c) in
@@ -120,12 +120,12 @@ pub isolation : (s : State) (c : Call) (k : ℕ) → (laneOf c ≡ k → ⊥)
 isolation s c k n = let e = own-other s c k n in (ap (λ (o : Own). o .lane) e, ap (λ (o : Own). o .lines) e)
 
 -- what holds of the call's lane as the call leaves it, and of the other lanes as they were, holds of every lane after the call
-pub by-lane : (s : State) (c : Call) → laneOf c < length (s .lanes) → (P : ℕ → Bool → Own → Type 0) → P (laneOf c) true (after (own (laneOf c) s) c)
-    → ((k : ℕ) → (laneOf c ≡ k → ⊥) → P k false (own k s)) → (k : ℕ) → P k (eqb (laneOf c) k) (own k (step s c))
+pub by-lane : (s : State) (c : Call) → laneOf c < length (s .lanes) → (P : ℕ → Bool → Own → Type 0) → P (laneOf c) true (after (ownOf (laneOf c) s) c)
+    → ((k : ℕ) → (laneOf c ≡ k → ⊥) → P k false (ownOf k s)) → (k : ℕ) → P k (eqb (laneOf c) k) (ownOf k (step s c))
 by-lane s c h P mine other k = go (eqb (laneOf c) k) refl
   where
-    go : (b : Bool) → eqb (laneOf c) k ≡ b → P k b (own k (step s c))
-    go true e = subst (λ (j : ℕ). P j true (own j (step s c))) (eqb-true _ _ e) (subst (P (laneOf c) true) (sym (own-same s c h)) mine)
+    go : (b : Bool) → eqb (laneOf c) k ≡ b → P k b (ownOf k (step s c))
+    go true e = subst (λ (j : ℕ). P j true (ownOf j (step s c))) (eqb-true _ _ e) (subst (P (laneOf c) true) (sym (own-same s c h)) mine)
     go false e = rw (own-other s c k (eqb-false _ _ e)) (other k (eqb-false _ _ e))
 
 -- ---- accepted calls
@@ -191,24 +191,24 @@ pub opening-is : (c : Call) (b : Bool) → opens c ≡ b → opening c ≡ pick 
 unfolding opening
 opening-is c b e = rw e
 
-pub places-total : (ls : List Lane) → places ls ≡ total place ls
+pub places-total : (ls : List Lane) → places ls ≡ total lanePlace ls
 unfolding places total
 places-total [] = refl
 places-total (l ∷ ls) = omega (arith, places-total ls)
 
 -- places are kept: an opening takes one, and an end passes it on to its line
 kept : (i : ℕ) (l : Lane) (ls : List Line) (c : Call) → Passes (moves l ls c)
-    → place (laneAfter l (moves l ls c)) + length (linesFrom i l (moves l ls c)) ≡ place l + opening c
-unfolding place laneAfter linesFrom opening isIdle
+    → lanePlace (laneAfter l (moves l ls c)) + length (linesFrom i l (moves l ls c)) ≡ lanePlace l + opening c
+unfolding lanePlace laneAfter linesFrom opening isIdle
 kept i l ls c h = go (opens c) refl
   where
-    then : (m : Moved) → isIdle (l .phase) ≡ false → Later l c m → place (laneAfter l m) + length (linesFrom i l m) ≡ place l + 0
+    then : (m : Moved) → isIdle (l .phase) ≡ false → Later l c m → lanePlace (laneAfter l m) + length (linesFrom i l m) ≡ lanePlace l + 0
     then (Refused r) e f = absurd f
     then Stays e f = refl
     then (Becomes n) e f = rw (e, f .0)
     then (Ends outcome settled code) e f = rw e
 
-    go : (b : Bool) → opens c ≡ b → place (laneAfter l (moves l ls c)) + length (linesFrom i l (moves l ls c)) ≡ place l + pick b 1 0
+    go : (b : Bool) → opens c ≡ b → lanePlace (laneAfter l (moves l ls c)) + length (linesFrom i l (moves l ls c)) ≡ lanePlace l + pick b 1 0
     go true e = let o = opened l ls c e h in rw (o .1, o .0)
     go false e = let t = later l ls c e h in then (moves l ls c) (t .0) (t .1)
 
@@ -224,6 +224,6 @@ load-step s c e h =
     let t = told s c h in
     simp (length-append, places-total) (omega (
       arith,
-      total-set place (s .lanes) (laneOf c) (laneAfter l m) idleLane (omega arith),
+      total-set lanePlace (s .lanes) (laneOf c) (laneAfter l m) idleLane (omega arith),
       kept (laneOf c) l (s .lines) c (t .moved),
     ))

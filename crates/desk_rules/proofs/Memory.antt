@@ -22,7 +22,7 @@ use Rattle.desk_rules.specs.declared.Answer.{Answer}
 use Rattle.desk_rules.specs.declared.Reply.the-variants.{Written}
 use Rattle.desk_rules.specs.Lanes.{blankLine, idleLane, lineAt}
 use Rattle.desk_rules.specs.Course.{isIdle, Call, laneOf, opens, NumbersFit, moves, writes}
-use Rattle.desk_rules.specs.Desk.{fresh, laneAt, place, places, load, Decision, refuse, accept, decide, laneAfter, linesFrom, step}
+use Rattle.desk_rules.specs.Desk.{fresh, laneAt, lanePlace, places, load, Decision, refuse, accept, decide, laneAfter, linesFrom, step}
 use Rattle.desk_rules.specs.Memory.{freshDesk, linesOfDesk, view, laneFor, toldSmall, Valid, withLine, endedDesk, movedDesk, refusedAnswer, answerBy, answerOf, leavesBy, leavesOf, closeAnswer}
 use Rattle.desk_rules.proofs.Calls.{Passes, later}
 use Rattle.desk_rules.proofs.Lanes.{total-set, places-total, not-refused, passed}
@@ -51,35 +51,35 @@ replicate-all P (suc n) d p (suc k) = replicate-all P n d p k
 
 -- ---- the places that lanes take
 
-pub place-most : (l : Lane) → place l ≤ 1
-unfolding place
+pub place-most : (l : Lane) → lanePlace l ≤ 1
+unfolding lanePlace
 place-most l = pick-test (λ (n : ℕ). n ≤ 1) (isIdle (l .phase)) (λ _. omega arith) (λ _. omega arith)
 
-pub place-idle : (l : Lane) → (place l ≡ 0) ↔ (isIdle (l .phase) ≡ true)
-unfolding place
+pub place-idle : (l : Lane) → (lanePlace l ≡ 0) ↔ (isIdle (l .phase) ≡ true)
+unfolding lanePlace
 place-idle l = go (isIdle (l .phase))
   where
     go : (b : Bool) → (_≡_ {A = ℕ} (pick b 0 1) 0) ↔ (b ≡ true)
     go true = (λ _. refl, λ _. refl)
     go false = (λ e. absurd (omega arith), λ e. cc)
 
-pub place-open : (l : Lane) → isIdle (l .phase) ≡ false → place l ≡ 1
-unfolding place
+pub place-open : (l : Lane) → isIdle (l .phase) ≡ false → lanePlace l ≡ 1
+unfolding lanePlace
 place-open l e = rw e
 
-pub place-in : (ls : List Lane) (i : ℕ) → place (getD ls i idleLane) ≤ places ls
-unfolding places place isIdle
+pub place-in : (ls : List Lane) (i : ℕ) → lanePlace (getD ls i idleLane) ≤ places ls
+unfolding places lanePlace isIdle
 place-in [] i = omega arith
 place-in (l ∷ ls) zero = omega arith
 place-in (l ∷ ls) (suc i) = omega (arith, place-in ls i)
 
-pub places-set : (ls : List Lane) (i : ℕ) (l : Lane) → i < length ls → places (set ls i l) + place (getD ls i idleLane) ≡ places ls + place l
-places-set ls i l h = simp places-total (total-set place ls i l idleLane h)
+pub places-set : (ls : List Lane) (i : ℕ) (l : Lane) → i < length ls → places (set ls i l) + lanePlace (getD ls i idleLane) ≡ places ls + lanePlace l
+places-set ls i l h = simp places-total (total-set lanePlace ls i l idleLane h)
 
 -- ---- what every desk is
 
 pub fresh-valid : Valid freshDesk
-unfolding places place isIdle toldSmall
+unfolding places lanePlace isIdle toldSmall
 fresh-valid =
     record {
       lanes = refl;
@@ -92,7 +92,7 @@ fresh-valid =
 
 -- a place is left for lane i: its own, or one more
 abbrev pub Roomy : Desk → ℕ → Type 0
-Roomy d i = d .book .count + places (d .lanes) < 64 + place (laneAt (d .lanes) i)
+Roomy d i = d .book .count + places (d .lanes) < 64 + lanePlace (laneAt (d .lanes) i)
 
 module _ (d : Desk) (v : Valid d) where
   pub load-is : load (view d) ≡ d .book .count + places (d .lanes)
@@ -105,7 +105,7 @@ module _ (d : Desk) (v : Valid d) where
 
     -- another lane, and a book that its place is enough for
     changed-valid : (l : Lane) (b : Book) → LaneFits l → length (b .lines) ≡ 64 → LinesFit (b .lines)
-        → b .count + place l ≤ d .book .count + 1
+        → b .count + lanePlace l ≤ d .book .count + 1
         → Valid (record { lanes = set (d .lanes) i l; book = b })
     changed-valid l b f n k few =
         let all = set-all LaneFits (d .lanes) i l idleLane f (λ j. (v .asked j, v .told j)) in
@@ -119,7 +119,7 @@ module _ (d : Desk) (v : Valid d) where
         }
 
     moved-valid : (m : Moved) → Fits m → Valid (movedDesk d i m)
-    unfolding movedDesk endedDesk lineAt place isIdle toldSmall
+    unfolding movedDesk endedDesk lineAt lanePlace isIdle toldSmall
     moved-valid (Refused x) f = v
     moved-valid Stays f = v
     moved-valid (Becomes l) f = changed-valid l (d .book) f (v .lines) (v .settled) (omega (arith, place-most l))

@@ -17,7 +17,7 @@ use Rattle.desk_rules.specs.Lanes.{noStatus, idleLane, lineAt}
 use Rattle.desk_rules.specs.Course.{isIdle, Ask, Call, laneOf, opens, moves}
 use Rattle.desk_rules.specs.Desk.{State, laneAt, laneAfter, linesFrom, step, run}
 use Rattle.desk_rules.specs.Runs.{having, ofLane, callsOf, Own, total, openings}
-use Rattle.desk_rules.specs.Payments.{askOf, remembered, verdict, askedLane, lineBy, judged, lineOf, recalled, Begins, Says}
+use Rattle.desk_rules.specs.Payments.{askOf, remembered, verdict, askedLane, lineBy, judged, lineOf, recalled, Begins, LaneSays}
 use Rattle.desk_rules.proofs.Calls.{Passes, opened, retold, Later, later}
 use Rattle.desk_rules.proofs.Lanes.{having-append, none, total-append, ask-local, moves-local, opening-is}
 use Rattle.desk_rules.proofs.Runs.{run-append}
@@ -39,13 +39,13 @@ judged-snoc i a st (d ∷ (e ∷ cs)) c = judged-snoc i a (remembered st d) (e �
 -- what a call makes of a payment
 unfoldable pub Goes : ℕ → Own → List Call → Moved → Type 0
 Goes k w q (Refused r) = ⊥
-Goes k w q Stays = Says k w q
-Goes k w q (Becomes n) = Says k (record { lane = n; lines = w .lines }) q
+Goes k w q Stays = LaneSays k w q
+Goes k w q (Becomes n) = LaneSays k (record { lane = n; lines = w .lines }) q
 Goes k w q (Ends outcome settled code) = Begins q × ((ls : List Line) → ofLane k ls ≡ w .lines → lineAt k (w .lane) outcome settled code ≡ lineOf ls q)
 
-pub goes : (k : ℕ) (w : Own) (q : List Call) (c : Call) → Says k w q → laneOf c ≡ k → Passes (moves (w .lane) (w .lines) c)
+pub goes : (k : ℕ) (w : Own) (q : List Call) (c : Call) → LaneSays k w q → laneOf c ≡ k → Passes (moves (w .lane) (w .lines) c)
     → Goes k w (q ++ (c ∷ [])) (moves (w .lane) (w .lines) c)
-unfolding Says Goes Begins recalled total askedLane isIdle lineOf lineBy lineAt
+unfolding LaneSays Goes Begins recalled total askedLane isIdle lineOf lineBy lineAt
 goes k w [] c says at pass = go (opens c) refl
   where
     go : (b : Bool) → opens c ≡ b → Goes k w (c ∷ []) (moves (w .lane) (w .lines) c)
@@ -92,10 +92,10 @@ brings-more ls q l c b s h e f =
 pub record Open (k : ℕ) (w : Own) (q : List Call) : Type 0 where
   pub its : (j : ℕ) → callsOf j q ≡ pick (eqb k j) q []
   pub brings : Brings k (w .lines) q (w .lane) []
-  pub says : Says k w q
+  pub says : LaneSays k w q
 
 pub open-none : (k : ℕ) (ls : List Line) → Open k (record { lane = idleLane; lines = ls }) []
-unfolding having Says
+unfolding having LaneSays
 open-none k ls = record { its = λ j. none (eqb k j); brings = brings-none k ls; says = refl }
 
 pub its-more : (q : List Call) (c : Call) → ((j : ℕ) → callsOf j q ≡ pick (eqb (laneOf c) j) q [])

@@ -7,14 +7,14 @@ use Prim.Native.Nat.{ℕ, _≤_, _<_}
 use native.Mathlib.Omega.{arith}
 use Rattle.zvt_rules.specs.declared.Refusal.{Refusal}
 use Rattle.zvt_rules.specs.Reading.{got}
-use Rattle.zvt_rules.specs.Message.{Header, wholeHeader}
+use Rattle.zvt_rules.specs.Message.{Heading, wholeHeader}
 use Rattle.zvt_rules.proofs.Numbers.{header-numbers, read-numbers}
 use Rattle.desk_rules.specs.declared.Phase.the-variants.{Idle, Running}
 use Rattle.desk_rules.specs.declared.Lane.{Lane}
 use Rattle.desk_rules.specs.declared.Moved.the-variants.{Refused}
 use Rattle.desk_rules.specs.Course.{Call, sale, refund, reversal, message, lost, laneOf, opens}
 use Rattle.desk_rules.specs.Desk.{State, load, Decision, refuse, accept, decide, laneAfter, linesFrom}
-use Rattle.desk_rules.specs.Table.{phaseAt, phaseOf, Within, ToReverse, LastIsSale, commandSize, Ready, Allowed, GoodHeader, GoodBody, BodyNo, Unread, Heard}
+use Rattle.desk_rules.specs.Table.{phaseAt, phaseOf, Within, ToReverse, LastIsSale, commandSize, Ready, Allowed, GoodHeader, GoodBody, UnreadBody, Unread, Heard}
 use Rattle.desk_rules.proofs.Rows.{Opening, no-lane, not-idle, outside, no-sale, full, tight, opened, opening-table}
 use Rattle.desk_rules.proofs.Rows.{Hearing, is-idle, bad-header, not-allowed, bad-body, no-code, heard-waiting, heard-running, hearing-table, Losing, ended, losing-table}
 
@@ -162,11 +162,11 @@ module _ (s : State) (i : ℕ) (b : List ℕ) (room : ℕ) where
 
   -- "15 pair or non-empty body not allowed in this phase"
   pub not-allowed-exactly : (decide s (message i b) room ≡ refuse 15)
-      ↔ ((i < 8) × (phaseAt s i ≡ Idle → ⊥) × ((h : Header) × (wholeHeader b ≡ got h) × (Allowed (phaseAt s i) h → ⊥)))
+      ↔ ((i < 8) × (phaseAt s i ≡ Idle → ⊥) × ((h : Heading) × (wholeHeader b ≡ got h) × (Allowed (phaseAt s i) h → ⊥)))
   not-allowed-exactly = (λ e. inv (row _ .0 e), λ k. row _ .1 (not-allowed (k .2 .0) (k .0) (k .1) (k .2 .1) (k .2 .2)))
     where
       inv : Hearing s i b room (refuse 15)
-          → (i < 8) × (phaseAt s i ≡ Idle → ⊥) × ((h : Header) × (wholeHeader b ≡ got h) × (Allowed (phaseAt s i) h → ⊥))
+          → (i < 8) × (phaseAt s i ≡ Idle → ⊥) × ((h : Heading) × (wholeHeader b ≡ got h) × (Allowed (phaseAt s i) h → ⊥))
       inv (bad-header _ f l n e q) = absurd (omega (arith, header-numbers b f e))
       inv (not-allowed h l n e a) = (l, n, (h, e, a))
       inv (bad-body _ h f l p e a r q) = absurd (omega (arith, read-numbers b f r))
@@ -181,7 +181,7 @@ module _ (s : State) (i : ℕ) (b : List ℕ) (room : ℕ) where
   unread _ t (no-code h m l p e a r k) = (l, inr (p, (h, e, a), inr (m, r, k, refl)))
   unread _ t (tight h m l p e a r k u) = absurd (omega arith)
 
-  body-row : (n : ℕ) → i < 8 → phaseAt s i ≡ Running → GoodHeader Running b → BodyNo b n → Hearing s i b room (refuse n)
+  body-row : (n : ℕ) → i < 8 → phaseAt s i ≡ Running → GoodHeader Running b → UnreadBody b n → Hearing s i b room (refuse n)
   body-row n l p g (inl k) = bad-body n (g .0) (k .0) l p (g .1) (g .2) (k .1) (k .2)
   body-row n l p g (inr k) = rw (← (k .3)) (no-code (g .0) (k .0) l p (g .1) (g .2) (k .1) (k .2))
 
@@ -229,8 +229,8 @@ pub sale-accepted : (s : State) (i amount room : ℕ)
 unfolding opens laneOf
 sale-accepted s i amount room =
     let both = opening-accepted s (sale i amount) room refl in (
-      λ e. let k = both .0 e in (k .0 .lane, k .0 .idle, k .0 .within .0, k .0 .within .1, k .0 .place, k .1),
-      λ k. both .1 (record { lane = k .0; idle = k .1; within = (k .2, k .3); sold = tt; place = k .4 }, k .5),
+      λ e. let k = both .0 e in (k .0 .lane, k .0 .idle, k .0 .within .0, k .0 .within .1, k .0 .free, k .1),
+      λ k. both .1 (record { lane = k .0; idle = k .1; within = (k .2, k .3); sold = tt; free = k .4 }, k .5),
     )
 
 pub refund-accepted : (s : State) (i password amount room : ℕ)
@@ -241,8 +241,8 @@ refund-accepted s i password amount room =
     let both = opening-accepted s (refund i password amount) room refl in (
       λ e.
           let k = both .0 e in
-          (k .0 .lane, k .0 .idle, k .0 .within .0, k .0 .within .1 .0, k .0 .within .1 .1, k .0 .place, k .1),
-      λ k. both .1 (record { lane = k .0; idle = k .1; within = (k .2, (k .3, k .4)); sold = tt; place = k .5 }, k .6),
+          (k .0 .lane, k .0 .idle, k .0 .within .0, k .0 .within .1 .0, k .0 .within .1 .1, k .0 .free, k .1),
+      λ k. both .1 (record { lane = k .0; idle = k .1; within = (k .2, (k .3, k .4)); sold = tt; free = k .5 }, k .6),
     )
 
 pub reversal-accepted : (s : State) (i password receipt room : ℕ)
@@ -254,8 +254,8 @@ reversal-accepted s i password receipt room =
     let both = opening-accepted s (reversal i password receipt) room refl in (
       λ e.
           let k = both .0 e in
-          (k .0 .lane, k .0 .idle, k .0 .within .0, k .0 .within .1 .0, k .0 .within .1 .1, k .0 .sold, k .0 .place, k .1),
-      λ k. both .1 (record { lane = k .0; idle = k .1; within = (k .2, (k .3, k .4)); sold = k .5; place = k .6 }, k .7),
+          (k .0 .lane, k .0 .idle, k .0 .within .0, k .0 .within .1 .0, k .0 .within .1 .1, k .0 .sold, k .0 .free, k .1),
+      λ k. both .1 (record { lane = k .0; idle = k .1; within = (k .2, (k .3, k .4)); sold = k .5; free = k .6 }, k .7),
     )
 
 -- ---- "desk and buffers are unchanged": a refused move leaves its lane and writes no line

@@ -14,7 +14,7 @@ use Rattle.zvt_rules.specs.declared.Status.{Status}
 use Rattle.zvt_rules.specs.declared.ToldCode.{ToldCode}
 use Rattle.zvt_rules.specs.declared.ToldCode.the-variants.{Missing, Code}
 use Rattle.zvt_rules.specs.Reading.{Reading, got, refused, pick, among}
-use Rattle.zvt_rules.specs.Message.{Header, wholeHeader, Body, bytes, listed, Message, layoutOf, bodyOf, messageOf, readOf}
+use Rattle.zvt_rules.specs.Message.{Heading, wholeHeader, Body, bytes, listed, Message, layoutOf, bodyOf, messageOf, readOf}
 use Rattle.zvt_rules.proofs.Tests.{pick-test, between}
 use Rattle.zvt_rules.proofs.Readings.{got-same, then-got}
 use Rattle.desk_rules.specs.declared.Phase.{Phase}
@@ -121,7 +121,7 @@ module _ (s : State) (room : ℕ) where
     ready-says : Ready s c → decide s c room ≡ pick (ltb room (commandSize c)) (refuse 11) accept
     ready-says y =
         decide-opening c o
-        ∙ rw (lane (y .lane), idle (y .idle), within-test c o .1 (y .within), sold-test c o .1 (y .sold), lt-leb 64 (load s) (y .place))
+        ∙ rw (lane (y .lane), idle (y .idle), within-test c o .1 (y .within), sold-test c o .1 (y .sold), lt-leb 64 (load s) (y .free))
 
     opening-given : {d : Decision} → Opening s c room d → decide s c room ≡ d
     opening-given (no-lane k) = decide-opening c o ∙ rw (le-leb 8 (laneOf c) k)
@@ -143,7 +143,7 @@ module _ (s : State) (room : ℕ) where
         case (sold-test c o)
         (λ v.
         case (leb-test 64 (load s)) (λ f. put (full l d w v f)) λ f.
-        let ready : Ready s c = record { lane = l; idle = d; within = w; sold = v; place = omega arith } in
+        let ready : Ready s c = record { lane = l; idle = d; within = w; sold = v; free = omega arith } in
         case (leb-test (suc room) (commandSize c)) (λ r. put (tight ready r)) (λ r. put (opened ready (omega arith))))
         (λ v. put (no-sale l d w v)))
         (λ w. put (outside l d w)))
@@ -162,16 +162,16 @@ pub data Hearing (s : State) (i : ℕ) (b : List ℕ) (room : ℕ) : Decision �
   no-lane : 8 ≤ i → Hearing s i b room (refuse 12)
   is-idle : i < 8 → phaseAt s i ≡ Idle → Hearing s i b room (refuse 14)
   bad-header : (n : ℕ) (f : Fault) → i < 8 → (phaseAt s i ≡ Idle → ⊥) → wholeHeader b ≡ refused f → f .number ≡ n → Hearing s i b room (refuse n)
-  not-allowed : (h : Header) → i < 8 → (phaseAt s i ≡ Idle → ⊥) → wholeHeader b ≡ got h → (Allowed (phaseAt s i) h → ⊥)
+  not-allowed : (h : Heading) → i < 8 → (phaseAt s i ≡ Idle → ⊥) → wholeHeader b ≡ got h → (Allowed (phaseAt s i) h → ⊥)
       → Hearing s i b room (refuse 15)
-  bad-body : (n : ℕ) (h : Header) (f : Fault) → i < 8 → phaseAt s i ≡ Running → wholeHeader b ≡ got h → Allowed Running h
+  bad-body : (n : ℕ) (h : Heading) (f : Fault) → i < 8 → phaseAt s i ≡ Running → wholeHeader b ≡ got h → Allowed Running h
       → readOf b ≡ refused f → f .number ≡ n → Hearing s i b room (refuse n)
-  no-code : (h : Header) (m : Message) → i < 8 → phaseAt s i ≡ Running → wholeHeader b ≡ got h → Allowed Running h
+  no-code : (h : Heading) (m : Message) → i < 8 → phaseAt s i ≡ Running → wholeHeader b ≡ got h → Allowed Running h
       → readOf b ≡ got m → EmptyAbort m → Hearing s i b room (refuse 1)
-  tight : (h : Header) (m : Message) → i < 8 → phaseAt s i ≡ Running → wholeHeader b ≡ got h → Allowed Running h
+  tight : (h : Heading) (m : Message) → i < 8 → phaseAt s i ≡ Running → wholeHeader b ≡ got h → Allowed Running h
       → readOf b ≡ got m → (EmptyAbort m → ⊥) → room < 3 → Hearing s i b room (refuse 11)
-  heard-waiting : (h : Header) → i < 8 → phaseAt s i ≡ Waiting → wholeHeader b ≡ got h → Allowed Waiting h → Hearing s i b room accept
-  heard-running : (h : Header) (m : Message) → i < 8 → phaseAt s i ≡ Running → wholeHeader b ≡ got h → Allowed Running h
+  heard-waiting : (h : Heading) → i < 8 → phaseAt s i ≡ Waiting → wholeHeader b ≡ got h → Allowed Waiting h → Hearing s i b room accept
+  heard-running : (h : Heading) (m : Message) → i < 8 → phaseAt s i ≡ Running → wholeHeader b ≡ got h → Allowed Running h
       → readOf b ≡ got m → (EmptyAbort m → ⊥) → 3 ≤ room → Hearing s i b room accept
 
 among-test : (ks : List ℕ) (x : ℕ) → (among ks x ≡ true) ↔ OneOf ks x
@@ -180,19 +180,19 @@ among-test [] x = (λ e. false≢true e, λ e. absurd e)
 among-test (k ∷ ks) x = or-test (eqb-test k x) (among-test ks x)
 
 -- the tests of a pair in a phase that is not idle
-unfoldable allowedBy : Phase → Header → Bool
+unfoldable allowedBy : Phase → Heading → Bool
 allowedBy Idle h = false
 allowedBy Waiting h = eqb (h .size) 0 && (pairIs (h .class) (h .instruction) 0x80 0x00 || eqb (h .class) 0x84)
 allowedBy Running h = among runningPairs (h .class * 256 + h .instruction)
 
-allowed-test : (p : Phase) (h : Header) → (allowedBy p h ≡ true) ↔ Allowed p h
+allowed-test : (p : Phase) (h : Heading) → (allowedBy p h ≡ true) ↔ Allowed p h
 unfolding allowedBy
 allowed-test Idle h = (λ e. false≢true e, λ e. absurd e)
 allowed-test Waiting h =
     and-test (eqb-test (h .size) 0) (or-test (and-test (eqb-test (h .class) 0x80) (eqb-test (h .instruction) 0x00)) (eqb-test (h .class) 0x84))
 allowed-test Running h = among-test _ _
 
-waiting-says : (l : Lane) (h : Header) (x : Decision) → unlessRefused (heardWaiting l h) x ≡ pick (allowedBy Waiting h) x (refuse 15)
+waiting-says : (l : Lane) (h : Heading) (x : Decision) → unlessRefused (heardWaiting l h) x ≡ pick (allowedBy Waiting h) x (refuse 15)
 unfolding unlessRefused heardWaiting allowedBy
 waiting-says l h x = simp unless-pick (go (eqb (h .size) 0) (pairIs (h .class) (h .instruction) 0x80 0x00) (eqb (h .class) 0x84))
   where
@@ -301,23 +301,23 @@ module _ (s : State) (i : ℕ) (b : List ℕ) (room : ℕ) where
   unfolding heard
   from-header l n = from-lane l ∙ rw (no-for (idle-test (phaseAt s i)) n)
 
-  allowed-says : (p : Phase) (h : Header) → (p ≡ Idle → ⊥)
+  allowed-says : (p : Phase) (h : Heading) → (p ≡ Idle → ⊥)
       → unlessRefused (heardBy p (laneAt (s .lanes) i) b h) (said p) ≡ pick (allowedBy p h) (further p) (refuse 15)
   unfolding unlessRefused heardBy heardRunning allowedBy said answered further
   allowed-says Idle h n = absurd (n refl)
   allowed-says Waiting h n = waiting-says _ h _ ∙ rw (le-ltb room 0 (omega arith))
   allowed-says Running h n = unless-pick (allowedBy Running h) _ _ _
 
-  from-phase : (h : Header) → i < 8 → (phaseAt s i ≡ Idle → ⊥) → wholeHeader b ≡ got h
+  from-phase : (h : Heading) → i < 8 → (phaseAt s i ≡ Idle → ⊥) → wholeHeader b ≡ got h
       → decide s (message i b) room ≡ pick (allowedBy (phaseAt s i) h) (further (phaseAt s i)) (refuse 15)
   unfolding afterHeader
   from-phase h l n e = from-header l n ∙ rw e (allowed-says (phaseAt s i) h n)
 
-  from-allowed : (p : Phase) (h : Header) → i < 8 → phaseAt s i ≡ p → isIdle p ≡ false → wholeHeader b ≡ got h → Allowed p h
+  from-allowed : (p : Phase) (h : Heading) → i < 8 → phaseAt s i ≡ p → isIdle p ≡ false → wholeHeader b ≡ got h → Allowed p h
       → decide s (message i b) room ≡ further p
   from-allowed p h l q n e a = from-phase h l (busy q n) e ∙ rw (q, allowed-test p h .1 a)
 
-  from-body : (h : Header) (m : Message) → i < 8 → phaseAt s i ≡ Running → wholeHeader b ≡ got h → Allowed Running h → readOf b ≡ got m
+  from-body : (h : Heading) (m : Message) → i < 8 → phaseAt s i ≡ Running → wholeHeader b ≡ got h → Allowed Running h → readOf b ≡ got m
       → decide s (message i b) room ≡ pick (emptyAbort m) (refuse 1) (pick (ltb room 3) (refuse 11) accept)
   unfolding isIdle further afterBody said answered
   from-body h m l q e a r = from-allowed Running h l q refl e a ∙ rw r (moved-says b _ m _ r)
@@ -337,20 +337,20 @@ module _ (s : State) (i : ℕ) (b : List ℕ) (room : ℕ) where
   put : {d : Decision} → Hearing s i b room d → Hearing s i b room (decide s (message i b) room)
   put r = rw (hearing-given r) r
 
-  body-found : (h : Header) → i < 8 → phaseAt s i ≡ Running → wholeHeader b ≡ got h → Allowed Running h
+  body-found : (h : Heading) → i < 8 → phaseAt s i ≡ Running → wholeHeader b ≡ got h → Allowed Running h
       → (x : Reading Message) → readOf b ≡ x → Hearing s i b room (decide s (message i b) room)
   body-found h l p e a (refused f) r = put (bad-body (f .number) h f l p e a r refl)
   body-found h l p e a (got m) r =
       case (abort-test m) (λ k. put (no-code h m l p e a r k)) λ k.
       case (leb-test (suc room) 3) (λ t. put (tight h m l p e a r k t)) (λ t. put (heard-running h m l p e a r k (omega arith)))
 
-  phase-found : (h : Header) → i < 8 → (phaseAt s i ≡ Idle → ⊥) → wholeHeader b ≡ got h
+  phase-found : (h : Heading) → i < 8 → (phaseAt s i ≡ Idle → ⊥) → wholeHeader b ≡ got h
       → (p : Phase) → phaseAt s i ≡ p → Allowed p h → Hearing s i b room (decide s (message i b) room)
   phase-found h l n e Idle q a = absurd (n q)
   phase-found h l n e Waiting q a = put (heard-waiting h l q e a)
   phase-found h l n e Running q a = body-found h l q e a (readOf b) refl
 
-  header-found : i < 8 → (phaseAt s i ≡ Idle → ⊥) → (x : Reading Header) → wholeHeader b ≡ x
+  header-found : i < 8 → (phaseAt s i ≡ Idle → ⊥) → (x : Reading Heading) → wholeHeader b ≡ x
       → Hearing s i b room (decide s (message i b) room)
   header-found l n (refused f) e = put (bad-header (f .number) f l n e refl)
   header-found l n (got h) e =

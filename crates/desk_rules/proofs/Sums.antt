@@ -16,7 +16,7 @@ use Rattle.desk_rules.specs.declared.Line.{Line}
 use Rattle.desk_rules.specs.declared.Desk.{Desk}
 use Rattle.desk_rules.specs.Lanes.{blankLine, idleLane}
 use Rattle.desk_rules.specs.Course.{concerns, lastFrom, lastLine}
-use Rattle.desk_rules.specs.Desk.{place, places}
+use Rattle.desk_rules.specs.Desk.{lanePlace, places}
 use Rattle.desk_rules.specs.Memory.{Valid}
 use Rattle.desk_rules.specs.Turnover.{gain, loss, gains, losses}
 use Rattle.desk_rules.proofs.Memory.{place-most}
@@ -38,13 +38,13 @@ module _ {A : Type 0} (f : A → ℕ) (sum : List A → ℕ) (none : sum [] ≡ 
 
 -- ---- open payments
 
-pub places-take : (ls : List Lane) (i : ℕ) → i < length ls → places (take (i + 1) ls) ≡ places (take i ls) + place (getD ls i idleLane)
+pub places-take : (ls : List Lane) (i : ℕ) → i < length ls → places (take (i + 1) ls) ≡ places (take i ls) + lanePlace (getD ls i idleLane)
 unfolding places
-places-take = sum-take place places refl (λ l ls. refl) idleLane
+places-take = sum-take lanePlace places refl (λ l ls. refl) idleLane
 
 pub places-most : (i : ℕ) (ls : List Lane) → places (take i ls) ≤ i
 unfolding places
-places-most i ls = omega (arith, sum-most place places refl (λ l ls. refl) idleLane 1 i ls (λ k. place-most (getD ls k idleLane)))
+places-most i ls = omega (arith, sum-most lanePlace places refl (λ l ls. refl) idleLane 1 i ls (λ k. place-most (getD ls k idleLane)))
 
 -- ---- the last line of a lane with a receipt
 

@@ -5,7 +5,7 @@ use mathlib.Core.Bool.{Bool, true, false, not, _&&_, _||_}
 use mathlib.Core.List.{List, [], _∷_}
 use lib.Dec.{eqb}
 use Rattle.zvt_rules.specs.Reading.{Reading, got, refused, pick, among}
-use Rattle.zvt_rules.specs.Message.{Header, wholeHeader, Body, bytes, listed, Message, readOf}
+use Rattle.zvt_rules.specs.Message.{Heading, wholeHeader, Body, bytes, listed, Message, readOf}
 use Rattle.zvt_rules.specs.Values.{statusIn, bodyFields}
 use Rattle.zvt_rules.specs.Grammar.{Bytes}
 use Rattle.zvt_rules.specs.declared.Status.{Status}
@@ -27,8 +27,8 @@ use Rattle.desk_rules.specs.Numbers.{amountOk, receiptOk, passwordOk}
 use Rattle.desk_rules.specs.Lanes.{blankLine, waitingLane, runningLane, reportedLane}
 use Rattle.desk_rules.specs.Commands.{saleBytes, refundBytes, reversalBytes, replyBytes}
 
-abbrev pub no : ℕ → Moved
-no number = Refused (record { number = number })
+abbrev pub noMove : ℕ → Moved
+noMove number = Refused (record { number = number })
 
 -- ---- from the terminal
 
@@ -37,12 +37,12 @@ pairIs class instruction c i = eqb class c && eqb instruction i
 
 -- "waiting: 80 00 with empty body makes the lane running; 84 xx with empty body ends it, declined, code xx"; else "15 pair or
 -- non-empty body not allowed in this phase"
-unfoldable pub heardWaiting : Lane → Header → Moved
+unfoldable pub heardWaiting : Lane → Heading → Moved
 heardWaiting l h =
     pick (eqb (h .size) 0)
     (pick (pairIs (h .class) (h .instruction) 0x80 0x00) (Becomes (runningLane l))
-    (pick (eqb (h .class) 0x84) (Ends Declined 0 (h .instruction)) (no 15)))
-    (no 15)
+    (pick (eqb (h .class) 0x84) (Ends Declined 0 (h .instruction)) (noMove 15)))
+    (noMove 15)
 
 -- "settled amount field 04 or, when that field is missing, the amount asked"
 unfoldable pub amountBy : ToldAmount → ℕ → ℕ
@@ -67,9 +67,9 @@ completedBy l (Code c) =
 
 -- "06 1E: ends, declined; the first body byte is the code, the rest is not read; an empty body is refused with 1"
 unfoldable pub abortedBy : Body → Moved
-abortedBy (bytes []) = no 1
+abortedBy (bytes []) = noMove 1
 abortedBy (bytes (b ∷ s)) = Ends Declined 0 b
-abortedBy (listed password fs) = no 1
+abortedBy (listed password fs) = noMove 1
 
 -- "04 0F: with field 27 it replaces the remembered status; without it, no change"
 unfoldable pub reportedBy : Lane → Status → ToldCode → Moved
@@ -86,24 +86,24 @@ movedBy l m =
     Stays))
 
 unfoldable pub afterBody : Lane → Reading Message → Moved
-afterBody l (refused f) = no (f .number)
+afterBody l (refused f) = noMove (f .number)
 afterBody l (got m) = movedBy l m
 
 -- the six pairs that a running lane takes; any other is 15, before the body is read
 abbrev pub runningPairs : List ℕ
 runningPairs = 0x04FF ∷ 0x06D1 ∷ 0x06D3 ∷ 0x040F ∷ 0x061E ∷ 0x060F ∷ []
 
-unfoldable pub heardRunning : Lane → List ℕ → Header → Moved
+unfoldable pub heardRunning : Lane → List ℕ → Heading → Moved
 heardRunning l s h =
-    pick (among runningPairs (h .class * 256 + h .instruction)) (afterBody l (readOf s)) (no 15)
+    pick (among runningPairs (h .class * 256 + h .instruction)) (afterBody l (readOf s)) (noMove 15)
 
-unfoldable pub heardBy : Phase → Lane → List ℕ → Header → Moved
-heardBy Idle l s h = no 14
+unfoldable pub heardBy : Phase → Lane → List ℕ → Heading → Moved
+heardBy Idle l s h = noMove 14
 heardBy Waiting l s h = heardWaiting l h
 heardBy Running l s h = heardRunning l s h
 
-unfoldable pub afterHeader : Lane → List ℕ → Reading Header → Moved
-afterHeader l s (refused f) = no (f .number)
+unfoldable pub afterHeader : Lane → List ℕ → Reading Heading → Moved
+afterHeader l s (refused f) = noMove (f .number)
 afterHeader l s (got h) = heardBy (l .phase) l s h
 
 unfoldable pub isIdle : Phase → Bool
@@ -113,11 +113,11 @@ isIdle Running = false
 
 -- "Terminal message .. 14, header, 15, body"
 unfoldable pub heard : Lane → List ℕ → Moved
-heard l s = pick (isIdle (l .phase)) (no 14) (afterHeader l s (wholeHeader s))
+heard l s = pick (isIdle (l .phase)) (noMove 14) (afterHeader l s (wholeHeader s))
 
 -- "Link lost ends a waiting or running lane, unclear, with no reply."; its code is 0
 unfoldable pub lostBy : Lane → Moved
-lostBy l = pick (isIdle (l .phase)) (no 14) (Ends Unclear 0 0)
+lostBy l = pick (isIdle (l .phase)) (noMove 14) (Ends Unclear 0 0)
 
 -- ---- opening
 
@@ -185,8 +185,8 @@ askReversal password receipt last =
 unfoldable pub openedBy : Lane → Ask → Moved
 openedBy l a =
     pick (isIdle (l .phase))
-    (pick (a .within) (pick (a .sale) (Becomes (waitingLane (a .kind) (a .asked) (a .named))) (no 17)) (no 16))
-    (no 13)
+    (pick (a .within) (pick (a .sale) (Becomes (waitingLane (a .kind) (a .asked) (a .named))) (noMove 17)) (noMove 16))
+    (noMove 13)
 
 -- ---- the calls
 

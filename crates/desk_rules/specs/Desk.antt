@@ -25,12 +25,12 @@ abbrev pub laneAt : List Lane → ℕ → Lane
 laneAt ls i = getD ls i idleLane
 
 -- an idle lane takes no place in the book, an open payment one
-unfoldable pub place : Lane → ℕ
-place l = pick (isIdle (l .phase)) 0 1
+unfoldable pub lanePlace : Lane → ℕ
+lanePlace l = pick (isIdle (l .phase)) 0 1
 
 unfoldable pub places : List Lane → ℕ
 places [] = 0
-places (l ∷ ls) = place l + places ls
+places (l ∷ ls) = lanePlace l + places ls
 
 -- "lines plus open payments"
 unfoldable pub load : State → ℕ

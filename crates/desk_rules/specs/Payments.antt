@@ -56,14 +56,14 @@ paymentsFrom p (c ∷ cs) = paymentsFrom (withCall p c) cs
 unfoldable pub paymentsOf : List Call → Payments
 paymentsOf cs = paymentsFrom (record { ended = []; ongoing = replicate 8 [] }) cs
 
-unfoldable pub joined : List (List Call) → List Call
-joined [] = []
-joined (cs ∷ css) = cs ++ joined css
+unfoldable pub flattened : List (List Call) → List Call
+flattened [] = []
+flattened (cs ∷ css) = cs ++ flattened css
 
 -- The third demand: "each payment's calls in their own order, first the ended payments one after another in the order in which they ended, then the
 -- calls of each payment still open, lane by lane"
 unfoldable pub oneByOne : List Call → List Call
-oneByOne cs = joined (paymentsOf cs .ended) ++ joined (paymentsOf cs .ongoing)
+oneByOne cs = flattened (paymentsOf cs .ended) ++ flattened (paymentsOf cs .ongoing)
 
 -- an opening, and then none
 unfoldable pub Begins : List Call → Type 0
@@ -71,8 +71,8 @@ Begins [] = ⊥
 Begins (o ∷ ds) = (opens o ≡ true) × (openings ds ≡ 0)
 
 -- a payment: calls of one lane, of "Lanes 0 to 7", which begin with its opening
-abbrev pub Whole : List Call → Type 0
-Whole p = (k : ℕ) × (k < 8) × (callsOf k p ≡ p) × Begins p
+abbrev pub WholePayment : List Call → Type 0
+WholePayment p = (k : ℕ) × (k < 8) × (callsOf k p ≡ p) × Begins p
 
 -- ---- one payment, judged from its own messages
 
@@ -145,7 +145,7 @@ linesOf ls (p ∷ ps) = linesOf (ls ++ (lineOf ls p ∷ [])) ps
 
 -- lane k with its lines, as the calls of its open payment say: idle if there are none, "with nothing remembered"; else waiting or
 -- running, with what its opening asked and what is remembered of the calls since
-unfoldable pub Says : ℕ → Own → List Call → Type 0
-Says k w [] = w .lane ≡ idleLane
-Says k w (o ∷ ds) =
+unfoldable pub LaneSays : ℕ → Own → List Call → Type 0
+LaneSays k w [] = w .lane ≡ idleLane
+LaneSays k w (o ∷ ds) =
     (laneOf o ≡ k) × Begins (o ∷ ds) × (isIdle (w .lane .phase) ≡ false) × (runningLane (w .lane) ≡ askedLane (askOf (w .lines) o) (recalled noStatus ds))

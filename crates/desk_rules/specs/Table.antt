@@ -7,7 +7,7 @@ use mathlib.Core.List.{List, [], _∷_, _++_}
 use Prim.Native.Nat.{ℕ, _+_, _*_, _≤_, _<_}
 use Rattle.zvt_rules.specs.declared.Fault.{Fault}
 use Rattle.zvt_rules.specs.Reading.{got, refused}
-use Rattle.zvt_rules.specs.Message.{Header, wholeHeader, bytes, Message, readOf}
+use Rattle.zvt_rules.specs.Message.{Heading, wholeHeader, bytes, Message, readOf}
 use Rattle.desk_rules.specs.declared.Kind.the-variants.{Sale}
 use Rattle.desk_rules.specs.declared.Phase.{Phase}
 use Rattle.desk_rules.specs.declared.Phase.the-variants.{Idle, Waiting, Running}
@@ -73,7 +73,7 @@ pub record Ready (s : State) (c : Call) : Type 0 where
   pub idle : phaseOf s c ≡ Idle
   pub within : Within c
   pub sold : ToReverse s c
-  pub place : load s < 64
+  pub free : load s < 64
 
 -- ---- a terminal message
 
@@ -84,7 +84,7 @@ OneOf (k ∷ ks) x = (k ≡ x) ⊎ OneOf ks x
 
 -- "15 pair or non-empty body not allowed in this phase". "waiting: 80 00 with empty body ..; 84 xx with empty body .." Running: 04 FF,
 -- 06 D1, 06 D3, 04 0F, 06 1E, 06 0F
-abbrev pub Allowed : Phase → Header → Type 0
+abbrev pub Allowed : Phase → Heading → Type 0
 Allowed Idle h = ⊥
 Allowed Waiting h = (h .size ≡ 0) × (((h .class ≡ 0x80) × (h .instruction ≡ 0x00)) ⊎ (h .class ≡ 0x84))
 Allowed Running h = OneOf runningPairs (h .class * 256 + h .instruction)
@@ -95,23 +95,23 @@ EmptyAbort m = ((m .class ≡ 0x06) × (m .instruction ≡ 0x1E)) × (m .body �
 
 -- "header, 15": the bytes have a header, and the phase allows its pair
 abbrev pub GoodHeader : Phase → List ℕ → Type 0
-GoodHeader p b = (h : Header) × (wholeHeader b ≡ got h) × Allowed p h
+GoodHeader p b = (h : Heading) × (wholeHeader b ≡ got h) × Allowed p h
 
 -- "body": the bytes are read, and are no empty 06 1E
 abbrev pub GoodBody : List ℕ → Type 0
 GoodBody b = (m : Message) × (readOf b ≡ got m) × (EmptyAbort m → ⊥)
 
 -- "header": it is refused with that number
-abbrev pub HeaderNo : List ℕ → ℕ → Type 0
-HeaderNo b n = (f : Fault) × (wholeHeader b ≡ refused f) × (f .number ≡ n)
+abbrev pub UnreadHeader : List ℕ → ℕ → Type 0
+UnreadHeader b n = (f : Fault) × (wholeHeader b ≡ refused f) × (f .number ≡ n)
 
 -- "body": it is refused with that number, or "an empty body" of 06 1E "with 1"
-abbrev pub BodyNo : List ℕ → ℕ → Type 0
-BodyNo b n = ((f : Fault) × (readOf b ≡ refused f) × (f .number ≡ n)) ⊎ ((m : Message) × (readOf b ≡ got m) × EmptyAbort m × (1 ≡ n))
+abbrev pub UnreadBody : List ℕ → ℕ → Type 0
+UnreadBody b n = ((f : Fault) × (readOf b ≡ refused f) × (f .number ≡ n)) ⊎ ((m : Message) × (readOf b ≡ got m) × EmptyAbort m × (1 ≡ n))
 
 -- "14, header, 15, body": the header's number on a lane that is not idle, the body's on one that is running
 abbrev pub Unread : State → ℕ → List ℕ → ℕ → Type 0
-Unread s i b n = ((phaseAt s i ≡ Idle → ⊥) × HeaderNo b n) ⊎ ((phaseAt s i ≡ Running) × GoodHeader Running b × BodyNo b n)
+Unread s i b n = ((phaseAt s i ≡ Idle → ⊥) × UnreadHeader b n) ⊎ ((phaseAt s i ≡ Running) × GoodHeader Running b × UnreadBody b n)
 
 -- waiting no room is needed: "Neither gets a reply." "Running, each answered with 80 00 00"
 abbrev pub Heard : State → ℕ → List ℕ → ℕ → Type 0

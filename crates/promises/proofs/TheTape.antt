@@ -11,8 +11,8 @@ use Rattle.zvt_rules.specs.Reading.{Reading, got}
 use Rattle.zvt_rules.specs.Message.{Message, readOf}
 use Rattle.zvt_rules.specs.Grammar.{Bytes}
 use Rattle.zvt_rules.specs.Values.{statusOf}
-use Rattle.zvt.specs.Answers.{readAnswer}
-use Rattle.zvt.specs.List.{fieldAnswer}
+use Rattle.zvt_rules.specs.Answers.{readAnswer}
+use Rattle.zvt_rules.specs.Listed.{fieldAnswer}
 use Rattle.desk_rules.specs.declared.Lane.{Lane}
 use Rattle.desk_rules.specs.declared.Reply.the-variants.{Written, Refused}
 use Rattle.desk_rules.specs.Course.{Call, heard, NumbersFit}
@@ -24,7 +24,7 @@ use Rattle.tape_rules.specs.Block.{blockBytes, writeBlock, readBlock}
 use Rattle.tape_rules.specs.Records.{masked, Alike, recorded, entriesOf, recordsIn}
 use Rattle.tape_rules.specs.Tape.{tapeBytes, payloadOf}
 use Rattle.tape_rules.specs.Recording.{freshTaped, blockAnswer, writtenAnswer, writtenLeaves, writeTape, readTape, callBytes, tapedAnswer, tapedOut, tapedLeaves, closeTaped}
-use Rattle.tape_rules.specs.Taping.{Turn, Day, freshDay, tapedRun, keptCalls}
+use Rattle.tape_rules.specs.Taping.{TapeTurn, Day, freshDay, tapedRun, keptCalls}
 use Rattle.tape_rules.proofs.BlockLaws as block
 use Rattle.tape_rules.proofs.Changed.{changed-byte}
 use Rattle.tape_rules.proofs.Masks.{masked-twice, alike-recorded}
@@ -33,7 +33,7 @@ use Rattle.tape_rules.proofs.Taping.{taped-valid, close-taped-valid}
 use Rattle.promises.specs.Days.{OfBytes}
 use Rattle.promises.specs.TapeRows.{Outside, WriteNo, BlockNo, blocksFor, pieceAt, blockAt, TapeWriteNo, TapeNo}
 use Rattle.promises.specs.TapeDays.{callsPlayed, Hiding, AlikeDays}
-use Rattle.promises.specs.Answers.{number as numbered, Refuses, Takes, Open}
+use Rattle.promises.specs.Answers.{numbered, Refuses, Takes, Open}
 use Rattle.promises.proofs.TapeTable.{within, block-fits, block-got, block-back-and-forth, in-limits, write-no, block-no, tape-fits, tape-got, write-tape-no, tape-piece, tape-bytes, read-tape-no, read-tape-got, written-joins, tape-back-and-forth}
 use Rattle.promises.proofs.TapeAnswers as answers
 use Rattle.promises.proofs.Secrets as secrets
@@ -160,7 +160,7 @@ module _ (t : Taped) (c : Call) (out tape : List ℕ) (k : ℕ) (h : tapedAnswer
   records-behind = answers.taped-records t c out tape k h
 
 -- A day is any list of calls, each with the room lent to it, on a fresh desk and an empty tape.
-module _ (day : List Turn) (tape : List ℕ) (b : OfBytes (callsPlayed day)) where
+module _ (day : List TapeTurn) (tape : List ℕ) (b : OfBytes (callsPlayed day)) where
   abbrev calls : List Call
   calls = keptCalls (freshDay tape) day
 
@@ -190,7 +190,7 @@ module _ (day : List Turn) (tape : List ℕ) (b : OfBytes (callsPlayed day)) whe
 -- ---- "Passwords are recorded as zeros and every value byte of fields 22, 23, 24 and 2D of a list, not of data objects, as EE."
 
 -- No record of a day holds a digit of a password or a value byte of field 22, 23, 24 or 2D of a list.
-pub nothing-secret : (day : List Turn) (tape : List ℕ) (b : OfBytes (callsPlayed day)) → Hiding (recordsIn (payload day tape b))
+pub nothing-secret : (day : List TapeTurn) (tape : List ℕ) (b : OfBytes (callsPlayed day)) → Hiding (recordsIn (payload day tape b))
 nothing-secret day tape b =
     rw (day-reads-back day tape b)
     (secrets.run-hides fresh (calls day tape b) (desk-of-day day tape b .0) (answers.kept-bytes (freshDay tape) day b))
@@ -214,7 +214,7 @@ pub alike-one-record : (s t : List ℕ) (m n : Message) → readOf s ≡ got m �
 alike-one-record = alike-recorded
 
 -- So are whole days: nobody can tell from the tape and the book which password was typed or what stood in these fields.
-pub alike-days-one-tape : (day other : List Turn) (tape : List ℕ) → AlikeDays day other
+pub alike-days-one-tape : (day other : List TapeTurn) (tape : List ℕ) → AlikeDays day other
     → tapedRun (freshDay tape) day ≡ tapedRun (freshDay tape) other
 alike-days-one-tape day other tape a = secrets.alike-days day other (freshDay tape) a
 

@@ -13,18 +13,19 @@ use Rattle.zvt_rules.specs.Reading.{got, part}
 use Rattle.zvt_rules.specs.Fields.{Field, fieldId, listOf}
 use Rattle.zvt_rules.specs.Writing.{fieldBytes}
 use Rattle.zvt_rules.specs.Grammar.{Bytes}
-use Rattle.zvt_rules.proofs.ObjectSteps.{part-length}
+use Rattle.zvt_rules.proofs.ObjectReading.{part-length}
 use Rattle.zvt_rules.proofs.ObjectBytes.{bytes-part}
-use Rattle.zvt_rules.proofs.FieldSteps.{list-none}
+use Rattle.zvt_rules.proofs.FieldReading.{list-none}
 use Rattle.zvt_rules.specs.Values.{fieldValue}
-use Rattle.zvt.specs.declared.Listed.{Listed}
-use Rattle.zvt.specs.declared.FieldAnswer.the-variants.{Field as listed-field, End}
+use Rattle.zvt_rules.specs.declared.Listed.{Listed}
+use Rattle.zvt_rules.specs.declared.FieldAnswer.the-variants.{Field as listed-field, End}
 use Rattle.zvt.specs.declared.objects.Bounds.{Bounds}
 use Rattle.zvt.specs.declared.objects.BoundsRead.the-variants.{Bounds as bounds-read, Refused as bounds-refused}
-use Rattle.zvt.specs.Objects.{asBounds}
-use Rattle.zvt.specs.Fields.{fieldBounds}
-use Rattle.zvt.specs.List.{listedAt, listedFrom, firstListed, nthListed, namedListed, listFields, fieldsBetween, listedIn, ListIn}
-use Rattle.zvt.specs.Writing.{ListReads}
+use Rattle.zvt.specs.ObjectSteps.{asBounds}
+use Rattle.zvt.specs.FieldSteps.{fieldBounds}
+use Rattle.zvt_rules.specs.Listed.{listedAt, listedFrom, nthListed, namedListed}
+use Rattle.zvt.specs.ListSteps.{firstListed, listFields, fieldsBetween, listedIn, ListIn}
+use Rattle.zvt.specs.WritingSteps.{ListReads}
 use Rattle.zvt.proofs.ShortLists.{first-field}
 
 -- ---- a part of a part

@@ -19,14 +19,14 @@ use Rattle.zvt_rules.specs.Shortest.{shortField, shortList}
 use Rattle.zvt_rules.specs.Grammar.{Bytes, ListOk}
 use Rattle.zvt_rules.proofs.Readings.{got-same, got-not-refused, then-got, then-on}
 use Rattle.zvt_rules.proofs.ObjectBytes.{bytes-drop, bytes-part, run-sound}
-use Rattle.zvt_rules.proofs.FieldSteps.{plain-got, container-got, field-got, list-none, list-step}
+use Rattle.zvt_rules.proofs.FieldReading.{plain-got, container-got, field-got, list-none, list-step}
 use Rattle.zvt_rules.proofs.FieldBytes.{FieldSound, field-sound, list-sound, list-complete}
 use Rattle.zvt_rules.specs.Values.{fieldValue}
 use Rattle.zvt.specs.declared.objects.Bounds.{Bounds}
 use Rattle.zvt.specs.declared.objects.BoundsRead.the-variants.{Bounds as bounds-read, Refused as bounds-refused}
-use Rattle.zvt.specs.Objects.{asBounds, boundsIn}
-use Rattle.zvt.specs.Fields.{boundsBy, fieldBounds}
-use Rattle.zvt.specs.Writing.{headBytes, valueBytes, RunReads, shortFieldOf, ListReads, listWritten, shortListOf}
+use Rattle.zvt.specs.ObjectSteps.{asBounds, boundsIn}
+use Rattle.zvt.specs.FieldSteps.{boundsBy, fieldBounds}
+use Rattle.zvt.specs.WritingSteps.{headBytes, valueBytes, RunReads, shortFieldOf, ListReads, listWritten, shortListOf}
 use Rattle.zvt.proofs.ShortRuns.{Alone, run-alone}
 
 -- ---- a list that is read is read alone too: after no ids, after no objects, at no place

@@ -13,13 +13,13 @@ use Rattle.zvt_rules.specs.Writing.{lenBytes, sized, objBytes, runBytes}
 use Rattle.zvt_rules.specs.Shortest.{formFor, shortObj, shortRun}
 use Rattle.zvt_rules.specs.Grammar.{Bytes, ObjOk, RunOk}
 use Rattle.zvt_rules.proofs.Readings.{then-on}
-use Rattle.zvt_rules.proofs.ObjectSteps.{Inside, head-in, one-got, run-none, run-got}
+use Rattle.zvt_rules.proofs.ObjectReading.{Inside, head-in, one-got, run-none, run-got}
 use Rattle.zvt_rules.proofs.ObjectBytes.{bytes-drop, bytes-part, one-sound, run-sound, run-complete}
 use Rattle.zvt_rules.proofs.ObjectShort.{run-shorter}
 use Rattle.zvt.specs.declared.objects.Bounds.{Bounds}
 use Rattle.zvt.specs.declared.objects.BoundsRead.the-variants.{Bounds as bounds-read, Refused as bounds-refused}
-use Rattle.zvt.specs.Objects.{asBounds, boundsOf, headAnswer}
-use Rattle.zvt.specs.Writing.{headBytes, valueBytes, RunReads, runWritten, shortRunOf}
+use Rattle.zvt.specs.ObjectSteps.{asBounds, boundsOf, headAnswer}
+use Rattle.zvt.specs.WritingSteps.{headBytes, valueBytes, RunReads, runWritten, shortRunOf}
 
 -- ---- a run that is read is read alone too: with more levels left, after no objects, at no place
 mutual

@@ -18,8 +18,8 @@ use Rattle.zvt_rules.specs.Writing.{lenBytes, sized, runBytes, digitByte
 use Rattle.zvt_rules.specs.Grammar.{Bytes, RunOk, Decimals, FormOk, SizeOk, FieldOk, ListOk}
 use Rattle.zvt_rules.proofs.Readings.{got-same, got-not-refused, unless-got, unless-on, then-got, then-on}
 use Rattle.zvt_rules.proofs.Tests.{pick-test, allFrom, at-from}
-use Rattle.zvt_rules.proofs.FieldSteps.{digit-in, digits-last, digits-in, plain-got, container-got, field-got, field-in, list-none, list-step}
-use Rattle.zvt_rules.proofs.ObjectSteps.{part-length}
+use Rattle.zvt_rules.proofs.FieldReading.{digit-in, digits-last, digits-in, plain-got, container-got, field-got, field-in, list-none, list-step}
+use Rattle.zvt_rules.proofs.ObjectReading.{part-length}
 use Rattle.zvt_rules.proofs.Lengths.{lenBytes-size, len-sound, len-written}
 use Rattle.zvt_rules.proofs.ObjectBytes.{bytes-drop, bytes-part, run-sound, run-complete}
 

@@ -1,11 +1,11 @@
 -- The laws of the definitions, by subject.
 pub mod Readings
 pub mod Tests
-pub mod ObjectSteps
+pub mod ObjectReading
 pub mod Lengths
 pub mod ObjectShort
 pub mod ObjectBytes
-pub mod FieldSteps
+pub mod FieldReading
 pub mod FieldBytes
 pub mod FieldShort
 pub mod MessageBytes

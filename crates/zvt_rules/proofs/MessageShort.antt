@@ -19,7 +19,7 @@ use Rattle.zvt_rules.specs.Shortest.{shortList, shortBody, shortMessage,
 use Rattle.zvt_rules.specs.Grammar.{Bytes, ListOk, FieldsOk, LayoutOk, LengthOk, MessageOk}
 use Rattle.zvt_rules.proofs.Readings.{got-same, then-got, then-on}
 use Rattle.zvt_rules.proofs.Tests.{by-test}
-use Rattle.zvt_rules.proofs.FieldSteps.{header-most}
+use Rattle.zvt_rules.proofs.FieldReading.{header-most}
 use Rattle.zvt_rules.proofs.FieldShort.{list-shorter, list-short-ok, list-count, list-same, list-short, list-kept, list-strict}
 use Rattle.zvt_rules.proofs.MessageBytes.{message-size, read-sound, read-complete}
 

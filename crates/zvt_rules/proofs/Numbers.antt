@@ -11,7 +11,7 @@ use Rattle.zvt_rules.specs.declared.Format.the-variants.{Unknown, Fixed,
 use Rattle.zvt_rules.specs.declared.Layout.{Layout}
 use Rattle.zvt_rules.specs.declared.Layout.the-variants.{Plain, List as FieldList, Secured}
 use Rattle.zvt_rules.specs.Reading.{Reading, got, refused, pick, unless, andThen}
-use Rattle.zvt_rules.specs.Objects.{longTag, nested, secondTag, tagSize, oneByte, twoBytes, lenOf, Head, headWith, headOf, RunReader, insideOf, oneBy, runBy, runOf}
+use Rattle.zvt_rules.specs.Objects.{longTag, nested, secondTag, tagSize, oneByteLen, twoByteLen, lenOf, Head, headWith, headOf, RunReader, insideOf, oneBy, runBy, runOf}
 use Rattle.zvt_rules.specs.Fields.{digitsOf, unlessUndecimal, holdsDigits, digitsIn, valueOf, plainOf, containerOf, fieldBy, fieldOf, listBy, listOf}
 use Rattle.zvt_rules.specs.Message.{longLength, lengthOf, headerWith, headerOf, securedOf, bodyOf, messageOf, wholeHeader, readOf}
 use Rattle.zvt_rules.proofs.Readings.{got-not-refused}
@@ -48,13 +48,13 @@ unfolding tagSize
 tag-small at [] = no _ refl
 tag-small at (b ∷ s) = small-pick (longTag b) (second-small (at + 1) s) (is 1)
 
-one-small : (at : ℕ) (s : List ℕ) → Small (oneByte at s)
-unfolding oneByte
+one-small : (at : ℕ) (s : List ℕ) → Small (oneByteLen at s)
+unfolding oneByteLen
 one-small at [] = no _ refl
 one-small at (v ∷ s) = is _
 
-two-small : (at : ℕ) (s : List ℕ) → Small (twoBytes at s)
-unfolding twoBytes
+two-small : (at : ℕ) (s : List ℕ) → Small (twoByteLen at s)
+unfolding twoByteLen
 two-small at [] = no _ refl
 two-small at (h ∷ []) = no _ refl
 two-small at (h ∷ (l ∷ s)) = is _

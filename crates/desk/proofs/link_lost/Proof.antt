@@ -1,13 +1,13 @@
 -- `desk::link_lost` meets its contract. Assumes nothing.
 use mathlib.Core.Path.{_≡_, sym, _∙_}
-use Rattle.desk_rules.specs.Desk.{laneAt, place}
+use Rattle.desk_rules.specs.Desk.{laneAt, lanePlace}
 use Rattle.desk.proofs.Opening.{lost-12, lost-14, lost-taken, room-left}
 use borrow.Author.Needs.{needs}
 use Rattle.desk.proofs.link_lost.Statement.{statement}
 use Rattle.desk.proofs.link_lost.Tie as tie
 
 -- past the tests the lane is not idle
-open-lane : (c : tie.Else2) → place (laneAt (c .before .before .before .before .args .t1 .lanes) (c .before .before .before .before .args .lane)) ≡ 0 → ⊥
+open-lane : (c : tie.Else2) → lanePlace (laneAt (c .before .before .before .before .args .t1 .lanes) (c .before .before .before .before .args .lane)) ≡ 0 → ⊥
 open-lane c e = c .if2 .left (c .before .place .ensures ∙ e)
 
 returns : tie.Need-returns

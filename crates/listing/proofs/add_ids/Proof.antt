@@ -5,7 +5,7 @@ use lib.ListN.{length, drop}
 use native.Mathlib.Omega.{arith}
 use borrow.Author.Needs.{needs}
 use Rattle.zvt_rules.specs.Message.{readOf}
-use Rattle.zvt.specs.List.{listedMessage, fieldAnswer}
+use Rattle.zvt_rules.specs.Listed.{listedMessage, fieldAnswer}
 use Rattle.zvt.proofs.Slices.{bytes-known}
 use Rattle.listing.specs.Text.{Text, text, write}
 use Rattle.listing.specs.Lines.{listedText}

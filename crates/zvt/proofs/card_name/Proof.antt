@@ -3,8 +3,9 @@ use mathlib.Core.Path.{_≡_, sym, _∙_}
 use native.Mathlib.Omega.{arith}
 use borrow.Author.Needs.{needs}
 use Rattle.zvt_rules.specs.Grammar.{Bytes}
-use Rattle.zvt.specs.declared.FieldAnswer.the-variants.{Field as listed-field}
-use Rattle.zvt.specs.List.{namedListed, listedIn}
+use Rattle.zvt_rules.specs.declared.FieldAnswer.the-variants.{Field as listed-field}
+use Rattle.zvt_rules.specs.Listed.{namedListed}
+use Rattle.zvt.specs.ListSteps.{listedIn}
 use Rattle.zvt.proofs.Slices.{bytes-known}
 use Rattle.zvt.proofs.PlaceLaws.{StatusIn, status-at, status-nowhere}
 use Rattle.zvt.proofs.ValueLaws.{Here, is-here}

@@ -2,7 +2,8 @@
 use mathlib.Core.Path.{_≡_, sym, ap, _∙_}
 use borrow.Author.Needs.{needs}
 use Rattle.zvt_rules.specs.Message.{readOf}
-use Rattle.zvt.specs.List.{ListIn, listedIn, listedMessage, nthListed, fieldAnswer}
+use Rattle.zvt.specs.ListSteps.{ListIn, listedIn}
+use Rattle.zvt_rules.specs.Listed.{listedMessage, nthListed, fieldAnswer}
 use Rattle.zvt.proofs.Slices.{bytes-known}
 use Rattle.zvt.proofs.PlaceLaws.{list-at, list-nowhere}
 use Rattle.zvt.proofs.field_at.Statement.{statement}

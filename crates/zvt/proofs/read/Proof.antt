@@ -1,7 +1,7 @@
 -- `zvt::read` meets its contract. Assumes nothing.
 use mathlib.Core.Path.{sym, ap, _∙_}
 use borrow.Author.Needs.{needs}
-use Rattle.zvt.specs.declared.ReadAnswer.the-variants.{Accepted}
+use Rattle.zvt_rules.specs.declared.ReadAnswer.the-variants.{Accepted}
 use Rattle.zvt.proofs.HeaderLaws.{whole-within}
 use Rattle.zvt.proofs.Slices.{bytes-known}
 use Rattle.zvt.proofs.MessageLaws.{read-no-header, read-no-body, read-accepted}
@@ -26,7 +26,7 @@ returns-3 c =
     let body = c .before .before .before .before in
     let header = body .before .before .before .before in
     let start = header .before in
-    ap Accepted (c .message-of .ensures)
+    ap Accepted (c .outline-of .ensures)
     ∙ sym (read-accepted _ _ (sym (header .whole-header .ensures) ∙ body .before .before .h .given .1)
     (bytes-known (start .before .args .s .now) (start .shared-slice-known .given)) _
     (sym (body .body-in .ensures) ∙ c .before .before .t .given .1))

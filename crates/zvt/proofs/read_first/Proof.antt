@@ -33,7 +33,7 @@ returns-3 c =
     let body = c .before .before .before .before .before in
     let header = body .before .before .before .before in
     let start = header .before in
-    rw (c .message-of .ensures)
+    rw (c .outline-of .ensures)
     (sym (first-taken _ _ (sym (header .header-of .ensures) ∙ body .before .before .h .given .1)
     (bytes-known (start .before .args .s .now) (start .shared-slice-known .given)) _
     (sym (body .body-in .ensures) ∙ c .before .before .before .t .given .1)))

@@ -5,10 +5,10 @@ use mathlib.Core.List.{List}
 use Prim.Native.Nat.{ℕ}
 use native.Mathlib.Omega.{arith}
 use borrow.Author.Needs.{needs}
-use Rattle.zvt.specs.declared.Header.{Header}
+use Rattle.zvt_rules.specs.declared.Header.{Header}
 use Rattle.zvt.specs.declared.objects.Tally.{Tally}
 use Rattle.zvt.specs.declared.headers.HeaderRead.the-variants.{Header as header-read}
-use Rattle.zvt.specs.Header.{wholeAnswer}
+use Rattle.zvt.specs.HeaderSteps.{wholeAnswer}
 use Rattle.zvt.proofs.HeaderLaws.{whole-within}
 use Rattle.zvt.proofs.Slices.{bytes-known}
 use Rattle.zvt.proofs.ShortMessages.{no-header, no-body, Short, short-found, no-room, lent-out, message-room, written-out}

@@ -3,7 +3,7 @@ use mathlib.Core.Path.{_≡_, sym, _∙_}
 use Prim.Native.Nat.{_<_}
 use native.Mathlib.Omega.{arith}
 use borrow.Author.Tests.{not-true, not-false}
-use Rattle.desk_rules.specs.Desk.{laneAt, place}
+use Rattle.desk_rules.specs.Desk.{laneAt, lanePlace}
 use Rattle.desk.proofs.Opening.{on-12, on-13, on-16, on-17, on-18, on-11, on-0}
 use borrow.Author.Needs.{needs}
 use Rattle.desk.proofs.memory.opening.Statement.{statement}
@@ -16,7 +16,7 @@ begun c = c .before .before .before .before
 low : (c : tie.Else2) → begun c .args .lane < 8
 low c = c .before .before .before .if1 .left
 
-idle : (c : tie.Else2) → place (laneAt (begun c .args .t1 .lanes) (begun c .args .lane)) ≡ 0
+idle : (c : tie.Else2) → lanePlace (laneAt (begun c .args .t1 .lanes) (begun c .args .lane)) ≡ 0
 idle c = sym (c .before .place .ensures) ∙ c .if2 .left
 
 returns : tie.Need-returns

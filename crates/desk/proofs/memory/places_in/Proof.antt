@@ -5,7 +5,7 @@ use Prim.Native.Nat.{_≤_, _-_}
 use native.Mathlib.Omega.{arith}
 use lib.ListN.{take}
 use lib.Seq.{take-all}
-use Rattle.desk_rules.specs.Desk.{laneAt, place, places}
+use Rattle.desk_rules.specs.Desk.{laneAt, lanePlace, places}
 use Rattle.desk_rules.proofs.Memory.{place-most}
 use Rattle.desk_rules.proofs.Sums.{places-take, places-most}
 use Rattle.desk.proofs.memory.places_in.Statement.{statement}
@@ -26,14 +26,14 @@ add-n : tie.Need-add-n Inv-loop μ-loop
 add-n c =
     let d = c .before .before .before .before .args .t1 in
     let i = c .before .before .before .loop .i in
-    let e : c .place .result ≡ place (laneAt (d .lanes) i) = c .place .ensures in
+    let e : c .place .result ≡ lanePlace (laneAt (d .lanes) i) = c .place .ensures in
     omega (arith, place-most (laneAt (d .lanes) i), places-most i (d .lanes))
 
 loop-again : tie.Need-loop-again Inv-loop μ-loop
 loop-again c =
     let d = c .before .before .before .before .args .t1 in
     let i = c .before .before .before .loop .i in
-    let e : c .place .result ≡ place (laneAt (d .lanes) i) = c .place .ensures in
+    let e : c .place .result ≡ lanePlace (laneAt (d .lanes) i) = c .place .ensures in
     omega (arith, places-take (d .lanes) i (omega arith))
 
 returns : tie.Need-returns Inv-loop μ-loop

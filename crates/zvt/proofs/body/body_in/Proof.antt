@@ -1,6 +1,6 @@
 -- `zvt::body::body_in` meets its contract. Assumes nothing.
 use borrow.Author.Needs.{needs}
-use Rattle.zvt.specs.Body.{bodyIn}
+use Rattle.zvt.specs.BodySteps.{bodyIn}
 use Rattle.zvt.proofs.body.body_in.Statement.{statement}
 use Rattle.zvt.proofs.body.body_in.Tie as tie
 

@@ -4,13 +4,13 @@ use mathlib.Core.Path.{_≡_, refl, sym, _∙_}
 use Prim.Native.Nat.{_-_, _≤_}
 use native.Mathlib.Omega.{arith}
 use lib.ListN.{length, drop, getD}
-use Rattle.zvt_rules.specs.Digits.{numberFrom, numberOf}
+use Rattle.zvt_rules.specs.Digits.{decimalFrom, numberOf}
 use Rattle.zvt_rules.proofs.DigitLaws.{number-step, number-end, Small, small-step, small-six}
 use Rattle.zvt.proofs.digits.number.Statement.{statement}
 use Rattle.zvt.proofs.digits.number.Tie as tie
 
 abbrev Inv-loop : tie.InvT-loop
-Inv-loop s v₀ i₀ v i = (i ≤ length s) × (numberFrom v (drop i s) ≡ numberOf s) × Small i v
+Inv-loop s v₀ i₀ v i = (i ≤ length s) × (decimalFrom v (drop i s) ≡ numberOf s) × Small i v
 
 abbrev μ-loop : tie.MeasureT-loop
 μ-loop s v₀ i₀ v i = length s - i

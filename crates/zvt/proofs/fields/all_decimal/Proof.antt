@@ -11,8 +11,8 @@ use lib.Bits.{bitAnd}
 use borrow.Author.Tests.{ltb-true, ltb-false}
 use Rattle.zvt_rules.specs.Reading.{got}
 use Rattle.zvt_rules.specs.Fields.{decimal, unlessUndecimal}
-use Rattle.zvt_rules.proofs.FieldSteps.{undecimal-end, undecimal-on, undecimal-stop}
-use Rattle.zvt.specs.Fields.{asDecimals, decimalsAnswer}
+use Rattle.zvt_rules.proofs.FieldReading.{undecimal-end, undecimal-on, undecimal-stop}
+use Rattle.zvt.specs.FieldSteps.{asDecimals, decimalsAnswer}
 use Rattle.zvt.proofs.Masks.{undecimal-high, undecimal-low, both-decimal}
 use Rattle.zvt.proofs.fields.all_decimal.Statement.{statement}
 use Rattle.zvt.proofs.fields.all_decimal.Tie as tie

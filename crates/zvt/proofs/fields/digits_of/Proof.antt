@@ -10,8 +10,8 @@ use native.Mathlib.Omega.{arith}
 use lib.ListN.{getD, drop}
 use borrow.Author.Tests.{le-leb, lt-leb, ltb-true, ltb-false}
 use Rattle.zvt_rules.specs.Fields.{lengthDigit, digitsOf}
-use Rattle.zvt_rules.proofs.FieldSteps.{digits-end, digits-cut, digits-on, digits-stop}
-use Rattle.zvt.specs.Fields.{asDigits, digitsAnswer}
+use Rattle.zvt_rules.proofs.FieldReading.{digits-end, digits-cut, digits-on, digits-stop}
+use Rattle.zvt.specs.FieldSteps.{asDigits, digitsAnswer}
 use Rattle.zvt.proofs.fields.digits_of.Statement.{statement}
 use Rattle.zvt.proofs.fields.digits_of.Tie as tie
 

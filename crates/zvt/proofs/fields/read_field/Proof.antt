@@ -15,7 +15,7 @@ use Rattle.zvt_rules.proofs.Format.{the-type}
 use Rattle.zvt.specs.declared.objects.Bounds.{Bounds}
 use Rattle.zvt.specs.declared.objects.BoundsRead.the-variants.{Bounds as bounds-read}
 use Rattle.zvt.specs.declared.objects.PartRead.the-variants.{Part}
-use Rattle.zvt.specs.Fields.{fieldBounds}
+use Rattle.zvt.specs.FieldSteps.{fieldBounds}
 use Rattle.zvt.proofs.Slices.{bytes-known}
 use Rattle.zvt.proofs.Tables.{allIn, at-key}
 use Rattle.zvt.proofs.FieldReads.{Answered, field-unknown, field-twice, field-no-bounds, field-value, field-plain}

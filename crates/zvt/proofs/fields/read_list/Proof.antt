@@ -6,7 +6,7 @@ use Prim.Native.Nat.{ℕ, _-_, _<_, _≤_}
 use native.Mathlib.Omega.{arith}
 use lib.ListN.{length, getD}
 use borrow.Author.Needs.{needs}
-use Rattle.zvt.specs.Fields.{listAnswer}
+use Rattle.zvt.specs.FieldSteps.{listAnswer}
 use Rattle.zvt.proofs.Slices.{bytes-known}
 use Rattle.zvt.proofs.ListLaws.{Marks, marks-none, marks-more, listFrom, GoesOn, list-begins, list-ends, list-stops, list-goes-on}
 use Rattle.zvt.proofs.fields.read_list.Statement.{statement}

@@ -4,9 +4,9 @@ use Prim.Native.Nat.{_+_, _<_, _≤_}
 use native.Mathlib.Omega.{arith}
 use lib.ListN.{getD}
 use borrow.Author.Needs.{needs}
-use Rattle.zvt_rules.proofs.ObjectSteps.{part-length}
-use Rattle.zvt.specs.declared.FieldAnswer.the-variants.{Field}
-use Rattle.zvt.specs.List.{firstListed, listedIn}
+use Rattle.zvt_rules.proofs.ObjectReading.{part-length}
+use Rattle.zvt_rules.specs.declared.FieldAnswer.the-variants.{Field}
+use Rattle.zvt.specs.ListSteps.{firstListed, listedIn}
 use Rattle.zvt.proofs.Slices.{bytes-known}
 use Rattle.zvt.proofs.ListedLaws.{part-first, list-empty, first-is, first-never}
 use Rattle.zvt.proofs.list.field_from.Statement.{statement}

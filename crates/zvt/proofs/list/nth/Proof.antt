@@ -4,7 +4,8 @@ use mathlib.Core.Path.{_≡_, refl, sym, ap, _∙_}
 use Prim.Native.Nat.{_-_}
 use native.Mathlib.Omega.{arith}
 use borrow.Author.Needs.{needs}
-use Rattle.zvt.specs.List.{ListIn, nthListed, listedIn}
+use Rattle.zvt.specs.ListSteps.{ListIn, listedIn}
+use Rattle.zvt_rules.specs.Listed.{nthListed}
 use Rattle.zvt.proofs.Slices.{bytes-known}
 use Rattle.zvt.proofs.ListedLaws.{Next, next-in, nth-end, nth-here, nth-next}
 use Rattle.zvt.proofs.list.nth.Statement.{statement}

@@ -4,7 +4,7 @@ use mathlib.Core.Path.{_≡_}
 use Prim.Native.Nat.{_+_, _-_, _≤_}
 use native.Mathlib.Omega.{arith}
 use lib.ListN.{length, drop}
-use Rattle.zvt.specs.Name.{upToZero}
+use Rattle.zvt_rules.specs.Name.{upToZero}
 use Rattle.zvt.proofs.NameLaws.{name-stops, name-goes, name-ends}
 use Rattle.zvt.proofs.name.name_size.Statement.{statement}
 use Rattle.zvt.proofs.name.name_size.Tie as tie

@@ -4,7 +4,7 @@ use mathlib.Core.List.{List}
 use Prim.Native.Nat.{ℕ}
 use native.Mathlib.Omega.{arith}
 use lib.ListN.{getD}
-use Rattle.zvt.specs.Objects.{tagAnswer}
+use Rattle.zvt.specs.ObjectSteps.{tagAnswer}
 use Rattle.zvt.specs.declared.objects.TagRead.the-variants.{Size}
 use Rattle.zvt.proofs.Masks.{run-bit, no-run-bit}
 use Rattle.zvt.proofs.ObjectLaws.{tag-within, Started, head-no-tag, head-no-length, head-starts}

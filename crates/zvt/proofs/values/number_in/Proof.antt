@@ -3,7 +3,7 @@ use mathlib.Core.Path.{sym, ap, _∙_}
 use native.Mathlib.Omega.{arith}
 use borrow.Author.Needs.{needs}
 use Rattle.zvt.specs.declared.values.NumberFound.the-variants.{Number}
-use Rattle.zvt.specs.Numbers.{numberFound}
+use Rattle.zvt.specs.NumberSteps.{numberFound}
 use Rattle.zvt.proofs.Slices.{bytes-known}
 use Rattle.zvt.proofs.ValueLaws.{Here, fixed-plain, fixed-size, not-here, is-here}
 use Rattle.zvt.proofs.values.number_in.Statement.{statement}

@@ -9,9 +9,9 @@ use lib.Seq.{length-take-le}
 use borrow.Author.Needs.{needs}
 use borrow.Fn.Kinds.{In}
 use borrow.Fn.PlainCycle.{Measures, is, falls, and}
-use Rattle.zvt_rules.proofs.ObjectSteps.{tail, part-length}
+use Rattle.zvt_rules.proofs.ObjectReading.{tail, part-length}
 use Rattle.zvt.specs.declared.objects.Bounds.{Bounds}
-use Rattle.zvt.specs.Writing.{Put, headBytes, valueBytes, shortRunOf}
+use Rattle.zvt.specs.WritingSteps.{Put, headBytes, valueBytes, shortRunOf}
 use Rattle.zvt.proofs.Slices.{bytes-known}
 use Rattle.zvt.proofs.Back.{put-none, put-as, lend, lent-all, says, head-room, then-head}
 use Rattle.zvt.proofs.Back.{rest-fits, first-lend, first-lent, first-room, first-put}

@@ -8,9 +8,9 @@ use lib.ListN.{length}
 use borrow.Author.Needs.{needs}
 use borrow.Fn.Kinds.{In}
 use borrow.Fn.PlainCycle.{Measures, is, falls, and}
-use Rattle.zvt_rules.proofs.ObjectSteps.{tail}
+use Rattle.zvt_rules.proofs.ObjectReading.{tail}
 use Rattle.zvt.specs.declared.objects.Bounds.{Bounds}
-use Rattle.zvt.specs.Writing.{shortFieldOf, shortListOf}
+use Rattle.zvt.specs.WritingSteps.{shortFieldOf, shortListOf}
 use Rattle.zvt.proofs.Slices.{bytes-known}
 use Rattle.zvt.proofs.Back.{put-none, put-as, rest-fits, first-lend, first-lent, first-room, first-put}
 use Rattle.zvt.proofs.ShortLists.{list-short-none, FieldToPut, field-is, field-never}

@@ -2,7 +2,7 @@
 use native.Mathlib.Omega.{arith}
 use borrow.Author.Tests.{lt-leb, le-leb}
 use Rattle.zvt_rules.specs.Writing.{lengthBytes}
-use Rattle.zvt.specs.Writing.{headerBytes}
+use Rattle.zvt.specs.WritingSteps.{headerBytes}
 use borrow.Author.Needs.{needs}
 use Rattle.zvt.proofs.writing.message_size.Statement.{statement}
 use Rattle.zvt.proofs.writing.message_size.Tie as tie

@@ -6,8 +6,8 @@ use native.Mathlib.Omega.{arith}
 use lib.ListN.{length, take, drop}
 use lib.Seq.{length-take-le}
 use borrow.Author.Needs.{needs}
-use Rattle.zvt_rules.proofs.ObjectSteps.{tail}
-use Rattle.zvt.specs.Writing.{ListReads, shortListOf, shortBodyOf}
+use Rattle.zvt_rules.proofs.ObjectReading.{tail}
+use Rattle.zvt.specs.WritingSteps.{ListReads, shortListOf, shortBodyOf}
 use Rattle.zvt.proofs.Slices.{bytes-known}
 use Rattle.zvt.proofs.Back.{fits-as, put-as, rest-fits, first-lent, first-room, first-put}
 use Rattle.zvt.proofs.ShortBodies.{plain-short, list-short, secured-short}

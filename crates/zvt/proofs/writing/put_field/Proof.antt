@@ -7,9 +7,9 @@ use native.Mathlib.Omega.{arith}
 use lib.ListN.{take}
 use lib.Seq.{length-take-le}
 use Rattle.zvt_rules.specs.Reading.{part}
-use Rattle.zvt_rules.proofs.ObjectSteps.{part-length}
+use Rattle.zvt_rules.proofs.ObjectReading.{part-length}
 use Rattle.zvt.specs.declared.objects.Bounds.{Bounds}
-use Rattle.zvt.specs.Writing.{valueBytes, shortRunOf, shortFieldOf}
+use Rattle.zvt.specs.WritingSteps.{valueBytes, shortRunOf, shortFieldOf}
 use Rattle.zvt.proofs.Back.{fits-as, put-as}
 use borrow.Author.Needs.{needs}
 use Rattle.zvt.proofs.writing.put_field.Statement.{statement}

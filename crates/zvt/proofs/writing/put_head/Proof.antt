@@ -3,7 +3,7 @@ use native.Mathlib.Omega.{arith}
 use lib.ListN.{length-append}
 use Rattle.zvt_rules.specs.Writing.{lenBytes}
 use Rattle.zvt_rules.specs.Shortest.{formFor}
-use Rattle.zvt.specs.Writing.{headBytes}
+use Rattle.zvt.specs.WritingSteps.{headBytes}
 use Rattle.zvt.proofs.Back.{lent-all, room, then-put}
 use borrow.Author.Needs.{needs}
 use Rattle.zvt.proofs.writing.put_head.Statement.{statement}

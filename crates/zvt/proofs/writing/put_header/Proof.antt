@@ -6,7 +6,7 @@ use native.Mathlib.Nat.{mod-eq-of-lt}
 use native.Mathlib.Omega.{arith}
 use borrow.Author.Tests.{lt-leb, le-leb}
 use Rattle.zvt_rules.specs.Writing.{lengthBytes}
-use Rattle.zvt.specs.Writing.{headerBytes}
+use Rattle.zvt.specs.WritingSteps.{headerBytes}
 use Rattle.zvt.proofs.Back.{fits-as, put-as}
 use borrow.Author.Needs.{needs}
 use Rattle.zvt.proofs.writing.put_header.Statement.{statement}

@@ -1,7 +1,7 @@
 -- `put_leaf` meets its contract: the value, and its head before it. Assumes nothing.
 use native.Mathlib.Omega.{arith}
 use lib.ListN.{length, length-append}
-use Rattle.zvt.specs.Writing.{headBytes, valueBytes}
+use Rattle.zvt.specs.WritingSteps.{headBytes, valueBytes}
 use Rattle.zvt.proofs.Back.{lent-all, room, then-put}
 use borrow.Author.Needs.{needs}
 use Rattle.zvt.proofs.writing.put_leaf.Statement.{statement}

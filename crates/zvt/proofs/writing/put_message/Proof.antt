@@ -6,9 +6,9 @@ use native.Mathlib.Omega.{arith}
 use lib.ListN.{length, length-append}
 use borrow.Author.Needs.{needs}
 use Rattle.zvt_rules.specs.declared.Layout.{Layout}
-use Rattle.zvt_rules.proofs.ObjectSteps.{part-length}
+use Rattle.zvt_rules.proofs.ObjectReading.{part-length}
 use Rattle.zvt_rules.proofs.ObjectBytes.{bytes-part}
-use Rattle.zvt.specs.Writing.{Put, shortBodyOf, headerBytes, headerLayout, bodyPart, shortMessageOf}
+use Rattle.zvt.specs.WritingSteps.{Put, shortBodyOf, headerBytes, headerLayout, bodyPart, shortMessageOf}
 use Rattle.zvt.proofs.Slices.{bytes-known}
 use Rattle.zvt.proofs.Back.{put-as, lent-all, says, head-room, then-head}
 use Rattle.zvt.proofs.ShortBodies.{body-fits}

@@ -15,7 +15,7 @@ use Rattle.zvt_rules.specs.declared.Format.the-variants.{Unknown, Fixed,
 use Rattle.zvt_rules.specs.Reading.{Reading, got, refused, no, unless, andThen, part, among}
 use Rattle.zvt_rules.specs.Objects.{formSize, Len, lenOf, RunRead, runOf}
 use Rattle.zvt_rules.specs.Fields.{formatOf, unknown, lengthDigit, digitsOf, decimal, unlessUndecimal, digitsIn, holdsDigits, plain, container, FieldRead, valueOf, plainOf, containerOf, fieldBy, fieldOf, listBy, listOf}
-use Rattle.zvt_rules.specs.Message.{BodyLength, lengthOf, Header, headerSize, end, headerWith, headerOf}
+use Rattle.zvt_rules.specs.Message.{BodyLength, lengthOf, Heading, headerSize, end, headerWith, headerOf}
 use Rattle.zvt_rules.specs.Grammar.{Decimals}
 use Rattle.zvt_rules.proofs.Readings.{got-same, got-not-refused, unless-got, unless-on, then-got, then-alike}
 use Rattle.zvt_rules.proofs.Tests.{pick-test, leb-test, and-test}
@@ -204,7 +204,7 @@ list-step seen n at (b ∷ s) h =
 pub header-most : (long : Bool) → headerSize long ≤ 5
 header-most long = pick-test (λ n. n ≤ 5) long (λ _. omega arith) (λ _. omega arith)
 
-pub with-in : (c i : ℕ) (s : List ℕ) (l : BodyLength) (h : Header) → headerWith c i s l ≡ got h
+pub with-in : (c i : ℕ) (s : List ℕ) (l : BodyLength) (h : Heading) → headerWith c i s l ≡ got h
     → (l .value ≤ 4096) × (headerSize (l .long) + l .value ≤ length s) × (h ≡ record { class = c; instruction = i; long = l .long; size = l .value })
 unfolding headerWith
 with-in c i s l h e =
@@ -212,7 +212,7 @@ with-in c i s l h e =
     let j = unless-got (ltb (length s) (headerSize (l .long) + l .value)) _ _ h (k .1) in
     (ltb-false 4096 (l .value) (k .0), ltb-false (length s) (headerSize (l .long) + l .value) (j .0), sym (got-same (j .1)))
 
-pub header-in : (s : List ℕ) (h : Header) → headerOf s ≡ got h → (h .size ≤ 4096) × (end h ≤ length s)
+pub header-in : (s : List ℕ) (h : Heading) → headerOf s ≡ got h → (h .size ≤ 4096) × (end h ≤ length s)
 unfolding headerOf
 header-in [] h e = absurd (got-not-refused (sym e))
 header-in (c ∷ []) h e = absurd (got-not-refused (sym e))
