@@ -1,4 +1,4 @@
--- `desk::memory::last_line` meets its contract. The invariant: last is the last of the first i lines that concern the receipt;
+-- `desk::memory::last_line` meets its contract. The invariant: last is the last of the first i lines that concerns lane and receipt, or a blank one;
 -- the measure is the number of lines left. Assumes nothing.
 use mathlib.Core.Path.{_≡_, sym, _∙_}
 use mathlib.Core.Logic.{⊎-elim}
