@@ -1,5 +1,6 @@
 -- Steps of the code, private: the fields between two places of a message, and the list of a status information. Definitions only.
-use Prim.Native.Nat.{ℕ, _+_, _≤_}
+use mathlib.Core.Path.{_≡_}
+use Prim.Native.Nat.{ℕ, _+_, _<_, _≤_}
 use mathlib.Core.List.{List, [], _∷_}
 use lib.ListN.{length}
 use Rattle.zvt_rules.specs.declared.Listed.{Listed}
@@ -13,11 +14,6 @@ use Rattle.zvt_rules.specs.Message.{Message, readOf}
 use Rattle.zvt_rules.specs.Values.{isStatus}
 use Rattle.zvt_rules.specs.Listed.{listedFrom, messagePlace}
 use Rattle.zvt.specs.WritingSteps.{ListReads}
-
--- the first of a list
-unfoldable pub firstListed : List Listed → FieldAnswer
-firstListed [] = End
-firstListed (l ∷ ls) = listed-field l
 
 -- the list between two places of s
 unfoldable pub listFields : Reading ListRead → List Field
@@ -35,6 +31,16 @@ pub record ListIn (a e : ℕ) (s : List ℕ) : Type 0 where
   pub inside : e ≤ length s
   pub short : e ≤ a + 4096
   pub reads : ListReads (part a e s)
+
+-- what stands at a place of such a list: a field, and the list goes on behind it, or nothing
+pub record Here (at e : ℕ) (s : List ℕ) (l : Listed) : Type 0 where
+  pub some : at < l .to
+  pub rest : ListIn (l .to) e s
+  pub all : listedIn at e s ≡ l ∷ listedIn (l .to) e s
+
+pub data StandsAt (at e : ℕ) (s : List ℕ) : FieldAnswer → Type 0 where
+  field : {l : Listed} → Here at e s l → StandsAt at e s (listed-field l)
+  none : listedIn at e s ≡ [] → StandsAt at e s End
 
 -- where the list of a status information lies
 unfoldable pub placeOfStatus : Reading Message → ListPlace

@@ -7,7 +7,7 @@ use zvt_rules::ListPlace;
 use zvt_rules::Listed;
 use zvt_rules::ReadAnswer;
 ghost use mathlib.Core.Path.{_≡_};
-ghost use Rattle.zvt.specs.ListSteps.{ListIn, statusPlace, firstListed, listedIn};
+ghost use Rattle.zvt.specs.ListSteps.{ListIn, StandsAt, statusPlace, listedIn};
 ghost use Rattle.zvt_rules.specs.Listed.{nthListed, namedListed};
 
 // Where the list of a status information lies.
@@ -31,7 +31,7 @@ pub(crate) fn status_place(s: &[u8]) -> ListPlace
 // The field at place at of a list that goes up to end.
 pub(crate) fn field_from(s: &[u8], at: usize, end: usize) -> FieldAnswer
     requires { ⌜ ListIn at end (now s) ⌝ }
-    ensures { λ r. ⌜ r ≡ firstListed (listedIn at end (now (s .entry))) ⌝ }
+    ensures { λ r. ⌜ StandsAt at end (now (s .entry)) r ⌝ }
 {
     if at == end {
         return FieldAnswer::End;

@@ -1,12 +1,11 @@
 -- `zvt::list::field_from` meets its contract: the list is read, so that its first field has bounds. Assumes nothing.
-use mathlib.Core.Path.{_≡_, sym, ap, _∙_}
+use mathlib.Core.Path.{sym, _∙_}
 use Prim.Native.Nat.{_+_, _<_, _≤_}
 use native.Mathlib.Omega.{arith}
 use lib.ListN.{getD}
 use borrow.Author.Needs.{needs}
 use Rattle.zvt_rules.proofs.ObjectReading.{part-length}
-use Rattle.zvt_rules.specs.declared.FieldAnswer.the-variants.{Field}
-use Rattle.zvt.specs.ListSteps.{firstListed, listedIn}
+use Rattle.zvt.specs.ListSteps.{Here, field, none}
 use Rattle.zvt.proofs.Slices.{bytes-known}
 use Rattle.zvt.proofs.ListedLaws.{part-first, list-empty, first-is, first-never}
 use Rattle.zvt.proofs.list.field_from.Statement.{statement}
@@ -20,14 +19,10 @@ found : (c : tie.After-b)
     → let a = asked c .before .before .before .before .before .before .args in
     let x = c .b .given .0 .0 in
     (x .from ≤ x .to) × (a .at + x .to ≤ a .end)
-    × (Field (record { id = getD (a .s .now) (a .at) 0; from = a .at + x .from; to = a .at + x .to }) ≡ firstListed (listedIn (a .at) (a .end) (a .s .now)))
+    × Here (a .at) (a .end) (a .s .now) (record { id = getD (a .s .now) (a .at) 0; from = a .at + x .from; to = a .at + x .to })
 found c =
     let g = asked c .before .before .before .before in
     first-is _ _ _ (bytes-known _ (g .before .shared-slice-known .given)) (g .before .before .pre) (g .if1 .left) _ (sym (asked c .field-bounds .ensures) ∙ c .b .given .1)
-
-returns : tie.Need-returns
-unfolding firstListed
-returns c = sym (ap firstListed (list-empty _ _ _ (c .if1 .taken)))
 
 field-bounds-requires : tie.Need-field-bounds-requires
 field-bounds-requires c κs =
@@ -54,6 +49,6 @@ returns-2 c =
 pub field-from-spec : {M : Type 1} → statement M
 field-from-spec =
     tie.close
-    (tie.spec returns (λ c. search needs) (λ c. search needs) (λ c. search needs) (λ c. search needs)
+    (tie.spec (λ c. none (list-empty _ _ _ (c .if1 .taken))) (λ c. search needs) (λ c. search needs) (λ c. search needs) (λ c. search needs)
     (λ c κs. search needs) field-bounds-requires (λ c. search needs) (λ c. search needs) add-from add-to returns-2
-    (λ c. found (c .before .before .before) .2))
+    (λ c. field (found (c .before .before .before) .2)))

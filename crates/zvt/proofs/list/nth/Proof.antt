@@ -1,13 +1,12 @@
 -- `zvt::list::nth` meets its contract. The invariant: from `at` on stands a list, whose field number `left` is the one asked
 -- for; the measure is what is left of the list. Assumes nothing.
-use mathlib.Core.Path.{_≡_, refl, sym, ap, _∙_}
+use mathlib.Core.Path.{_≡_, refl, _∙_}
 use Prim.Native.Nat.{_-_}
 use native.Mathlib.Omega.{arith}
 use borrow.Author.Needs.{needs}
-use Rattle.zvt.specs.ListSteps.{ListIn, listedIn}
+use Rattle.zvt.specs.ListSteps.{Here, ListIn, listedIn}
 use Rattle.zvt_rules.specs.Listed.{nthListed}
-use Rattle.zvt.proofs.Slices.{bytes-known}
-use Rattle.zvt.proofs.ListedLaws.{Next, next-in, nth-end, nth-here, nth-next}
+use Rattle.zvt.proofs.ListedLaws.{field-here, none-here, nth-end, nth-here, nth-next}
 use Rattle.zvt.proofs.list.nth.Statement.{statement}
 use Rattle.zvt.proofs.list.nth.Tie as tie
 
@@ -18,35 +17,21 @@ abbrev μ-loop : tie.MeasureT-loop
 μ-loop s from end k at₀ left₀ at left = end - at
 
 -- where the field that was found, and the list behind it, lie
-next : (c : tie.After-f Inv-loop μ-loop)
-    → let l = c .before .before .before in let a = l .before .before .args in Next (l .loop .at) (a .end) (a .s .now) (c .f .given .0 .0)
-next c =
-    let l = c .before .before .before in
-    next-in _ _ _ _ (bytes-known _ (l .before .shared-slice-known .given)) (l .loop .inv .0) (sym (c .before .before .field-from .ensures) ∙ c .f .given .1)
+here : (c : tie.After-f Inv-loop μ-loop)
+    → let l = c .before .before .before in let a = l .before .before .args in Here (l .loop .at) (a .end) (a .s .now) (c .f .given .0 .0)
+here c = field-here (c .before .before .field-from .ensures) (c .f .given .1)
 
 returns : tie.Need-returns Inv-loop μ-loop
-returns c =
-    let g = c .before .before in
-    let l = g .before .loop in
-    sym (nth-end (l .left) _ (sym (g .field-from .ensures) ∙ c .enum-told .given .1)) ∙ l .inv .1
+returns c = let g = c .before .before in nth-end _ (none-here (g .field-from .ensures) (c .enum-told .given .1)) ∙ g .before .loop .inv .1
 
 returns-2 : tie.Need-returns-2 Inv-loop μ-loop
-returns-2 c =
-    let f = c .before .before in
-    let g = f .before .before .before in
-    sym (nth-here _ _ _ (c .if1 .taken)) ∙ ap (nthListed _) (sym (next f .2)) ∙ g .loop .inv .1
+returns-2 c = let f = c .before .before in nth-here (here f) _ (c .if1 .taken) ∙ f .before .before .before .loop .inv .1
 
 loop-less : tie.Need-loop-less Inv-loop μ-loop
-loop-less c =
-    let f = c .before .before in
-    let g = f .before .before .before in
-    omega (arith, next f .0, next f .1 .order)
+loop-less c = let h = here (c .before .before) in omega (arith, h .rest .order)
 
 loop-again : tie.Need-loop-again Inv-loop μ-loop
-loop-again c =
-    let f = c .before .before in
-    let g = f .before .before .before in
-    (next f .1, sym (nth-next _ _ _ (c .if1 .left)) ∙ ap (nthListed _) (sym (next f .2)) ∙ g .loop .inv .1)
+loop-again c = let f = c .before .before in (here f .rest, nth-next (here f) _ (c .if1 .left) ∙ f .before .before .before .loop .inv .1)
 
 pub nth-spec : {M : Type 1} → statement M
 nth-spec =
