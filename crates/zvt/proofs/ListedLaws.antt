@@ -24,7 +24,7 @@ use Rattle.zvt.specs.declared.objects.BoundsRead.the-variants.{Bounds as
 use Rattle.zvt.specs.ObjectSteps.{asBounds}
 use Rattle.zvt.specs.FieldSteps.{fieldBounds}
 use Rattle.zvt_rules.specs.Listed.{listedAt, listedFrom, nthListed, namedListed}
-use Rattle.zvt.specs.ListSteps.{listFields, fieldsBetween, listedIn, ListIn, Here, StandsAt, field, none}
+use Rattle.zvt.specs.ListSteps.{listFields, fieldsBetween, listedIn, ListIn, FieldHere, StandsAt, field, none}
 use Rattle.zvt.specs.WritingSteps.{ListReads}
 use Rattle.zvt.proofs.ShortLists.{first-field}
 
@@ -102,7 +102,7 @@ first-in at end s b l h =
 module _ (at end : ℕ) (s : List ℕ) (b : Bytes s) (h : ListIn at end s) (n : at ≡ end → ⊥) where
   -- its bounds give it
   pub first-is : (x : Bounds) → fieldBounds 0 (part at end s) ≡ bounds-read x
-      → (x .from ≤ x .to) × (at + x .to ≤ end) × Here at end s (record { id = getD s at 0; from = at + x .from; to = at + x .to })
+      → (x .from ≤ x .to) × (at + x .to ≤ end) × FieldHere at end s (record { id = getD s at 0; from = at + x .from; to = at + x .to })
   first-is x e =
       let f = first-in at end s b h (omega (arith, h .order)) in
       let same : f .bounds ≡ x = cc (f .read) in
@@ -113,7 +113,7 @@ module _ (at end : ℕ) (s : List ℕ) (b : Bytes s) (h : ListIn at end s) (n : 
   first-never r e = let z : _≡_ {A = ℕ} 0 1 = cc (first-in at end s b h (omega (arith, h .order)) .read) in omega arith
 
 -- ---- what stands at a place says of the whole list
-pub field-here : {at e : ℕ} {s : List ℕ} {r : FieldAnswer} {l : Listed} → StandsAt at e s r → r ≡ listed-field l → Here at e s l
+pub field-here : {at e : ℕ} {s : List ℕ} {r : FieldAnswer} {l : Listed} → StandsAt at e s r → r ≡ listed-field l → FieldHere at e s l
 field-here {l = l} (field {l = k} h) e = let same : k ≡ l = cc in rw same at h
 field-here (none h) e = absurd (let z : _≡_ {A = ℕ} 0 1 = cc in omega arith)
 
@@ -129,7 +129,7 @@ pub named-end : (id : ℕ) {ls : List Listed} → ls ≡ [] → End ≡ namedLis
 unfolding namedListed
 named-end id h = rw h
 
-module _ {at e : ℕ} {s : List ℕ} {l : Listed} (h : Here at e s l) where
+module _ {at e : ℕ} {s : List ℕ} {l : Listed} (h : FieldHere at e s l) where
   pub nth-here : (k : ℕ) → k ≡ 0 → listed-field l ≡ nthListed k (listedIn at e s)
   unfolding nthListed
   nth-here k z = rw (h .all, z)

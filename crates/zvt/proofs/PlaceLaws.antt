@@ -171,17 +171,18 @@ module _ (s : List ℕ) (x : Outline) (w : Was s x) where
       place-is FieldList (rw (c, i)) ∙ rw (k .1, class, instruction)
 
 -- ---- what a place says of the message
-pub list-at : (s : List ℕ) (from end : ℕ) → Bytes s → listPlace s ≡ Between from end → ListIn from end s × (listedMessage (readOf s) ≡ listedIn from end s)
+pub list-at : (s : List ℕ) {r : ListPlace} {from end : ℕ} → Bytes s → r ≡ listPlace s → r ≡ Between from end
+    → ListIn from end s × (listedMessage (readOf s) ≡ listedIn from end s)
 unfolding listPlace messagePlace
-list-at s from end b h = go (readOf s) refl h
+list-at s {from = from} {end = end} b e h = go (readOf s) refl (sym e ∙ h)
   where
     go : (y : Reading Message) → readOf s ≡ y → messagePlace y ≡ Between from end → ListIn from end s × (listedMessage y ≡ listedIn from end s)
     go (got m) q g = let k = placed s m b q from end g in (k .0, k .2)
     go (refused f) q g = absurd (let z : _≡_ {A = ℕ} 0 1 = cc in omega arith)
 
-pub list-nowhere : (s : List ℕ) → listPlace s ≡ Nowhere → listedMessage (readOf s) ≡ []
+pub list-nowhere : (s : List ℕ) {r : ListPlace} → r ≡ listPlace s → r ≡ Nowhere → listedMessage (readOf s) ≡ []
 unfolding listPlace listedMessage
-list-nowhere s h = go (readOf s) h
+list-nowhere s e h = go (readOf s) (sym e ∙ h)
   where
     go : (y : Reading Message) → messagePlace y ≡ Nowhere → listedMessage y ≡ []
     go (got m) g = unplaced m g .1

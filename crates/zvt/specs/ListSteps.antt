@@ -33,13 +33,13 @@ pub record ListIn (a e : ℕ) (s : List ℕ) : Type 0 where
   pub reads : ListReads (part a e s)
 
 -- what stands at a place of such a list: a field, and the list goes on behind it, or nothing
-pub record Here (at e : ℕ) (s : List ℕ) (l : Listed) : Type 0 where
+pub record FieldHere (at e : ℕ) (s : List ℕ) (l : Listed) : Type 0 where
   pub some : at < l .to
   pub rest : ListIn (l .to) e s
   pub all : listedIn at e s ≡ l ∷ listedIn (l .to) e s
 
 pub data StandsAt (at e : ℕ) (s : List ℕ) : FieldAnswer → Type 0 where
-  field : {l : Listed} → Here at e s l → StandsAt at e s (listed-field l)
+  field : {l : Listed} → FieldHere at e s l → StandsAt at e s (listed-field l)
   none : listedIn at e s ≡ [] → StandsAt at e s End
 
 -- where the list of a status information lies

@@ -5,7 +5,7 @@ use native.Mathlib.Omega.{arith}
 use lib.ListN.{getD}
 use borrow.Author.Needs.{needs}
 use Rattle.zvt_rules.proofs.ObjectReading.{part-length}
-use Rattle.zvt.specs.ListSteps.{Here, field, none}
+use Rattle.zvt.specs.ListSteps.{FieldHere, field, none}
 use Rattle.zvt.proofs.Slices.{bytes-known}
 use Rattle.zvt.proofs.ListedLaws.{part-first, list-empty, first-is, first-never}
 use Rattle.zvt.proofs.list.field_from.Statement.{statement}
@@ -19,7 +19,7 @@ found : (c : tie.After-b)
     → let a = asked c .before .before .before .before .before .before .args in
     let x = c .b .given .0 .0 in
     (x .from ≤ x .to) × (a .at + x .to ≤ a .end)
-    × Here (a .at) (a .end) (a .s .now) (record { id = getD (a .s .now) (a .at) 0; from = a .at + x .from; to = a .at + x .to })
+    × FieldHere (a .at) (a .end) (a .s .now) (record { id = getD (a .s .now) (a .at) 0; from = a .at + x .from; to = a .at + x .to })
 found c =
     let g = asked c .before .before .before .before in
     first-is _ _ _ (bytes-known _ (g .before .shared-slice-known .given)) (g .before .before .pre) (g .if1 .left) _ (sym (asked c .field-bounds .ensures) ∙ c .b .given .1)

@@ -4,7 +4,7 @@ use mathlib.Core.Path.{_≡_, refl, _∙_}
 use Prim.Native.Nat.{_-_}
 use native.Mathlib.Omega.{arith}
 use borrow.Author.Needs.{needs}
-use Rattle.zvt.specs.ListSteps.{Here, ListIn, listedIn}
+use Rattle.zvt.specs.ListSteps.{FieldHere, ListIn, listedIn}
 use Rattle.zvt_rules.specs.Listed.{namedListed}
 use Rattle.zvt.proofs.ListedLaws.{field-here, none-here, named-end, named-here, named-next}
 use Rattle.zvt.proofs.list.named.Statement.{statement}
@@ -18,7 +18,7 @@ abbrev μ-loop : tie.MeasureT-loop
 
 -- where the field that was found, and the list behind it, lie
 here : (c : tie.After-f Inv-loop μ-loop)
-    → let l = c .before .before .before in let a = l .before .before .args in Here (l .loop .at) (a .end) (a .s .now) (c .f .given .0 .0)
+    → let l = c .before .before .before in let a = l .before .before .args in FieldHere (l .loop .at) (a .end) (a .s .now) (c .f .given .0 .0)
 here c = field-here (c .before .before .field-from .ensures) (c .f .given .1)
 
 returns : tie.Need-returns Inv-loop μ-loop
