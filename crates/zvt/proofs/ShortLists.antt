@@ -1,5 +1,5 @@
 -- A list that is read: its first field and the rest, and what its shortest writing is. Assumes nothing.
-use mathlib.Core.Path.{_≡_, refl, sym, ap, ap₂, _∙_, subst}
+use mathlib.Core.Path.{_≡_, refl, sym, ap, ap₂, _∙_}
 use mathlib.Core.Bool.{Bool, true, false, _||_}
 use mathlib.Core.List.{List, [], _∷_, _++_}
 use Prim.Native.Nat.{ℕ, _+_, _<_, _≤_}
@@ -27,7 +27,7 @@ use Rattle.zvt.specs.declared.objects.BoundsRead.the-variants.{Bounds as
 use Rattle.zvt.specs.ObjectSteps.{asBounds, boundsIn}
 use Rattle.zvt.specs.FieldSteps.{boundsBy, fieldBounds}
 use Rattle.zvt.specs.WritingSteps.{headBytes, valueBytes, RunReads, shortFieldOf, ListReads, listWritten, shortListOf}
-use Rattle.zvt.proofs.ShortRuns.{Alone, run-alone}
+use Rattle.zvt.proofs.ShortRuns.{Alone, run-alone, bounds-are, bounds-never}
 
 -- ---- a list that is read is read alone too: after no ids, after no objects, at no place
 Fewer : List ℕ → List ℕ → Type 0
@@ -213,12 +213,7 @@ field-to-put s bs r l =
     )
 
 pub field-is : (s : List ℕ) (b : Bounds) → Bytes s → ListReads s → 0 < length s → fieldBounds 0 s ≡ bounds-read b → FieldToPut s b
-field-is s b bs r l e =
-    let f = field-to-put s bs r l in
-    let same : f .0 ≡ b = cc in
-    subst (FieldToPut s) same (f .2)
+field-is s b bs r l = bounds-are _ (field-to-put s bs r l) b
 
 pub field-never : (s : List ℕ) (r : Fault) → Bytes s → ListReads s → 0 < length s → fieldBounds 0 s ≡ bounds-refused r → ⊥
-field-never s r bs reads l e =
-    let f = field-to-put s bs reads l in
-    let z : _≡_ {A = ℕ} 0 1 = cc in omega arith
+field-never s r bs reads l = bounds-never _ (field-to-put s bs reads l) r

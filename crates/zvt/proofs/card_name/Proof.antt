@@ -36,12 +36,6 @@ found c = sym (c .before .before .named .ensures) ∙ c .f .given .1
 here : (c : tie.After-f) → let g = placed c .from .given .0 in Here 0x8B (g .0) (g .1 .0) (args (placed c) .args .s .now) (c .f .given .0 .0)
 here c = let p = placed c in is-here 0x8B _ _ _ (bytes p) (status p .reads) _ (λ e. omega arith) (found c)
 
-part-name-size-start : tie.Need-part-name-size-start
-part-name-size-start c = let h = here (c .before) in omega (arith, h .order, h .inside)
-
-part-name-size-end : tie.Need-part-name-size-end
-part-name-size-end c = let h = here (c .before) in omega (arith, h .order, h .inside)
-
 returns : tie.Need-returns
 returns c =
     let g = c .before .before .before .before in
@@ -75,6 +69,6 @@ pub card-name-spec : {M : Type 1} → statement M
 card-name-spec =
     tie.close
     (tie.spec (λ c κs. search needs) (λ c. search needs) (λ c. search needs) (λ c κs. status (c .before) .reads)
-    (λ c. search needs) (λ c. search needs) (λ c. here (c .before) .order) part-name-size-start part-name-size-end
-    (λ c κs. search needs) returns add-to (λ c. search needs) (λ c. search needs) part-result-end returns-2 returns-3
-    returns-4)
+    (λ c. search needs) (λ c. search needs) (λ c. here (c .before) .order)
+    (λ c. let h = here (c .before) in omega arith) (λ c. let h = here (c .before) in omega arith) (λ c κs. search needs)
+    returns add-to (λ c. search needs) (λ c. search needs) part-result-end returns-2 returns-3 returns-4)

@@ -75,9 +75,6 @@ returns-3 c =
     let d = c .before in
     c .read-plain .ensures ∙ sym (field-plain _ _ _ _ (once (d .before) .if1 .left) _ (found (d .before)) (not-true _ (d .if2 .taken)))
 
-add-read-run : tie.Need-add-read-run
-add-read-run c = let h = lies (c .before .before) in omega arith
-
 read-run-requires : tie.Need-read-run-requires
 read-run-requires c κs = let h = lies (c .before .before) in omega (arith, c .read-run-arg .given .2)
 
@@ -99,5 +96,6 @@ read-field-spec =
     tie.close
     (tie.spec (λ c. search needs) (λ c κs. search needs) (λ c. search needs) returns returns-2 (λ c κs. search needs)
     (λ c. search needs) (λ c. search needs) (λ c κs. let h = lies (c .before) in search needs) returns-3
-    (λ c. lies (c .before) .0) (λ c. lies (c .before) .0) (λ c. lies (c .before) .1) add-read-run read-run-requires
-    (λ c. search needs) (λ c. search needs) (λ c κs. is-container c .0) returns-4 returns-5 returns-6)
+    (λ c. lies (c .before) .0) (λ c. lies (c .before) .0) (λ c. lies (c .before) .1)
+    (λ c. let h = lies (c .before .before) in omega arith) read-run-requires (λ c. search needs) (λ c. search needs)
+    (λ c κs. is-container c .0) returns-4 returns-5 returns-6)

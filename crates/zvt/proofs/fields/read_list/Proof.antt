@@ -58,12 +58,6 @@ returns c =
     (d .before .before .loop-test .taken) _
     (sym (c .before .before .before .read-field .ensures) ∙ c .before .f .given .1))
 
-add-spare : tie.Need-add-spare Inv-loop μ-loop
-add-spare c = let h = goes (c .before .before) in omega arith
-
-loop-less : tie.Need-loop-less Inv-loop μ-loop
-loop-less c = let h = goes (c .before .before) in omega arith
-
 loop-again : tie.Need-loop-again Inv-loop μ-loop
 loop-again c =
     let h = goes (c .before .before) in
@@ -87,4 +81,5 @@ read-list-spec =
     (tie.spec Inv-loop μ-loop loop-holds (λ c. search needs) cast-id (λ c. search needs) (λ c. search needs)
     (λ c. search needs) (λ c. search needs) (λ c. id-byte c) read-field-requires (λ c. search needs) returns
     (λ c. search needs) (λ c. id-byte (c .before .before .before .before))
-    (λ c. let h = goes (c .before) in omega arith) add-spare loop-less loop-again returns-2)
+    (λ c. let h = goes (c .before) in omega arith) (λ c. let h = goes (c .before .before) in omega arith)
+    (λ c. let h = goes (c .before .before) in omega arith) loop-again returns-2)

@@ -33,12 +33,6 @@ field-bounds-requires c κs =
     let size = part-length (a .s .now) (a .at) (a .end) (l .order) (l .inside) in
     (omega (arith, size, l .short), omega (arith, size), rw (part-first (a .at) (a .end) (a .s .now) (l .order) (l .inside) less) (c .format-of .ensures))
 
-add-from : tie.Need-add-from
-add-from c = let k = found (c .before .before) in omega (arith, k .0, k .1)
-
-add-to : tie.Need-add-to
-add-to c = let k = found (c .before .before .before) in omega (arith, k .1)
-
 returns-2 : tie.Need-returns-2
 returns-2 c =
     let g = c .before .before .before .before .before .before in
@@ -49,6 +43,8 @@ returns-2 c =
 pub field-from-spec : {M : Type 1} → statement M
 field-from-spec =
     tie.close
-    (tie.spec (λ c. none (list-empty _ _ _ (c .if1 .taken))) (λ c. search needs) (λ c. search needs) (λ c. search needs) (λ c. search needs)
-    (λ c κs. search needs) field-bounds-requires (λ c. search needs) (λ c. search needs) add-from add-to returns-2
+    (tie.spec (λ c. none (list-empty _ _ _ (c .if1 .taken))) (λ c. search needs) (λ c. search needs) (λ c. search needs)
+    (λ c. search needs) (λ c κs. search needs) field-bounds-requires (λ c. search needs) (λ c. search needs)
+    (λ c. let k = found (c .before .before) in omega arith)
+    (λ c. let k = found (c .before .before .before) in omega arith) returns-2
     (λ c. field (found (c .before .before .before) .2)))

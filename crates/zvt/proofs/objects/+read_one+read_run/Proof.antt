@@ -116,9 +116,6 @@ module _ (t : ℕ) where
   one-add-read-run : read-one-lts.Need-add-read-run one-claims one-at read-one.Post
   one-add-read-run c = let h = value-in _ _ _ (found (c .before .before .before)) in omega arith
 
-  one-sub-read-run-2 : read-one-lts.Need-sub-read-run-2 one-claims one-at read-one.Post
-  one-sub-read-run-2 c = let h = room (c .before .before .before) .if2 .left in omega arith
-
   one-read-run-requires : read-one-lts.Need-read-run-requires one-claims one-at read-one.Post
   one-read-run-requires c κs =
       let d = c .before .before .before in
@@ -173,9 +170,6 @@ module _ (t : ℕ) where
   run-read-one-requires : read-run-lts.Need-read-one-requires run-claims run-at read-run.Post
   run-read-one-requires c κs = (omega (arith, c .before .before .pre .0), omega arith)
 
-  run-add-read-run : read-run-lts.Need-add-read-run run-claims run-at read-run.Post
-  run-add-read-run c = let h = first-in _ _ _ _ _ (first (c .before)) in omega arith
-
   run-read-run-requires : read-run-lts.Need-read-run-requires run-claims run-at read-run.Post
   run-read-run-requires c κs =
       let h = first-in _ _ _ _ _ (first (c .before)) in
@@ -196,10 +190,13 @@ pub +read-one+read-run-spec : {M : Type 1} → statement M
     (λ t. read-one-lts.spec (one-claims t) (one-at t) read-one.Post (λ c. sym (one-full _ _ _ _ (c .if1 .taken)))
     (one-returns-2 t) (λ c. search needs) (λ c κs. search needs) (λ c. search needs) (λ c. search needs)
     (λ c κs. is-leaf t c .0) (one-returns-3 t) (one-sub-read-run t) (one-part-read-run-start t)
-    (one-part-read-run-end t) (one-add-read-run t) (one-sub-read-run-2 t) (one-read-run-requires t) (λ c. search needs)
-    (λ c. search needs) (λ c κs. is-branch t c .0) (one-returns-4 t) (one-returns-5 t) (one-returns-6 t))
+    (one-part-read-run-end t) (one-add-read-run t)
+    (λ c. let h = room t (c .before .before .before) .if2 .left in omega arith) (one-read-run-requires t)
+    (λ c. search needs) (λ c. search needs) (λ c κs. is-branch t c .0) (one-returns-4 t) (one-returns-5 t)
+    (one-returns-6 t))
     (λ t. read-run-lts.spec (run-claims t) (run-at t) read-run.Post (λ c. sym (run-empty _ _ _ _ (c .if1 .taken)))
     (run-read-one-requires t) (λ c. search needs) (λ c. search needs) (λ c. first-in _ _ _ _ _ (first t c) .1)
-    (λ c. first-in _ _ _ _ _ (first t c) .1) (λ c. search needs) (run-add-read-run t) (run-read-run-requires t)
-    (λ c. search needs) (λ c. search needs) (λ c. let h = goes t c .0 in omega arith) (run-returns-2 t)
-    (run-returns-3 t) (λ c. sym (goes t c .1)))
+    (λ c. first-in _ _ _ _ _ (first t c) .1) (λ c. search needs)
+    (λ c. let h = first-in _ _ _ _ _ (first t (c .before)) in omega arith) (run-read-run-requires t) (λ c. search needs)
+    (λ c. search needs) (λ c. let h = goes t c .0 in omega arith) (run-returns-2 t) (run-returns-3 t)
+    (λ c. sym (goes t c .1)))

@@ -29,18 +29,6 @@ started : (c : tie.After-known-told4)
     (c .before .size .given .0 .1 .0) (seen c)
 started c = head-starts _ _ _ (at-tag (tagged c)) _ _ (sym (c .before .before .before .len-of .ensures) ∙ c .before .size .given .1)
 
-add-len-of : tie.Need-add-len-of
-add-len-of c = let h = tag-within _ _ _ (at-tag (c .before)) in omega arith
-
-len-of-requires : tie.Need-len-of-requires
-len-of-requires c κs = let h = tag-within _ _ _ (at-tag (c .before)) in omega arith
-
-bounds-in-requires : tie.Need-bounds-in-requires
-bounds-in-requires c κs = let h = started (c .before .before) in search needs
-
-bounds-in-requires-2 : tie.Need-bounds-in-requires-2
-bounds-in-requires-2 c κs = let h = started (c .before .before) in search needs
-
 returns : tie.Need-returns
 returns c = sym (head-no-tag _ _ _ (sym (c .before .before .before .tag-size .ensures) ∙ c .before .f .given .1))
 
@@ -61,6 +49,9 @@ pub head-of-spec : {M : Type 1} → statement M
 head-of-spec =
     tie.close
     (tie.spec (λ c κs. search needs) (λ c. search needs) (λ c. search needs) (λ c. tag-within _ _ _ (at-tag c) .1)
-    (λ c. tag-within _ _ _ (at-tag c) .1) (λ c. search needs) add-len-of len-of-requires (λ c. search needs)
-    (λ c. search needs) (λ c. let h = started c in omega arith) (λ c. let h = started (c .before) in omega arith)
-    bounds-in-requires bounds-in-requires-2 returns returns-2 returns-3 returns-4)
+    (λ c. tag-within _ _ _ (at-tag c) .1) (λ c. search needs)
+    (λ c. let h = tag-within _ _ _ (at-tag (c .before)) in omega arith)
+    (λ c κs. let h = tag-within _ _ _ (at-tag (c .before)) in omega arith) (λ c. search needs) (λ c. search needs)
+    (λ c. let h = started c in omega arith) (λ c. let h = started (c .before) in omega arith)
+    (λ c κs. let h = started (c .before .before) in search needs)
+    (λ c κs. let h = started (c .before .before) in search needs) returns returns-2 returns-3 returns-4)

@@ -24,7 +24,7 @@ here c =
 
 shared-slice-read-t9 : tie.Need-shared-slice-read-t9
 unfolding SizeOk formatOf among
-shared-slice-read-t9 c = let h = here (c .before .before) in omega (arith, h .inside, h .size)
+shared-slice-read-t9 c = let h = here (c .before .before) in omega arith
 
 returns : tie.Need-returns
 unfolding codeIn codeOf

@@ -18,12 +18,6 @@ here c =
     is-here _ _ _ _ (bytes-known _ (start c .shared-slice-known .given)) (start c .before .pre .0) _ (fixed-plain _ _ (start c .before .pre .1 .1))
     (sym (c .before .before .named .ensures) ∙ c .f .given .1)
 
-part-number-start : tie.Need-part-number-start
-part-number-start c = let h = here (c .before) in omega (arith, h .order, h .inside)
-
-part-number-end : tie.Need-part-number-end
-part-number-end c = let h = here (c .before) in omega (arith, h .order, h .inside)
-
 number-requires : tie.Need-number-requires
 number-requires c κs =
     let h = here (c .before .before) in
@@ -44,4 +38,5 @@ pub number-in-spec : {M : Type 1} → statement M
 number-in-spec =
     tie.close
     (tie.spec (λ c κs. search needs) (λ c. search needs) (λ c. search needs) (λ c. here (c .before) .order)
-    part-number-start part-number-end number-requires returns returns-2)
+    (λ c. let h = here (c .before) in omega arith) (λ c. let h = here (c .before) in omega arith) number-requires
+    returns returns-2)
