@@ -1,6 +1,6 @@
 -- What a call that is not refused does to its lane, by cases on the calls. Assumes nothing.
 use mathlib.Core.Path.{_≡_, refl, ap, sym, _∙_}
-use mathlib.Core.Bool.{Bool, true, false, _&&_}
+use mathlib.Core.Bool.{Bool, true, false}
 use mathlib.Core.List.{List, [], _∷_}
 use Prim.Native.Nat.{ℕ, _+_, _*_, _<_}
 use native.Mathlib.Omega.{arith}
@@ -13,7 +13,7 @@ use Rattle.zvt_rules.specs.declared.Refusal.{Refusal}
 use Rattle.zvt_rules.specs.declared.Status.{Status}
 use Rattle.zvt_rules.specs.declared.ToldCode.{ToldCode}
 use Rattle.zvt_rules.specs.declared.ToldCode.the-variants.{Missing as no-code, Code}
-use Rattle.zvt_rules.proofs.Tests.{pick-test}
+use Rattle.zvt_rules.proofs.Tests.{pick-test, eqb-test, and-test}
 use Rattle.zvt_rules.proofs.Readings.{then-on, then-got, got-same}
 use Rattle.desk_rules.specs.declared.Outcome.the-variants.{Declined}
 use Rattle.desk_rules.specs.declared.Phase.{Phase}
@@ -79,12 +79,7 @@ of-header s h m e =
     ap (λ (x : Message). x .class) (sym (got-same (t .2)))
 
 both : (a b x y : ℕ) → pairIs a b x y ≡ true → (a ≡ x) × (b ≡ y)
-both a b x y = go (eqb a x) refl (eqb b y) refl
-  where
-    go : (p : Bool) → eqb a x ≡ p → (q : Bool) → eqb b y ≡ q → p && q ≡ true → (a ≡ x) × (b ≡ y)
-    go true e true f h = (eqb-true a x e, eqb-true b y f)
-    go true e false f h = let z : _≡_ {A = ℕ} 0 1 = cc in absurd (omega arith)
-    go false e q f h = let z : _≡_ {A = ℕ} 0 1 = cc in absurd (omega arith)
+both a b x y = and-test (eqb-test a x) (eqb-test b y) .0
 
 -- a number above all of a list is not among them
 abbrev Under : List ℕ → ℕ → Type 0

@@ -2,20 +2,20 @@
 -- Assumes nothing.
 use mathlib.Core.Path.{_≡_, refl, sym, ap, _∙_, subst}
 use mathlib.Core.Bool.{Bool, true, false, not, _&&_, _||_, false≢true}
-use mathlib.Core.Logic.{_↔_, _⊎_, inl, inr, ⊎-elim}
+use mathlib.Core.Logic.{_↔_}
 use mathlib.Core.List.{List, [], _∷_}
 use Prim.Native.Nat.{ℕ, suc, _+_, _*_, _≤_, _<_}
 use native.Mathlib.Omega.{arith}
 use lib.ListN.{length}
 use lib.Dec.{ltb, leb, eqb}
-use borrow.Author.Tests.{leb-true, lt-ltb, le-ltb, le-leb, lt-leb, eqb-true, eq-eqb}
+use borrow.Author.Tests.{lt-ltb, le-ltb, le-leb, lt-leb}
 use Rattle.zvt_rules.specs.declared.Fault.{Fault}
 use Rattle.zvt_rules.specs.declared.Status.{Status}
 use Rattle.zvt_rules.specs.declared.ToldCode.{ToldCode}
 use Rattle.zvt_rules.specs.declared.ToldCode.the-variants.{Missing, Code}
 use Rattle.zvt_rules.specs.Reading.{Reading, got, refused, pick, among}
 use Rattle.zvt_rules.specs.Message.{Heading, wholeHeader, Body, bytes, listed, Message, layoutOf, bodyOf, messageOf, readOf}
-use Rattle.zvt_rules.proofs.Tests.{pick-test, between}
+use Rattle.zvt_rules.proofs.Tests.{pick-test, between, case, no-for, leb-test, eqb-test, and-test, or-test, pick-under, pick-same}
 use Rattle.zvt_rules.proofs.Readings.{got-same, then-got}
 use Rattle.desk_rules.specs.declared.Phase.{Phase}
 use Rattle.desk_rules.specs.declared.Phase.the-variants.{Idle, Waiting, Running}
@@ -29,28 +29,6 @@ use Rattle.desk_rules.proofs.Commands.{sale-size, refund-size, reversal
 use Rattle.desk_rules.proofs.LastSale.{last-sale}
 
 -- ---- tests and what they say
-case : {A X : Type 0} {t : Bool} → ((t ≡ true) ↔ A) → (A → X) → ((A → ⊥) → X) → X
-case {t = true} r h k = h (r .0 refl)
-case {t = false} r h k = k λ a. false≢true (r .1 a)
-
-no-for : {A : Type 0} {t : Bool} → ((t ≡ true) ↔ A) → (A → ⊥) → t ≡ false
-no-for {t = true} r n = absurd (n (r .0 refl))
-no-for {t = false} r n = refl
-
-leb-test : (m n : ℕ) → (leb m n ≡ true) ↔ (m ≤ n)
-leb-test m n = (leb-true m n, le-leb m n)
-
-eqb-test : (m n : ℕ) → (eqb m n ≡ true) ↔ (m ≡ n)
-eqb-test m n = (eqb-true m n, eq-eqb m n)
-
-and-test : {A B : Type 0} {t u : Bool} → ((t ≡ true) ↔ A) → ((u ≡ true) ↔ B) → (t && u ≡ true) ↔ (A × B)
-and-test {t = true} r q = (λ e. (r .0 refl, q .0 e), λ k. q .1 (k .1))
-and-test {t = false} r q = (λ e. absurd (false≢true e), λ k. r .1 (k .0))
-
-or-test : {A B : Type 0} {t u : Bool} → ((t ≡ true) ↔ A) → ((u ≡ true) ↔ B) → (t || u ≡ true) ↔ (A ⊎ B)
-or-test {t = true} r q = (λ e. inl (r .0 refl), λ k. refl)
-or-test {t = false} r q = (λ e. inr (q .0 e), ⊎-elim (λ a. absurd (false≢true (r .1 a))) (q .1))
-
 idle-test : (p : Phase) → (isIdle p ≡ true) ↔ (p ≡ Idle)
 unfolding isIdle
 idle-test Idle = (λ e. refl, λ e. refl)
@@ -58,8 +36,7 @@ idle-test Waiting = (λ e. absurd (false≢true e), λ e. cc)
 idle-test Running = (λ e. absurd (false≢true e), λ e. cc)
 
 unless-pick : (t : Bool) (m n : Moved) (x : Decision) → unlessRefused (pick t m n) x ≡ pick t (unlessRefused m x) (unlessRefused n x)
-unless-pick true m n x = refl
-unless-pick false m n x = refl
+unless-pick t m n x = pick-under (λ y. unlessRefused y x) t m n
 
 -- ---- opening
 
@@ -208,11 +185,7 @@ Goes m = (x : Decision) → unlessRefused m x ≡ x
 completed-goes : (l : Lane) (code : ToldCode) → Goes (completedBy l code)
 unfolding Goes unlessRefused completedBy settledAs
 completed-goes l Missing x = refl
-completed-goes l (Code c) x = simp unless-pick (same (eqb c 0) (same (isReversal (l .kind) && not (eqb _ (l .asked))) refl))
-  where
-    same : (t : Bool) {y z : Decision} → y ≡ z → pick t y z ≡ z
-    same true e = e
-    same false e = refl
+completed-goes l (Code c) x = simp unless-pick (pick-same (eqb c 0) (pick-same (isReversal (l .kind) && not (eqb _ (l .asked))) refl))
 
 reported-goes : (l : Lane) (status : Status) (code : ToldCode) → Goes (reportedBy l status code)
 unfolding Goes unlessRefused reportedBy

@@ -8,6 +8,7 @@ use native.Mathlib.Omega.{arith}
 use lib.ListN.{length, getD}
 use lib.Dec.{eqb}
 use Rattle.zvt_rules.specs.Reading.{pick}
+use Rattle.zvt_rules.proofs.Tests.{pick-under}
 use Rattle.desk_rules.specs.Course.{Call, laneOf, opens}
 use Rattle.desk_rules.specs.Desk.{fresh, Accepted}
 use Rattle.desk_rules.specs.Runs.{having, callsOf, total, openings}
@@ -20,12 +21,7 @@ use Rattle.promises.specs.Days.{openingsIn, firsts}
 openings-append : (xs ys : List Call) → openingsIn (xs ++ ys) ≡ openingsIn xs ++ openingsIn ys
 unfolding openingsIn
 openings-append [] ys = refl
-openings-append (x ∷ xs) ys = rw (openings-append xs ys) (go (opens x))
-  where
-    go : (t : Bool) → pick t (x ∷ (openingsIn xs ++ openingsIn ys)) (openingsIn xs ++ openingsIn ys)
-        ≡ pick t (x ∷ openingsIn xs) (openingsIn xs) ++ openingsIn ys
-    go true = refl
-    go false = refl
+openings-append (x ∷ xs) ys = rw (openings-append xs ys) (sym (pick-under (λ l. l ++ openingsIn ys) (opens x) _ _))
 
 openings-lane : (k : ℕ) (xs : List Call) → openingsIn (callsOf k xs) ≡ callsOf k (openingsIn xs)
 unfolding openingsIn having

@@ -9,6 +9,7 @@ use lib.Seq.{take-append-seam, take-at, drop-at}
 use lib.Dec.{ltb}
 use borrow.Author.Tests.{lt-ltb, le-ltb, ltb-true}
 use Rattle.zvt_rules.specs.Reading.{Reading, got, refused}
+use Rattle.zvt_rules.proofs.Tests.{by-test}
 use Rattle.desk_rules.specs.declared.Reply.the-variants.{Written, Refused}
 use Rattle.desk_rules.specs.Course.{Call, laneOf, NumbersFit}
 use Rattle.desk_rules.specs.Desk.{fresh, laneAt, Decision, refuse, accept, decide, Accepted, run}
@@ -27,7 +28,6 @@ use Rattle.tape_rules.proofs.Taping.{taped-taken, taped-refused, taped-accepted
 use Rattle.promises.specs.Days.{OfBytes}
 use Rattle.promises.specs.TapeDays.{callsPlayed}
 use Rattle.promises.proofs.ReadTable.{No}
-use Rattle.promises.proofs.TapeTable.{by-test}
 use Rattle.promises.specs.Answers.{numbered, Refuses, Takes, Open}
 use Rattle.promises.proofs.Answers.{reading-no, apart, same-number, decided-no, decided-yes, closing-no, closing-yes, closing-same}
 

@@ -1,6 +1,6 @@
 -- A block and a tape are refused as one of their rows says, and as no other. Assumes nothing.
 use mathlib.Core.Path.{_≡_, refl, sym, ap, _∙_}
-use mathlib.Core.Bool.{Bool, true, false, not, _||_, false≢true, or-true, and-eq-true-iff}
+use mathlib.Core.Bool.{Bool, true, false, not, _||_, or-true, and-eq-true-iff}
 use mathlib.Core.Logic.{_↔_, _⊎_, inl, inr, ⊎-elim, Iff·rfl}
 use mathlib.Core.List.{List, [], _∷_, _++_}
 use Prim.Native.Nat.{ℕ, zero, suc, _+_, _-_, _*_, _^_, _<_, _≤_}
@@ -14,6 +14,7 @@ use Rattle.zvt_rules.specs.Reading.{Reading, got, refused, noHeader, unless, pa
 use Rattle.zvt_rules.specs.Grammar.{Bytes}
 use Rattle.zvt_rules.proofs.ObjectBytes.{bytes-drop, bytes-take}
 use Rattle.zvt_rules.proofs.Readings.{got-same, got-not-refused, unless-got, unless-on, then-got, then-on}
+use Rattle.zvt_rules.proofs.Tests.{true-false, by-test, either}
 use Rattle.tape_rules.specs.Block.{checkOf, numberIn, usedIn, payloadIn, checkIn, allZero, wrongNumber, wrongCount, wrongFilling, blockBytes, writeBlock, readBlock}
 use Rattle.tape_rules.specs.Tape.{cut, blocksFrom, tapeBytes, payloadOf}
 use Rattle.tape_rules.specs.Recording.{writeTape, readTape}
@@ -37,18 +38,6 @@ module _ {A : Type 0} (x : Reading A) (Row : ℕ → Type 0) (given : (m : ℕ) 
           let q : noHeader (k .0) ≡ h .0 = cc in
           let same : k .0 ≡ n = ap (λ (f : Fault). f .number) q ∙ h .2 in
           rw same at (k .1)
-
--- ---- tests
-true-false : {t : Bool} → t ≡ true → t ≡ false → ⊥
-true-false e f = false≢true (sym f ∙ e)
-
-pub by-test : {X : Type 0} (t : Bool) → (t ≡ true → X) → (t ≡ false → X) → X
-by-test true p q = p refl
-by-test false p q = q refl
-
-either : (a b : Bool) → (a || b) ≡ true → (a ≡ true) ⊎ (b ≡ true)
-either true b e = inl refl
-either false b e = inr e
 
 -- ---- writing a block
 module _ (number : ℕ) (p : List ℕ) (room : ℕ) where
