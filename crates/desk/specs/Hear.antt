@@ -1,4 +1,4 @@
--- What the steps of hearing a message answer. Definitions only.
+-- Steps of the code, private: what the steps of hearing a message answer. Definitions only.
 use mathlib.Core.Path.{_≡_}
 use Prim.Native.Nat.{ℕ, _+_, _*_}
 use mathlib.Core.Bool.{Bool, false}

@@ -1,4 +1,4 @@
--- What the steps of an opening answer. Definitions only.
+-- Steps of the code, private: what the steps of an opening answer. Definitions only.
 use Prim.Native.Nat.{ℕ}
 use mathlib.Core.Bool.{Bool}
 use mathlib.Core.List.{List}
