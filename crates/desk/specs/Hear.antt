@@ -1,11 +1,12 @@
--- What the steps of hearing a message answer. Definitions only.
+-- Steps of the code, private: what the steps of hearing a message answer. Definitions only.
 use mathlib.Core.Path.{_≡_}
 use Prim.Native.Nat.{ℕ, _+_, _*_}
 use mathlib.Core.Bool.{Bool, false}
-use mathlib.Core.List.{List, _++_}
-use lib.ListN.{length, getD, drop}
+use mathlib.Core.List.{List}
+use lib.ListN.{getD}
 use lib.Dec.{eqb}
 use Rattle.zvt_rules.specs.Reading.{pick, among}
+use Rattle.zvt_rules.specs.Buffers.{front}
 use Rattle.zvt_rules.specs.Message.{Heading}
 use Rattle.zvt_rules.specs.Values.{statusOf}
 use Rattle.zvt_rules.specs.declared.Status.{Status}
@@ -51,4 +52,4 @@ movedAs l m s =
 
 -- what a reply of so many bytes leaves in the output
 unfoldable pub replied : ℕ → List ℕ → List ℕ
-replied size out = pick (eqb size 3) (replyBytes ++ drop 3 out) out
+replied size out = pick (eqb size 3) (front replyBytes out) out

@@ -1,10 +1,11 @@
--- What the steps of an opening answer. Definitions only.
+-- Steps of the code, private: what the steps of an opening answer. Definitions only.
 use Prim.Native.Nat.{ℕ}
 use mathlib.Core.Bool.{Bool}
-use mathlib.Core.List.{List, _++_}
-use lib.ListN.{length, drop}
+use mathlib.Core.List.{List}
+use lib.ListN.{length}
 use lib.Dec.{ltb, leb, eqb}
 use Rattle.zvt_rules.specs.Reading.{pick}
+use Rattle.zvt_rules.specs.Buffers.{front}
 use Rattle.desk_rules.specs.declared.Lane.{Lane}
 use Rattle.desk_rules.specs.declared.Moved.the-variants.{Becomes}
 use Rattle.desk_rules.specs.declared.Desk.{Desk}
@@ -29,4 +30,4 @@ openAnswer d i within sale l command room =
 
 unfoldable pub openLeaves : Desk → ℕ → Bool → Bool → List ℕ → List ℕ → List ℕ
 openLeaves d i within sale command out =
-    pick (eqb (openingNumber d i within sale (length command) (length out)) 0) (command ++ drop (length command) out) out
+    pick (eqb (openingNumber d i within sale (length command) (length out)) 0) (front command out) out

@@ -20,7 +20,8 @@ use Rattle.tape_rules.specs.declared.BlockAnswer.the-variants.{Payload, Refused
 use Rattle.tape_rules.specs.declared.Taped.{Taped}
 use Rattle.tape_rules.specs.declared.TapedAnswer.{TapedAnswer}
 use Rattle.tape_rules.specs.Records.{recordBytes, joined, entriesOf, recorded, recordsIn}
-use Rattle.tape_rules.specs.Recording.{blockAnswer, writtenAnswer, writtenLeaves, callBytes, thenSpace, decideTaped, tapedAnswer, tapedOut, tapedLeaves, usedAfter, closeTaped, freshTaped}
+use Rattle.zvt_rules.specs.Buffers.{writtenLeaves}
+use Rattle.tape_rules.specs.Recording.{blockAnswer, writtenAnswer, callBytes, thenSpace, decideTaped, tapedAnswer, tapedOut, tapedLeaves, usedAfter, closeTaped, freshTaped}
 use Rattle.tape_rules.proofs.RecordLaws.{directionOf, own-first, record-size, records-read}
 use Rattle.tape_rules.specs.Taping.{TapeTurn, Day, freshDay, decideTurn, afterTurn, tapedRun, keptIf, keptCalls}
 use Rattle.tape_rules.proofs.Masks.{Each}

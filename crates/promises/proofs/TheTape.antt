@@ -22,8 +22,9 @@ use Rattle.tape_rules.specs.declared.BlockAnswer.the-variants.{Payload, Refused
 use Rattle.tape_rules.specs.declared.Taped.{Taped}
 use Rattle.tape_rules.specs.Block.{blockBytes, writeBlock, readBlock}
 use Rattle.tape_rules.specs.Records.{masked, Alike, recorded, entriesOf, recordsIn}
-use Rattle.tape_rules.specs.Tape.{tapeBytes, payloadOf}
-use Rattle.tape_rules.specs.Recording.{freshTaped, blockAnswer, writtenAnswer, writtenLeaves, writeTape, readTape, callBytes, tapedAnswer, tapedOut, tapedLeaves, closeTaped}
+use Rattle.tape_rules.specs.Tape.{blocksFor, tapeBytes, payloadOf}
+use Rattle.zvt_rules.specs.Buffers.{writtenLeaves}
+use Rattle.tape_rules.specs.Recording.{freshTaped, blockAnswer, writtenAnswer, writeTape, readTape, callBytes, tapedAnswer, tapedOut, tapedLeaves, closeTaped}
 use Rattle.tape_rules.specs.Taping.{TapeTurn, Day, freshDay, tapedRun, keptCalls}
 use Rattle.tape_rules.proofs.BlockLaws as block
 use Rattle.tape_rules.proofs.Changed.{changed-byte}
@@ -31,7 +32,7 @@ use Rattle.tape_rules.proofs.Masks.{masked-twice, alike-recorded}
 use Rattle.tape_rules.proofs.Unseen.{mask-heard}
 use Rattle.tape_rules.proofs.Taping.{taped-valid, close-taped-valid}
 use Rattle.promises.specs.Days.{OfBytes}
-use Rattle.promises.specs.TapeRows.{Outside, WriteNo, BlockNo, blocksFor, pieceAt, blockAt, TapeWriteNo, TapeNo}
+use Rattle.promises.specs.TapeRows.{Outside, WriteNo, BlockNo, pieceAt, blockAt, TapeWriteNo, TapeNo}
 use Rattle.promises.specs.TapeDays.{callsPlayed, Hiding, AlikeDays}
 use Rattle.promises.specs.Answers.{numbered, Refuses, Takes, Open}
 use Rattle.promises.proofs.TapeTable.{within, block-fits, block-got, block-back-and-forth, in-limits, write-no, block-no, tape-fits, tape-got, write-tape-no, tape-piece, tape-bytes, read-tape-no, read-tape-got, written-joins, tape-back-and-forth}
@@ -99,7 +100,7 @@ one-changed-byte number p room s i v due last b w h small other =
 
 -- A tape is written exactly where the numbers of its blocks fit four bytes and all of them have room.
 pub tape-written-exactly : (p : List ℕ) (room k : ℕ)
-    → (writtenAnswer (writeTape p room) ≡ Written k) ↔ ((blocksFor p ≤ 4_294_967_295) × (blocksFor p * 512 ≤ room) × (blocksFor p * 512 ≡ k))
+    → (writtenAnswer (writeTape p room) ≡ Written k) ↔ ((blocksFor (length p) ≤ 4_294_967_295) × (blocksFor (length p) * 512 ≤ room) × (blocksFor (length p) * 512 ≡ k))
 tape-written-exactly p room k =
     let says = answers.written-size (writeTape p room) k in (
       λ h.
@@ -119,7 +120,7 @@ tape-cut p room s k w h =
     block-fits (1 + k) (pieceAt k p) 512 o (omega arith) ∙ ap got (sym (tape-piece p k h) ∙ ap (blockAt k) (tape-got p room s w .2))
 
 -- Every block but the last is full.
-pub only-last-short : (p : List ℕ) (k : ℕ) → 1 + k < blocksFor p → length (pieceAt k p) ≡ 504
+pub only-last-short : (p : List ℕ) (k : ℕ) → 1 + k < blocksFor (length p) → length (pieceAt k p) ≡ 504
 only-last-short p k h = omega (arith, length-take 504 (drop (k * 504) p), length-drop (k * 504) p)
 
 -- No payload is no block, and no block is no payload.
