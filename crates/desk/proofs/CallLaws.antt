@@ -12,6 +12,7 @@ use borrow.Author.Tests.{le-leb, lt-leb, lt-ltb, le-ltb}
 use denote.Enum.Declared.{tagOf}
 use types.Run.{OneOf}
 use Rattle.zvt_rules.specs.declared.Refusal.{Refusal}
+use Rattle.zvt_rules.specs.Buffers.{front}
 use Rattle.desk_rules.specs.declared.Outcome.{Outcome}
 use Rattle.desk_rules.specs.declared.Outcome.the-variants.{Unclear}
 use Rattle.desk_rules.specs.declared.Lane.{Lane}
@@ -22,7 +23,7 @@ use Rattle.desk_rules.specs.declared.Answer.{Answer}
 use Rattle.desk_rules.specs.declared.Reply.the-variants.{Written}
 use Rattle.desk_rules.specs.Numbers.{laneCount, bookLines}
 use Rattle.desk_rules.specs.Kinds.{isIdle}
-use Rattle.desk_rules.specs.Course.{no, lostBy, Call, laneOf, needsPlace, NumbersFit, writes}
+use Rattle.desk_rules.specs.Course.{noMove, lostBy, Call, laneOf, needsPlace, NumbersFit, writes}
 use Rattle.desk_rules.specs.Lanes.{lineAt}
 use Rattle.desk_rules.specs.Desk.{laneAt, load, refuse, accept, unlessRefused, decide, linesFrom}
 use Rattle.desk_rules.specs.Memory.{view, laneFor, Valid, movedDesk, refusedAnswer, answerOf, leavesOf}
@@ -48,11 +49,11 @@ unfolding linesFrom lineAt
 line-placed d i outcome settled code h b = let k = rw b at h in omega arith
 
 -- what bytes::copy leaves of bytes that are w
-pub copied : (s w out : List ℕ) → s ≡ w → take (length s) s ++ drop (length s) out ≡ w ++ drop (length w) out
+pub copied : (s w out : List ℕ) → s ≡ w → take (length s) s ++ drop (length s) out ≡ front w out
 copied s w out e = rw (take-length, e)
 
 -- what a lost link does to an idle lane, and to one that is not
-pub lost-idle : (l : Lane) → isIdle (l .phase) ≡ true → lostBy l ≡ no 14
+pub lost-idle : (l : Lane) → isIdle (l .phase) ≡ true → lostBy l ≡ noMove 14
 unfolding lostBy
 lost-idle l e = rw e
 
@@ -102,7 +103,7 @@ module _ (d : Desk) (v : Valid d) (c : Call) (n : NumbersFit c) (out : List ℕ)
 
   pub taken-as : (exit : List ℕ) → decide (view d) c (length out) ≡ accept
       → r ≡ record { reply = Written (length (writes (laneFor d c) c)); desk = movedDesk d (laneOf c) (moveOf d c) }
-      → exit ≡ writes (laneFor d c) c ++ drop (length (writes (laneFor d c) c)) out
+      → exit ≡ front (writes (laneFor d c) c) out
       → Answers d c out r exit
   taken-as exit e f g =
       let same = f ∙ sym (accepted-answer d c (length out) e) in

@@ -1,22 +1,23 @@
 -- What the desk's functions need beside the laws of the course: the reply, and the difference of two sums as a signed number. Assumes nothing.
 use mathlib.Core.Path.{_≡_, refl}
 use mathlib.Core.Bool.{Bool, true, false, cond}
-use mathlib.Core.List.{List, _++_}
+use mathlib.Core.List.{List}
 use Prim.Native.Nat.{ℕ, zero, suc, _-_, _^_, _<_}
 use native.Mathlib.Omega.{arith}
-use lib.ListN.{length, drop}
+use lib.ListN.{length}
 use lib.Dec.{ltb}
 use lib.IntN.{pos, negsuc, _-ℤ_}
 use mir.Syntax.{w64}
 use mir.Val.{SFits, toZ}
 use borrow.Author.Tests.{ltb-true, lt-ltb}
+use Rattle.zvt_rules.specs.Buffers.{front}
 use Rattle.desk_rules.specs.declared.Phase.{Phase}
 use Rattle.desk_rules.specs.declared.Phase.the-variants.{Idle, Waiting, Running}
 use Rattle.desk_rules.specs.Course.{answered}
 use Rattle.desk.specs.Hear.{replied}
 
 -- a reply of that size is the answer to a lane in that phase
-pub replied-is : (p : Phase) (out : List ℕ) → replied (length (answered p)) out ≡ answered p ++ drop (length (answered p)) out
+pub replied-is : (p : Phase) (out : List ℕ) → replied (length (answered p)) out ≡ front (answered p) out
 unfolding replied answered
 replied-is Idle out = refl
 replied-is Waiting out = refl

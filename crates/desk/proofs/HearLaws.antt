@@ -16,17 +16,16 @@ use Rattle.zvt_rules.specs.declared.Status.{Status}
 use Rattle.zvt_rules.specs.declared.ToldCode.the-variants.{Code}
 use Rattle.zvt_rules.specs.declared.Layout.the-variants.{Plain}
 use Rattle.zvt_rules.specs.Reading.{Reading, got, refused, pick, among}
-use Rattle.zvt_rules.specs.Message.{Header as HeaderTree, wholeHeader, layoutOf, Body, bytes, listed, Message as MessageTree, readOf}
+use Rattle.zvt_rules.specs.Message.{Heading, wholeHeader, layoutOf, Body, bytes, listed, Message, readOf}
 use Rattle.zvt_rules.specs.Writing.{bodyBytes, lengthBytes, messageBytes}
 use Rattle.zvt_rules.specs.Grammar.{Bytes, LayoutOk, MessageOk}
 use Rattle.zvt_rules.specs.Values.{isStatus, bodyFields, statusFields, statusIn, statusOf, codeIn, codeOf, valueIn}
 use Rattle.zvt_rules.proofs.MessageBytes.{read-sound, message-size}
-use Rattle.zvt.specs.declared.Header.{Header}
-use Rattle.zvt.specs.declared.Message.{Message}
-use Rattle.zvt.specs.declared.HeaderAnswer.the-variants.{Header as header-got, Refused as header-refused}
-use Rattle.zvt.specs.declared.ReadAnswer.the-variants.{Accepted, Refused as read-refused}
-use Rattle.zvt.specs.Header.{headerIn}
-use Rattle.zvt.specs.Answers.{refusalOf, asHeaderAnswer, headerAnswer, messageAnswer, asReadAnswer, readAnswer}
+use Rattle.zvt_rules.specs.declared.Header.{Header}
+use Rattle.zvt_rules.specs.declared.Outline.{Outline}
+use Rattle.zvt_rules.specs.declared.HeaderAnswer.the-variants.{Header as header-got, Refused as header-refused}
+use Rattle.zvt_rules.specs.declared.ReadAnswer.the-variants.{Accepted, Refused as read-refused}
+use Rattle.zvt_rules.specs.Answers.{refusalOf, headerIn, asHeaderAnswer, headerAnswer, outlineOf, asReadAnswer, readAnswer}
 use Rattle.zvt.proofs.Tables.{allIn, at-key}
 use Rattle.desk_rules.specs.declared.Kind.{Kind}
 use Rattle.desk_rules.specs.declared.Kind.the-variants.{Sale, Refund, Reversal}
@@ -77,32 +76,32 @@ pub reported-code : (l : Lane) (status : Status) (code : ℕ) → status .code �
 unfolding reportedAs reportedBy
 reported-code l status code e = rw e
 
-as-read : (x : Reading MessageTree) (m : Message) → asReadAnswer x ≡ Accepted m → (t : MessageTree) × (x ≡ got t) × (messageAnswer t ≡ m)
+as-read : (x : Reading Message) (m : Outline) → asReadAnswer x ≡ Accepted m → (t : Message) × (x ≡ got t) × (outlineOf t ≡ m)
 unfolding asReadAnswer
 as-read (got t) m e = (t, refl, cc)
 as-read (refused f) m e = absurd (let z : _≡_ {A = ℕ} 0 1 = cc in omega arith)
 
-read-tree : (m : Message) (s : List ℕ) → ReadIn m s → (t : MessageTree) × (readOf s ≡ got t) × (messageAnswer t ≡ m)
+read-tree : (m : Outline) (s : List ℕ) → ReadIn m s → (t : Message) × (readOf s ≡ got t) × (outlineOf t ≡ m)
 unfolding ReadIn readAnswer
 read-tree m s e = as-read (readOf s) m e
 
-tree-extent : (t : MessageTree) → messageAnswer t .start + messageAnswer t .length ≡ length (messageBytes t)
-unfolding messageAnswer
+tree-extent : (t : Message) → outlineOf t .start + outlineOf t .length ≡ length (messageBytes t)
+unfolding outlineOf
 tree-extent t = sym (message-size t)
 
 -- its body ends where the bytes end
-pub extent : (m : Message) (s : List ℕ) → Bytes s → ReadIn m s → m .start + m .length ≡ length s
+pub extent : (m : Outline) (s : List ℕ) → Bytes s → ReadIn m s → m .start + m .length ≡ length s
 extent m s b e =
     let k = read-tree m s e in rw (← (k .2)) (tree-extent (k .0) ∙ ap length (read-sound s (k .0) b (k .1) .0))
 
 -- 06 1E has a plain body: its first byte stands where the body starts
-aborted-plain : (t : MessageTree) → LayoutOk Plain (t .body) → abortedIn (messageAnswer t) (messageBytes t) ≡ abortedBy (t .body)
-unfolding LayoutOk abortedBy abortedIn messageAnswer messageBytes bodyBytes lengthBytes
+aborted-plain : (t : Message) → LayoutOk Plain (t .body) → abortedIn (outlineOf t) (messageBytes t) ≡ abortedBy (t .body)
+unfolding LayoutOk abortedBy abortedIn outlineOf messageBytes bodyBytes lengthBytes
 aborted-plain t ok = go (t .long) (t .body) ok
   where
     go : (long : Bool) (body : Body) → LayoutOk Plain body
-        → (let u : MessageTree = record { class = t .class; instruction = t .instruction; long = long; body = body } in
-        abortedIn (messageAnswer u) (messageBytes u) ≡ abortedBy body)
+        → (let u : Message = record { class = t .class; instruction = t .instruction; long = long; body = body } in
+        abortedIn (outlineOf u) (messageBytes u) ≡ abortedBy body)
     go long (bytes []) ok = refl
     go true (bytes (b ∷ s)) ok = rw (ne-eqb (length (b ∷ s)) 0 (λ e. omega arith))
     go false (bytes (b ∷ s)) ok = rw (ne-eqb (length (b ∷ s)) 0 (λ e. omega arith))
@@ -112,12 +111,12 @@ both-same : (class i c k : ℕ) → pairIs class i c k ≡ true → (class ≡ c
 both-same class i c k h = let q = and-eq-true-iff (eqb class c) (eqb i k) .0 h in (eqb-true class c (q .0), eqb-true i k (q .1))
 
 -- the instruction of a message that was read is a byte
-second-byte : (s : List ℕ) (t : MessageTree) → Bytes s → readOf s ≡ got t → t .instruction < 256
+second-byte : (s : List ℕ) (t : Message) → Bytes s → readOf s ≡ got t → t .instruction < 256
 unfolding messageBytes Bytes
 second-byte s t b e = let k = read-sound s t b e .0 in rw (← k) at (b 1)
 
-module _ (l : Lane) (s : List ℕ) (t : MessageTree) (b : Bytes s) (e : readOf s ≡ got t) where
-  aborted-same : t .class ≡ 0x06 → t .instruction ≡ 0x1E → abortedIn (messageAnswer t) s ≡ abortedBy (t .body)
+module _ (l : Lane) (s : List ℕ) (t : Message) (b : Bytes s) (e : readOf s ≡ got t) where
+  aborted-same : t .class ≡ 0x06 → t .instruction ≡ 0x1E → abortedIn (outlineOf t) s ≡ abortedBy (t .body)
   unfolding MessageOk layoutOf among
   aborted-same c i = let k = read-sound s t b e in rw (← (k .0)) (aborted-plain t (rw (c, i) at (k .1 .0)))
 
@@ -132,8 +131,8 @@ module _ (l : Lane) (s : List ℕ) (t : MessageTree) (b : Bytes s) (e : readOf s
       go true = refl
       go false = refl
 
-  moved-same : movedAs l (messageAnswer t) s ≡ movedBy l t
-  unfolding movedAs movedBy messageAnswer
+  moved-same : movedAs l (outlineOf t) s ≡ movedBy l t
+  unfolding movedAs movedBy outlineOf
   moved-same =
       let pair : (c k : ℕ) → k < 256 → _ = λ c k m. pair-same (t .class) (t .instruction) c k small m in
       rw (pair 0x06 0x0F (omega arith), pair 0x06 0x1E (omega arith), pair 0x04 0x0F (omega arith))
@@ -151,7 +150,7 @@ module _ (l : Lane) (s : List ℕ) (t : MessageTree) (b : Bytes s) (e : readOf s
       told false f = refl
 
       go : (o a : Bool) → pairIs (t .class) (t .instruction) 0x06 0x1E ≡ a
-          → pick o x (pick a (abortedIn (messageAnswer t) s) (pick (isStatus t) (reportedAs l (statusOf s)) Stays))
+          → pick o x (pick a (abortedIn (outlineOf t) s) (pick (isStatus t) (reportedAs l (statusOf s)) Stays))
           ≡ pick o x (pick a (abortedBy (t .body)) (pick (isStatus t) (let status = statusIn (bodyFields (t .body)) in reportedBy l status (status .code)) Stays))
       go true a f = refl
       go false true f = let k = both-same _ _ _ _ f in aborted-same (k .0) (k .1)
@@ -172,11 +171,11 @@ module _ (l : Lane) (h : Header) (s : List ℕ) (i : inCourse (h .class) (h .ins
   unfolding readAnswer asReadAnswer refusalOf afterBody
   running-unread r e = running-read ∙ go (readOf s) e
     where
-      go : (x : Reading MessageTree) → asReadAnswer x ≡ read-refused r → afterBody l x ≡ Refused r
+      go : (x : Reading Message) → asReadAnswer x ≡ read-refused r → afterBody l x ≡ Refused r
       go (got t) f = absurd (let z : _≡_ {A = ℕ} 0 1 = cc in omega arith)
       go (refused f) g = cc
 
-  pub running-moved : (m : Message) → Bytes s → ReadIn m s → runningMoved l h s ≡ movedAs l m s
+  pub running-moved : (m : Outline) → Bytes s → ReadIn m s → runningMoved l h s ≡ movedAs l m s
   unfolding afterBody
   running-moved m b e =
       let k = read-tree m s e in
@@ -189,7 +188,7 @@ is-waiting Idle h k = absurd (false≢true (sym h))
 is-waiting Waiting h k = refl
 is-waiting Running h k = absurd (false≢true (at-key (λ t. not (eqb t 2)) (0 ∷ 1 ∷ []) refl _ k))
 
-module _ (l : Lane) (s : List ℕ) (g : HeaderTree) where
+module _ (l : Lane) (s : List ℕ) (g : Heading) where
   by-running : l .phase ≡ Running → heardBy (l .phase) l s g ≡ runningMoved l (headerIn g) s
   unfolding heardBy runningMoved heardRunning headerBy headerIn
   by-running p = rw p
@@ -207,16 +206,16 @@ module _ (l : Lane) (s : List ℕ) (o : isIdle (l .phase) ≡ false) where
   unfolding headerAnswer asHeaderAnswer refusalOf afterHeader
   heard-refused r e = on-header ∙ go (wholeHeader s) e
     where
-      go : (x : Reading HeaderTree) → asHeaderAnswer x ≡ header-refused r → afterHeader l s x ≡ Refused r
+      go : (x : Reading Heading) → asHeaderAnswer x ≡ header-refused r → afterHeader l s x ≡ Refused r
       go (got g) f = absurd (let z : _≡_ {A = ℕ} 0 1 = cc in omega arith)
       go (refused f) g = cc
 
-  heard-header : (h : Header) → headerAnswer s ≡ header-got h → (g : HeaderTree) × (heard l s ≡ heardBy (l .phase) l s g) × (headerIn g ≡ h)
+  heard-header : (h : Header) → headerAnswer s ≡ header-got h → (g : Heading) × (heard l s ≡ heardBy (l .phase) l s g) × (headerIn g ≡ h)
   unfolding headerAnswer asHeaderAnswer afterHeader
   heard-header h e = go (wholeHeader s) refl e
     where
-      go : (x : Reading HeaderTree) → wholeHeader s ≡ x → asHeaderAnswer x ≡ header-got h
-          → (g : HeaderTree) × (heard l s ≡ heardBy (l .phase) l s g) × (headerIn g ≡ h)
+      go : (x : Reading Heading) → wholeHeader s ≡ x → asHeaderAnswer x ≡ header-got h
+          → (g : Heading) × (heard l s ≡ heardBy (l .phase) l s g) × (headerIn g ≡ h)
       go (got g) f a = (g, on-header ∙ ap (afterHeader l s) f, cc)
       go (refused r) f a = absurd (let z : _≡_ {A = ℕ} 0 1 = cc in omega arith)
 

@@ -2,29 +2,30 @@
 use mathlib.Core.Path.{_≡_}
 use Prim.Native.Nat.{ℕ, _+_, _*_}
 use mathlib.Core.Bool.{Bool, false}
-use mathlib.Core.List.{List, _++_}
-use lib.ListN.{length, getD, drop}
+use mathlib.Core.List.{List}
+use lib.ListN.{length, getD}
 use lib.Dec.{eqb}
 use Rattle.zvt_rules.specs.Reading.{pick, among}
-use Rattle.zvt_rules.specs.Message.{Header as MessageHeader}
+use Rattle.zvt_rules.specs.Buffers.{front}
+use Rattle.zvt_rules.specs.Message.{Heading}
 use Rattle.zvt_rules.specs.Values.{statusOf}
 use Rattle.zvt_rules.specs.declared.Status.{Status}
-use Rattle.zvt.specs.Answers.{readAnswer}
-use Rattle.zvt.specs.declared.Header.{Header}
-use Rattle.zvt.specs.declared.Message.{Message}
-use Rattle.zvt.specs.declared.ReadAnswer.the-variants.{Accepted}
+use Rattle.zvt_rules.specs.Answers.{readAnswer}
+use Rattle.zvt_rules.specs.declared.Header.{Header}
+use Rattle.zvt_rules.specs.declared.Outline.{Outline}
+use Rattle.zvt_rules.specs.declared.ReadAnswer.the-variants.{Accepted}
 use Rattle.desk_rules.specs.declared.Lane.{Lane}
 use Rattle.desk_rules.specs.declared.Moved.{Moved}
 use Rattle.desk_rules.specs.declared.Moved.the-variants.{Stays, Ends}
 use Rattle.desk_rules.specs.declared.Outcome.the-variants.{Declined}
-use Rattle.desk_rules.specs.Course.{no, replyBytes, runningPairs, heardWaiting, heardRunning, completedBy, reportedBy}
+use Rattle.desk_rules.specs.Course.{noMove, replyBytes, runningPairs, heardWaiting, heardRunning, completedBy, reportedBy}
 
 -- the bytes were read as that message
-unfoldable pub ReadIn : Message → List ℕ → Type 0
+unfoldable pub ReadIn : Outline → List ℕ → Type 0
 ReadIn m s = readAnswer s ≡ Accepted m
 
 -- a header by its pair and its body's length
-unfoldable pub headerBy : Header → MessageHeader
+unfoldable pub headerBy : Header → Heading
 headerBy h = record { class = h .class; instruction = h .instruction; long = false; size = h .length }
 
 unfoldable pub inCourse : ℕ → ℕ → Bool
@@ -36,13 +37,13 @@ waitingMoved l h = heardWaiting l (headerBy h)
 unfoldable pub runningMoved : Lane → Header → List ℕ → Moved
 runningMoved l h s = heardRunning l s (headerBy h)
 
-unfoldable pub abortedIn : Message → List ℕ → Moved
-abortedIn m s = pick (eqb (m .length) 0) (no 1) (Ends Declined 0 (getD s (m .start) 0))
+unfoldable pub abortedIn : Outline → List ℕ → Moved
+abortedIn m s = pick (eqb (m .length) 0) (noMove 1) (Ends Declined 0 (getD s (m .start) 0))
 
 unfoldable pub reportedAs : Lane → Status → Moved
 reportedAs l status = reportedBy l status (status .code)
 
-unfoldable pub movedAs : Lane → Message → List ℕ → Moved
+unfoldable pub movedAs : Lane → Outline → List ℕ → Moved
 movedAs l m s =
     let pair = m .class * 256 + m .instruction in
     pick (eqb pair 0x060F) (completedBy l (l .status .code))
@@ -50,4 +51,4 @@ movedAs l m s =
 
 -- what a reply of so many bytes leaves in the output
 unfoldable pub replied : ℕ → List ℕ → List ℕ
-replied size out = pick (eqb size 3) (replyBytes ++ drop 3 out) out
+replied size out = pick (eqb size 3) (front replyBytes out) out

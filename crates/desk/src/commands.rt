@@ -1,9 +1,9 @@
 // The commands that opening writes.
 use desk_rules::Opening;
 ghost use mathlib.Core.Path.{_≡_};
-ghost use mathlib.Core.List.{_++_};
 ghost use Prim.Native.Nat.{_≤_};
-ghost use lib.ListN.{length, drop};
+ghost use lib.ListN.{length};
+ghost use Rattle.zvt_rules.specs.Buffers.{front};
 ghost use Rattle.desk_rules.specs.Openings.{commandBytes};
 
 // 06 01: amount, currency.
@@ -66,7 +66,7 @@ fn reversal_bytes(password: u32, receipt: u16) -> [u8; 9]
 // The command of an opening goes to the start of out.
 pub(crate) fn put_command(opening: Opening, out: &mut [u8])
     requires { ⌜ length (commandBytes opening) ≤ length (now out) ⌝ }
-    ensures { λ _. ⌜ now (out .exit) ≡ commandBytes opening ++ drop (length (commandBytes opening)) (now (out .entry)) ⌝ }
+    ensures { λ _. ⌜ now (out .exit) ≡ front (commandBytes opening) (now (out .entry)) ⌝ }
 {
     match opening {
         Opening::Sale(amount) => {

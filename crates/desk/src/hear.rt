@@ -7,10 +7,10 @@ use desk_rules::Opening;
 use desk_rules::Outcome;
 use desk_rules::Phase;
 use desk_rules::Reference;
-use zvt::Header;
-use zvt::HeaderAnswer;
-use zvt::Message;
-use zvt::ReadAnswer;
+use zvt_rules::Header;
+use zvt_rules::HeaderAnswer;
+use zvt_rules::Outline;
+use zvt_rules::ReadAnswer;
 use zvt_rules::Refusal;
 use zvt_rules::Status;
 use zvt_rules::ToldAmount;
@@ -20,7 +20,7 @@ ghost use mathlib.Core.Path.{_≡_};
 ghost use Prim.Native.Nat.{_*_, _+_, _≤_};
 ghost use lib.ListN.{length};
 ghost use Rattle.desk_rules.specs.Lanes.{receiptBy, lineAt};
-ghost use Rattle.desk_rules.specs.Course.{completedBy, settledAs, amountBy, answered, heard, no, standing, openedBy};
+ghost use Rattle.desk_rules.specs.Course.{completedBy, settledAs, amountBy, answered, heard, noMove, standing, openedBy};
 ghost use Rattle.desk.specs.Hear.{inCourse, waitingMoved, runningMoved, abortedIn, reportedAs, movedAs, ReadIn, replied};
 
 // What comes of an opening that refers to that line, if nothing else is against it.
@@ -34,7 +34,7 @@ pub(crate) fn standing(reference: Reference, line: Line, m: Moved) -> Moved
 }
 
 fn refused(number: u8) -> Moved
-    ensures { λ r. ⌜ r ≡ no number ⌝ }
+    ensures { λ r. ⌜ r ≡ noMove number ⌝ }
 {
     Moved::Refused(Refusal { number })
 }
@@ -131,7 +131,7 @@ pub(crate) fn completed(l: Lane) -> Moved
 }
 
 // 06 1E: the first body byte is the code.
-pub(crate) fn aborted(s: &[u8], m: Message) -> Moved
+pub(crate) fn aborted(s: &[u8], m: Outline) -> Moved
     requires { ⌜ ReadIn m (now s) ⌝ }
     ensures { λ r. ⌜ r ≡ abortedIn m (now (s .entry)) ⌝ }
 {
@@ -155,7 +155,7 @@ pub(crate) fn reported(l: Lane, status: Status) -> Moved
 }
 
 // A message of the course, read, on a running lane.
-pub(crate) fn moved_by(l: Lane, s: &[u8], m: Message) -> Moved
+pub(crate) fn moved_by(l: Lane, s: &[u8], m: Outline) -> Moved
     requires { ⌜ ReadIn m (now s) ⌝ }
     ensures { λ r. ⌜ r ≡ movedAs l m (now (s .entry)) ⌝ }
 {

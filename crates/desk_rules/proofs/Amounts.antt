@@ -8,16 +8,15 @@ use lib.ListN.{getD}
 use lib.Dec.{eqb}
 use Rattle.zvt_rules.specs.Reading.{Reading, got, refused, among}
 use Rattle.zvt_rules.specs.Grammar.{Bytes}
-use Rattle.zvt_rules.specs.Message.{Header, wholeHeader, Body, bytes, listed, Message, readOf}
+use Rattle.zvt_rules.specs.Message.{Heading, wholeHeader, Body, bytes, listed, Message, readOf}
 use Rattle.zvt_rules.specs.Values.{Found, missing, found, valueIn, amountOf, amountIn, statusIn, bodyFields}
 use Rattle.zvt_rules.specs.declared.Status.{Status}
 use Rattle.zvt_rules.specs.declared.ToldCode.{ToldCode}
 use Rattle.zvt_rules.specs.declared.ToldCode.the-variants.{Missing as no-code, Code}
 use Rattle.zvt_rules.specs.declared.ToldAmount.{ToldAmount}
 use Rattle.zvt_rules.specs.declared.ToldAmount.the-variants.{Missing as no-amount, Amount}
-use Rattle.zvt_rules.proofs.Readings.{pick-test}
-use Rattle.zvt_rules.proofs.Numbers.{between}
 use Rattle.zvt_rules.proofs.Told.{Twelve, told-twelve}
+use Rattle.zvt_rules.proofs.Tests.{pick-test, between}
 use Rattle.desk_rules.specs.declared.Phase.{Phase}
 use Rattle.desk_rules.specs.declared.Phase.the-variants.{Idle, Waiting, Running}
 use Rattle.desk_rules.specs.declared.Lane.{Lane}
@@ -92,7 +91,7 @@ module _ (l : Lane) (h : LaneFits l) where
         (λ _. reported-fits (statusIn (bodyFields (m .body))) _ (told-fits (valueIn 0x04 (bodyFields (m .body))) (told-twelve s m b e)))
         (λ _. tt)))
 
-    header-fits : (p : Phase) (x : Header) → Fits (heardBy p l s x)
+    header-fits : (p : Phase) (x : Heading) → Fits (heardBy p l s x)
     unfolding heardBy heardWaiting heardRunning
     header-fits Idle x = tt
     header-fits Waiting x =
@@ -109,7 +108,7 @@ module _ (l : Lane) (h : LaneFits l) where
     unfolding heard afterHeader
     heard-fits = pick-test Fits (isIdle (l .phase)) (λ _. tt) (λ _. go (wholeHeader s))
       where
-        go : (r : Reading Header) → Fits (afterHeader l s r)
+        go : (r : Reading Heading) → Fits (afterHeader l s r)
         go (refused f) = tt
         go (got x) = header-fits (l .phase) x
 

@@ -7,13 +7,14 @@ use native.Mathlib.Omega.{arith}
 use lib.Dec.{eqb}
 use borrow.Author.Tests.{eqb-true, ne-eqb}
 use Rattle.zvt_rules.specs.Reading.{Reading, got, refused, pick, andThen, part, among}
-use Rattle.zvt_rules.specs.Message.{Header, wholeHeader, Body, bytes, listed, Message, readOf, messageOf, bodyOf, layoutOf, start, end}
+use Rattle.zvt_rules.specs.Message.{Heading, wholeHeader, Body, bytes, listed, Message, readOf, messageOf, bodyOf, layoutOf, start, end}
 use Rattle.zvt_rules.specs.Values.{isStatus, statusOf, statusIn, statusFields, bodyFields, codeIn, codeOf, valueIn}
 use Rattle.zvt_rules.specs.declared.Refusal.{Refusal}
 use Rattle.zvt_rules.specs.declared.Status.{Status}
 use Rattle.zvt_rules.specs.declared.ToldCode.{ToldCode}
 use Rattle.zvt_rules.specs.declared.ToldCode.the-variants.{Missing as no-code, Code}
-use Rattle.zvt_rules.proofs.Readings.{then-on, then-got, got-same, pick-test}
+use Rattle.zvt_rules.proofs.Readings.{then-on, then-got, got-same}
+use Rattle.zvt_rules.proofs.Tests.{pick-test}
 use Rattle.desk_rules.specs.declared.Outcome.the-variants.{Declined}
 use Rattle.desk_rules.specs.declared.Phase.{Phase}
 use Rattle.desk_rules.specs.declared.Phase.the-variants.{Idle, Waiting, Running}
@@ -72,7 +73,7 @@ Later l c (Becomes n) = (isIdle (n .phase) ≡ false) × (runningLane n ≡ reto
 Later l c (Ends outcome settled code) = verdict (runningLane l) c ≡ Ends outcome settled code
 
 -- the header's class is the message's
-of-header : (s : List ℕ) (h : Header) (m : Message) → messageOf s h ≡ got m → m .class ≡ h .class
+of-header : (s : List ℕ) (h : Heading) (m : Message) → messageOf s h ≡ got m → m .class ≡ h .class
 unfolding messageOf
 of-header s h m e =
     let t = then-got (bodyOf (start h) _ (layoutOf (h .class) (h .instruction))) _ m e in
@@ -97,7 +98,7 @@ above [] x u = refl
 above (k ∷ ks) x u = rw (ne-eqb k x (λ e. omega arith)) (above ks x (u .1))
 
 -- 84 xx is read as plain bytes
-plain-read : (s : List ℕ) (h : Header) → wholeHeader s ≡ got h → h .class ≡ 0x84
+plain-read : (s : List ℕ) (h : Heading) → wholeHeader s ≡ got h → h .class ≡ 0x84
     → readOf s ≡ got (record { class = h .class; instruction = h .instruction; long = h .long; body = bytes (part (start h) (end h) s) })
 unfolding readOf messageOf layoutOf bodyOf andThen
 plain-read s h w e =
@@ -163,7 +164,7 @@ module _ (l : Lane) (i : ℕ) (s : List ℕ) where
       go (refused f) e = refl
       go (got m) e = rw (n m e)
 
-  waiting : (h : Header) → wholeHeader s ≡ got h → Goes (heardWaiting l h)
+  waiting : (h : Heading) → wholeHeader s ≡ got h → Goes (heardWaiting l h)
   unfolding heardWaiting verdict verdictOf readOf
   waiting h w =
       pick-test Goes (eqb (h .size) 0)
@@ -195,7 +196,7 @@ module _ (l : Lane) (i : ℕ) (s : List ℕ) where
       (λ e. reported (statusIn (bodyFields (m .body))) (rw (r, e)) idle)
       (λ e. stays (same λ k f. rw (got-same (sym f ∙ r)) e))))
 
-  running : (h : Header) → isIdle (l .phase) ≡ false → Goes (heardRunning l s h)
+  running : (h : Heading) → isIdle (l .phase) ≡ false → Goes (heardRunning l s h)
   unfolding heardRunning afterBody
   running h idle =
       pick-test Goes (among runningPairs (h .class * 256 + h .instruction))
@@ -205,7 +206,7 @@ module _ (l : Lane) (i : ℕ) (s : List ℕ) where
       go (refused f) e = refuses _
       go (got m) e = moved m e idle
 
-  heard-goes : isIdle (l .phase) ≡ false → (r : Reading Header) → wholeHeader s ≡ r → Goes (afterHeader l s r)
+  heard-goes : isIdle (l .phase) ≡ false → (r : Reading Heading) → wholeHeader s ≡ r → Goes (afterHeader l s r)
   unfolding afterHeader heardBy
   heard-goes idle (refused f) w = refuses _
   heard-goes idle (got h) w = go (l .phase)
@@ -259,7 +260,7 @@ module _ (l : Lane) (s : List ℕ) where
   unfolding Right
   end-right m c f p = closing-ends m c p ∙ sym f
 
-  waiting-ends : (h : Header) → wholeHeader s ≡ got h → Right (heardWaiting l h)
+  waiting-ends : (h : Heading) → wholeHeader s ≡ got h → Right (heardWaiting l h)
   unfolding heardWaiting endsIn endsBy readOf
   waiting-ends h w =
       pick-test Right (eqb (h .size) 0)
@@ -285,7 +286,7 @@ module _ (l : Lane) (s : List ℕ) where
       (λ e. let q = both (m .class) (m .instruction) 0x04 0x0F e in open-right _ (reported-open l _ _) (ap endsBy r ∙ rw (q .0)))
       (λ _. open-right Stays refl (ap endsBy r ∙ rw (n, b, a)))))
 
-  running-ends : (h : Header) → wholeHeader s ≡ got h → Right (heardRunning l s h)
+  running-ends : (h : Heading) → wholeHeader s ≡ got h → Right (heardRunning l s h)
   unfolding heardRunning afterBody readOf
   running-ends h w =
       pick-test Right (among runningPairs (h .class * 256 + h .instruction))
@@ -302,7 +303,7 @@ module _ (l : Lane) (s : List ℕ) where
       go (refused f) e t = refused-right _
       go (got m) e t = moved-ends m e (rw (of-header s h m (sym (then-on _ h w) ∙ e)) (ne-eqb (h .class) 0x84 (not-84 t)))
 
-  heard-ends : (r : Reading Header) → wholeHeader s ≡ r → Right (afterHeader l s r)
+  heard-ends : (r : Reading Heading) → wholeHeader s ≡ r → Right (afterHeader l s r)
   unfolding afterHeader heardBy
   heard-ends (refused f) w = refused-right _
   heard-ends (got h) w = go (l .phase)

@@ -15,8 +15,8 @@ use Rattle.zvt_rules.specs.Grammar.{Decimals, SizeOk, FieldOk, ListOk, FieldsOk
 use Rattle.zvt_rules.specs.Digits.{digitBytesOf, numberOf}
 use Rattle.zvt_rules.specs.Values.{valueIn, fieldValue}
 use Rattle.zvt_rules.proofs.DigitLaws.{digits-size, digits-decimal, number-same}
-use Rattle.zvt_rules.proofs.Numbers.{between}
 use Rattle.zvt_rules.proofs.MessageBytes.{read-complete}
+use Rattle.zvt_rules.proofs.Tests.{between}
 use Rattle.desk_rules.specs.declared.Opening.{Opening}
 use Rattle.desk_rules.specs.declared.Opening.the-variants.{Sale as sale, Refund as refund, Reversal as reversal}
 use Rattle.desk_rules.specs.declared.Phase.{Phase}

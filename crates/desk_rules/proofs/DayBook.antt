@@ -15,8 +15,8 @@ use Rattle.zvt_rules.specs.Reading.{pick}
 use Rattle.desk_rules.specs.Lanes.{blankLine, idleLane, placeTaken}
 use Rattle.desk_rules.specs.Course.{Call}
 use Rattle.desk_rules.specs.Desk.{fresh, Accepted, run}
-use Rattle.desk_rules.specs.Runs.{callsOf, Own, own, total, oneOpened, openings}
-use Rattle.desk_rules.specs.Payments.{paymentsOf, joined, oneByOne, NoneOpens, Begins, Whole, askedLane, pays, paying, lineOf, linesOf, LaneSays}
+use Rattle.desk_rules.specs.Runs.{callsOf, Own, ownOf, total, oneOpened, openings}
+use Rattle.desk_rules.specs.Payments.{paymentsOf, flattened, oneByOne, NoneOpens, Begins, WholePayment, askedLane, pays, paying, lineOf, linesOf, LaneSays}
 use Rattle.desk_rules.proofs.Lanes.{total-append, not-opened, asked-kind, places-total}
 use Rattle.desk_rules.proofs.Runs.{count}
 use Rattle.desk_rules.proofs.Kept.{Blocks, Kept, kept-lines, kept}
@@ -25,7 +25,7 @@ pub book : (cs : List Call) → Accepted fresh cs → run fresh cs .lines ≡ li
 book cs h = kept-lines (kept cs h)
 
 -- each lane is what the calls of its open payment make of it
-pub lane-of-open : (cs : List Call) → Accepted fresh cs → (k : ℕ) → LaneSays k (own k (run fresh cs)) (getD (paymentsOf cs .ongoing) k [])
+pub lane-of-open : (cs : List Call) → Accepted fresh cs → (k : ℕ) → LaneSays k (ownOf k (run fresh cs)) (getD (paymentsOf cs .ongoing) k [])
 lane-of-open cs h k = kept cs h .each k .says
 
 -- ---- line j is made by payment j, of those that take a place in the book
@@ -91,8 +91,8 @@ total-alike f g d e [] (y ∷ ys) l h = absurd (omega arith)
 total-alike f g d e (x ∷ xs) [] l h = absurd (omega arith)
 total-alike f g d e (x ∷ xs) (y ∷ ys) l h = omega (arith, h 0, total-alike f g d e xs ys (omega arith) (λ k. h (suc k)))
 
-openings-joined : (ps : List (List Call)) → openings (joined ps) ≡ total openings ps
-unfolding joined total
+openings-joined : (ps : List (List Call)) → openings (flattened ps) ≡ total openings ps
+unfolding flattened total
 openings-joined [] = refl
 openings-joined (p ∷ ps) = rw (total-append, openings-joined ps)
 
@@ -110,7 +110,7 @@ unfolding Blocks total
 blocks-count ls [] b = refl
 blocks-count ls (p ∷ ps) b = omega (arith, begins-one p (b .0 .begins), blocks-count _ ps (b .1))
 
-blocks-whole : (ls : List Line) (ps : List (List Call)) → Blocks ls ps → (j : ℕ) → j < length ps → Whole (getD ps j [])
+blocks-whole : (ls : List Line) (ps : List (List Call)) → Blocks ls ps → (j : ℕ) → j < length ps → WholePayment (getD ps j [])
 unfolding Blocks
 blocks-whole ls [] b j h = absurd (omega arith)
 blocks-whole ls (p ∷ ps) b zero h = let x = b .0 in (x .lane, x .small, x .its (x .lane) ∙ rw (eq-eqb (x .lane) (x .lane) refl), x .begins)
@@ -125,9 +125,9 @@ says-begins k w (o ∷ ds) h = inr (h .1)
 -- place in the book, ended or ongoing, are as many as were opened
 pub record Paid (cs : List Call) : Type 0 where
   pub number : length (paying (paymentsOf cs .ended)) + total paid (paymentsOf cs .ongoing) ≡ openings cs
-  pub ended : (j : ℕ) → j < length (paymentsOf cs .ended) → Whole (getD (paymentsOf cs .ended) j [])
+  pub ended : (j : ℕ) → j < length (paymentsOf cs .ended) → WholePayment (getD (paymentsOf cs .ended) j [])
   pub ongoing : (k : ℕ) → (getD (paymentsOf cs .ongoing) k [] ≡ []) ⊎ Begins (getD (paymentsOf cs .ongoing) k [])
-  pub calls : (k : ℕ) → callsOf k cs ≡ callsOf k (joined (paymentsOf cs .ended)) ++ getD (paymentsOf cs .ongoing) k []
+  pub calls : (k : ℕ) → callsOf k cs ≡ callsOf k (flattened (paymentsOf cs .ended)) ++ getD (paymentsOf cs .ongoing) k []
 
 pub every-opening : (cs : List Call) → Accepted fresh cs → Paid cs
 every-opening cs h =

@@ -17,8 +17,8 @@ use Rattle.desk_rules.specs.Numbers.{laneCount}
 use Rattle.desk_rules.specs.Lanes.{idleLane}
 use Rattle.desk_rules.specs.Course.{Call, laneOf, moves}
 use Rattle.desk_rules.specs.Desk.{State, fresh, laneAfter, lineIf, linesFrom, step, Accepts, Accepted, run}
-use Rattle.desk_rules.specs.Runs.{having, ofLane, callsOf, Own, own}
-use Rattle.desk_rules.specs.Payments.{Payments, withCall, paymentsFrom, paymentsOf, joined, pays, paying, lineOf, linesOf, Begins, LaneSays}
+use Rattle.desk_rules.specs.Runs.{having, ofLane, callsOf, Own, ownOf}
+use Rattle.desk_rules.specs.Payments.{Payments, withCall, paymentsFrom, paymentsOf, flattened, pays, paying, lineOf, linesOf, Begins, LaneSays}
 use Rattle.desk_rules.proofs.Calls.{endsIn, ends-same}
 use Rattle.desk_rules.proofs.Lanes.{having-append, moves-local, after, by-lane, told, lanes-step}
 use Rattle.desk_rules.proofs.Payment.{lineFrom, Goes, goes, Brings, brings-more, Open, open-none, its-more}
@@ -62,8 +62,8 @@ unfolding bookOf
 book-snoc ls [] p = refl
 book-snoc ls (x ∷ ps) p = book-snoc (ls ++ lineFrom ls x) ps p
 
-joined-append : (ps qs : List (List Call)) → joined (ps ++ qs) ≡ joined ps ++ joined qs
-unfolding joined
+joined-append : (ps qs : List (List Call)) → flattened (ps ++ qs) ≡ flattened ps ++ flattened qs
+unfolding flattened
 joined-append [] qs = refl
 joined-append (p ∷ ps) qs = rw (joined-append ps qs, append-assoc)
 
@@ -72,8 +72,8 @@ joined-append (p ∷ ps) qs = rw (joined-append ps qs, append-assoc)
 pub record Kept (s : State) (p : Payments) (past : List Call) : Type 0 where
   pub lanes : length (s .lanes) ≡ laneCount
   pub slots : length (p .ongoing) ≡ laneCount
-  pub calls : (k : ℕ) → callsOf k past ≡ callsOf k (joined (p .ended)) ++ getD (p .ongoing) k []
-  pub each : (k : ℕ) → Open k (own k s) (getD (p .ongoing) k [])
+  pub calls : (k : ℕ) → callsOf k past ≡ callsOf k (flattened (p .ended)) ++ getD (p .ongoing) k []
+  pub each : (k : ℕ) → Open k (ownOf k s) (getD (p .ongoing) k [])
   pub blocks : Blocks [] (p .ended)
   pub lines : s .lines ≡ bookOf [] (p .ended)
 
@@ -86,7 +86,7 @@ getD-set xs i k x d h = go (eqb i k) refl
 
 -- the call's lane, its payment with the call, and what the call does
 abbrev mine : State → Call → Own
-mine s c = own (laneOf c) s
+mine s c = ownOf (laneOf c) s
 
 abbrev grown : Payments → Call → List Call
 grown p c = getD (p .ongoing) (laneOf c) [] ++ (c ∷ [])
@@ -96,7 +96,7 @@ turn s c = moves (mine s c .lane) (mine s c .lines) c
 
 -- the payment with the call stands in ys, ended, or in x, still open
 kept-with : (s : State) (p : Payments) (past : List Call) (c : Call) → Kept s p past → Accepts s c
-    → (ys : List (List Call)) (x : List Call) → joined ys ++ x ≡ grown p c
+    → (ys : List (List Call)) (x : List Call) → flattened ys ++ x ≡ grown p c
     → Open (laneOf c) (after (mine s c) c) x → Blocks [] (p .ended ++ ys)
     → s .lines ++ linesFrom (laneOf c) (mine s c .lane) (turn s c) ≡ bookOf [] (p .ended ++ ys)
     → Kept (step s c) (record { ended = p .ended ++ ys; ongoing = set (p .ongoing) (laneOf c) x }) (past ++ (c ∷ []))
@@ -117,29 +117,29 @@ kept-with s p past c kept h ys x e now blocks lines =
     at : (k : ℕ) → getD (set (p .ongoing) (laneOf c) x) k [] ≡ pick (eqb (laneOf c) k) x (getD (p .ongoing) k [])
     at k = getD-set (p .ongoing) (laneOf c) k x [] (omega (arith, small, kept .slots))
 
-    go : (k : ℕ) (b : Bool) → eqb (laneOf c) k ≡ b → callsOf k (joined ys) ++ pick b x [] ≡ pick b (grown p c) []
-        → getD (p .ongoing) k [] ++ pick b (c ∷ []) [] ≡ callsOf k (joined ys) ++ pick b x (getD (p .ongoing) k [])
+    go : (k : ℕ) (b : Bool) → eqb (laneOf c) k ≡ b → callsOf k (flattened ys) ++ pick b x [] ≡ pick b (grown p c) []
+        → getD (p .ongoing) k [] ++ pick b (c ∷ []) [] ≡ callsOf k (flattened ys) ++ pick b x (getD (p .ongoing) k [])
     go k true q f = sym (rw (eqb-true (laneOf c) k q) at f)
-    go k false q f = rw (append-nil, sym (append-nil (callsOf k (joined ys))) ∙ f)
+    go k false q f = rw (append-nil, sym (append-nil (callsOf k (flattened ys))) ∙ f)
 
-    calls : (k : ℕ) → callsOf k (past ++ (c ∷ [])) ≡ callsOf k (joined (p .ended ++ ys)) ++ getD (set (p .ongoing) (laneOf c) x) k []
+    calls : (k : ℕ) → callsOf k (past ++ (c ∷ [])) ≡ callsOf k (flattened (p .ended ++ ys)) ++ getD (set (p .ongoing) (laneOf c) x) k []
     calls k =
         rw (
           having-append laneOf k past,
           kept .calls k,
           joined-append,
-          having-append laneOf k (joined (p .ended)),
-          append-assoc (callsOf k (joined (p .ended))) (getD (p .ongoing) k []),
+          having-append laneOf k (flattened (p .ended)),
+          append-assoc (callsOf k (flattened (p .ended))) (getD (p .ongoing) k []),
           append-assoc,
           at k,
         )
-        (ap (λ (z : List Call). callsOf k (joined (p .ended)) ++ z)
-        (go k (eqb (laneOf c) k) refl (rw (← now .its k, ← having-append laneOf k (joined ys) x, e)
+        (ap (λ (z : List Call). callsOf k (flattened (p .ended)) ++ z)
+        (go k (eqb (laneOf c) k) refl (rw (← now .its k, ← having-append laneOf k (flattened ys) x, e)
         (its-more (getD (p .ongoing) (laneOf c) []) c (kept .each (laneOf c) .its) k))))
 
 -- an accepted call goes on with its lane's payment, or ends it
 kept-step : (s : State) (p : Payments) (past : List Call) (c : Call) → Kept s p past → Accepts s c → Kept (step s c) (withCall p c) (past ++ (c ∷ []))
-unfolding withCall endsIn laneAfter linesFrom after joined Goes
+unfolding withCall endsIn laneAfter linesFrom after flattened Goes
 kept-step s p past c kept h =
     let passes = rw moves-local at (told s c h .moved) in
     rw (← ends-same (w .lane) (w .lines) c passes) (go (turn s c) refl (goes i w q c (now .says) refl passes))
@@ -201,7 +201,7 @@ pub kept-lines : {s : State} {p : Payments} {past : List Call} → Kept s p past
 kept-lines k = k .lines ∙ book-lines [] _
 
 pub kept : (cs : List Call) → Accepted fresh cs → Kept (run fresh cs) (paymentsOf cs) cs
-unfolding paymentsOf fresh having joined Blocks bookOf
+unfolding paymentsOf fresh having flattened Blocks bookOf
 kept cs h = kept-run fresh (record { ended = []; ongoing = replicate laneCount [] }) [] cs first h
   where
     first : Kept fresh (record { ended = []; ongoing = replicate laneCount [] }) []

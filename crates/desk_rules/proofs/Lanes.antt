@@ -20,7 +20,7 @@ use Rattle.desk_rules.specs.Lanes.{noStatus, idleLane, runningLane, line
 use Rattle.desk_rules.specs.Openings.{kindOf, refersTo, concerns, lastFrom, lastLine, openedLane}
 use Rattle.desk_rules.specs.Course.{openedBy, Call, opening, message, lost, laneOf, opens, needsPlace, moves, writes}
 use Rattle.desk_rules.specs.Desk.{State, laneAt, placesTaken, load, Decision, refuse, accept, unlessRefused, decide, laneAfter, lineIf, linesFrom, step, Accepts}
-use Rattle.desk_rules.specs.Runs.{having, ofLane, Own, own, total, oneOpened}
+use Rattle.desk_rules.specs.Runs.{having, ofLane, Own, ownOf, total, oneOpened}
 use Rattle.desk_rules.specs.Payments.{askOf, askedLane}
 use Rattle.desk_rules.proofs.Calls.{Passes, opened, Later, later}
 
@@ -95,7 +95,7 @@ lines-own i k l (Ends outcome settled code) = go (booked (l .kind))
     go true = refl
     go false = none (eqb i k)
 
-own-same : (s : State) (c : Call) → laneOf c < length (s .lanes) → own (laneOf c) (step s c) ≡ after (own (laneOf c) s) c
+own-same : (s : State) (c : Call) → laneOf c < length (s .lanes) → ownOf (laneOf c) (step s c) ≡ after (ownOf (laneOf c) s) c
 unfolding step after
 own-same s c h =
     let l = laneAt (s .lanes) (laneOf c) in
@@ -107,7 +107,7 @@ own-same s c h =
       moves-local l (s .lines) c,
     )
 
-own-other : (s : State) (c : Call) (k : ℕ) → (laneOf c ≡ k → ⊥) → own k (step s c) ≡ own k s
+own-other : (s : State) (c : Call) (k : ℕ) → (laneOf c ≡ k → ⊥) → ownOf k (step s c) ≡ ownOf k s
 unfolding step
 own-other s c k n =
     let l = laneAt (s .lanes) (laneOf c) in
@@ -124,12 +124,12 @@ pub isolation : (s : State) (c : Call) (k : ℕ) → (laneOf c ≡ k → ⊥)
 isolation s c k n = let e = own-other s c k n in (ap (λ (o : Own). o .lane) e, ap (λ (o : Own). o .lines) e)
 
 -- what holds of the call's lane as the call leaves it, and of the other lanes as they were, holds of every lane after the call
-pub by-lane : (s : State) (c : Call) → laneOf c < length (s .lanes) → (P : ℕ → Bool → Own → Type 0) → P (laneOf c) true (after (own (laneOf c) s) c)
-    → ((k : ℕ) → (laneOf c ≡ k → ⊥) → P k false (own k s)) → (k : ℕ) → P k (eqb (laneOf c) k) (own k (step s c))
+pub by-lane : (s : State) (c : Call) → laneOf c < length (s .lanes) → (P : ℕ → Bool → Own → Type 0) → P (laneOf c) true (after (ownOf (laneOf c) s) c)
+    → ((k : ℕ) → (laneOf c ≡ k → ⊥) → P k false (ownOf k s)) → (k : ℕ) → P k (eqb (laneOf c) k) (ownOf k (step s c))
 by-lane s c h P mine other k = go (eqb (laneOf c) k) refl
   where
-    go : (b : Bool) → eqb (laneOf c) k ≡ b → P k b (own k (step s c))
-    go true e = subst (λ (j : ℕ). P j true (own j (step s c))) (eqb-true _ _ e) (subst (P (laneOf c) true) (sym (own-same s c h)) mine)
+    go : (b : Bool) → eqb (laneOf c) k ≡ b → P k b (ownOf k (step s c))
+    go true e = subst (λ (j : ℕ). P j true (ownOf j (step s c))) (eqb-true _ _ e) (subst (P (laneOf c) true) (sym (own-same s c h)) mine)
     go false e = rw (own-other s c k (eqb-false _ _ e)) (other k (eqb-false _ _ e))
 
 -- ---- accepted calls

@@ -6,12 +6,13 @@ use mathlib.Core.List.{List, [], _∷_, _++_, append-nil}
 use Prim.Native.Nat.{ℕ, zero, suc, _+_, _≤_, _<_}
 use native.Mathlib.Numerals.{add-one}
 use native.Mathlib.Omega.{arith}
-use lib.ListN.{length, getD, set, take, drop, replicate, length-set}
+use lib.ListN.{length, getD, set, take, replicate, length-set}
 use lib.Seq.{length-take-le, set-getD, take-suc-set}
 use lib.Dec.{ltb, leb}
 use borrow.Author.Tests.{leb-false, ltb-false}
 use Rattle.zvt_rules.specs.Reading.{pick}
-use Rattle.zvt_rules.proofs.Readings.{pick-test}
+use Rattle.zvt_rules.specs.Buffers.{front}
+use Rattle.zvt_rules.proofs.Tests.{pick-test}
 use Rattle.desk_rules.specs.declared.Lane.{Lane}
 use Rattle.desk_rules.specs.declared.Line.{Line}
 use Rattle.desk_rules.specs.declared.Moved.{Moved}
@@ -233,7 +234,7 @@ module _ (d : Desk) (c : Call) (out : List ℕ) where
   refused-leaves n e = rw (e, leavesBy)
 
   pub accepted-leaves : decide (view d) c (length out) ≡ accept
-      → let w = writes (laneFor d c) c in leavesOf d c out ≡ w ++ drop (length w) out
+      → leavesOf d c out ≡ front (writes (laneFor d c) c) out
   unfolding leavesOf leavesBy
   accepted-leaves e = rw (e, leavesBy)
 

@@ -13,8 +13,8 @@ use Rattle.desk_rules.specs.Numbers.{laneCount}
 use Rattle.desk_rules.specs.Lanes.{idleLane, placeTaken}
 use Rattle.desk_rules.specs.Course.{Call, laneOf}
 use Rattle.desk_rules.specs.Desk.{State, fresh, laneAt, placesTaken, load, step, Accepted, run}
-use Rattle.desk_rules.specs.Runs.{having, callsOf, Own, own}
-use Rattle.desk_rules.specs.Payments.{paymentsOf, joined, oneByOne}
+use Rattle.desk_rules.specs.Runs.{having, callsOf, Own, ownOf}
+use Rattle.desk_rules.specs.Payments.{paymentsOf, flattened, oneByOne}
 use Rattle.desk_rules.proofs.Lanes.{having-append}
 use Rattle.desk_rules.proofs.Runs.{run-append, lanes-run, count, alone, AcceptedAlone, repliesTo, repliesAlone, run-alone, replies-alone, accepted-alone, accepted-from}
 use Rattle.desk_rules.proofs.Payment.{lineFrom, Brings, idle-again}
@@ -24,8 +24,8 @@ use Rattle.desk_rules.proofs.DayBook.{openings-same}
 -- ---- the calls of a lane are the same, in the same order
 
 -- of lists of which only one has calls of lane k, that one's
-one-of : (k i : ℕ) (os : List (List Call)) → ((j : ℕ) → (j ≡ i → ⊥) → callsOf k (getD os j []) ≡ []) → callsOf k (joined os) ≡ callsOf k (getD os i [])
-unfolding joined having
+one-of : (k i : ℕ) (os : List (List Call)) → ((j : ℕ) → (j ≡ i → ⊥) → callsOf k (getD os j []) ≡ []) → callsOf k (flattened os) ≡ callsOf k (getD os i [])
+unfolding flattened having
 one-of k i [] h = refl
 one-of k zero (o ∷ os) h =
     rw (
@@ -41,7 +41,7 @@ same-calls cs h k =
     let p = paymentsOf cs in
     let r = kept cs h in
     rw (
-      having-append laneOf k (joined (p .ended)),
+      having-append laneOf k (flattened (p .ended)),
       one-of k k (p .ongoing) (λ j n. r .each j .its k ∙ rw (ne-eqb j k n)),
       r .each k .its k,
       eq-eqb k k refl,
@@ -51,12 +51,12 @@ same-calls cs h k =
 
 -- ended payments one after the other bring their lines, and leave the lanes idle
 blocks-run : (ps : List (List Call)) (s : State) → length (s .lanes) ≡ laneCount → ((k : ℕ) → laneAt (s .lanes) k ≡ idleLane) → Blocks (s .lines) ps
-    → run s (joined ps) ≡ record { lanes = s .lanes; lines = bookOf (s .lines) ps }
-unfolding joined run bookOf Blocks Brings
+    → run s (flattened ps) ≡ record { lanes = s .lanes; lines = bookOf (s .lines) ps }
+unfolding flattened run bookOf Blocks Brings
 blocks-run [] s e idle b = refl
 blocks-run (p ∷ ps) s e idle b =
     let x = b .0 in
-    rw (run-append s p (joined ps), x .brings s (omega (arith, x .small)) (idle (x .lane)) refl, idle-again (s .lanes) (x .lane) (idle (x .lane)))
+    rw (run-append s p (flattened ps), x .brings s (omega (arith, x .small)) (idle (x .lane)) refl, idle-again (s .lanes) (x .lane) (idle (x .lane)))
     (blocks-run ps (record { lanes = s .lanes; lines = s .lines ++ lineFrom (s .lines) p }) e idle (b .1))
 
 lines-run : (s : State) (cs : List Call) → (more : List Line) × (run s cs .lines ≡ s .lines ++ more)
@@ -73,9 +73,9 @@ lines-one-by-one : (cs : List Call) → Accepted fresh cs → (more : List Line)
 unfolding oneByOne fresh
 lines-one-by-one cs h =
     let p = paymentsOf cs in
-    let g = lines-run (run fresh (joined (p .ended))) (joined (p .ongoing)) in (
+    let g = lines-run (run fresh (flattened (p .ended))) (flattened (p .ongoing)) in (
       g .0,
-      rw (run-append fresh (joined (p .ended)) (joined (p .ongoing)), kept cs h .lines)
+      rw (run-append fresh (flattened (p .ended)) (flattened (p .ongoing)), kept cs h .lines)
           (g .1 ∙ ap (λ (s : State). s .lines ++ g .0) (blocks-run (p .ended) fresh refl (λ k. all-same laneCount k idleLane) (kept cs h .blocks))),
     )
 
@@ -92,16 +92,16 @@ order cs h = (
         openings-same cs h,
         ap placesTaken lanes,
       ))),
-  λ k. replies-alone fresh (oneByOne cs) k refl accepted ∙ ap (repliesAlone (own k fresh)) (same-calls cs h k) ∙ sym (replies-alone fresh cs k refl h),
+  λ k. replies-alone fresh (oneByOne cs) k refl accepted ∙ ap (repliesAlone (ownOf k fresh)) (same-calls cs h k) ∙ sym (replies-alone fresh cs k refl h),
 )
   where
     accepted : Accepted fresh (oneByOne cs)
     accepted =
-        accepted-from fresh (oneByOne cs) refl (λ k. subst (AcceptedAlone (own k fresh)) (sym (same-calls cs h k)) (accepted-alone fresh cs k refl h))
+        accepted-from fresh (oneByOne cs) refl (λ k. subst (AcceptedAlone (ownOf k fresh)) (sym (same-calls cs h k)) (accepted-alone fresh cs k refl h))
         (omega (arith, openings-same cs h, count cs h .1))
 
-    each : (k : ℕ) → own k (run fresh (oneByOne cs)) ≡ own k (run fresh cs)
-    each k = run-alone fresh (oneByOne cs) k refl accepted ∙ ap (alone (own k fresh)) (same-calls cs h k) ∙ sym (run-alone fresh cs k refl h)
+    each : (k : ℕ) → ownOf k (run fresh (oneByOne cs)) ≡ ownOf k (run fresh cs)
+    each k = run-alone fresh (oneByOne cs) k refl accepted ∙ ap (alone (ownOf k fresh)) (same-calls cs h k) ∙ sym (run-alone fresh cs k refl h)
 
     lanes : run fresh (oneByOne cs) .lanes ≡ run fresh cs .lanes
     lanes = ext-getD idleLane _ _ (lanes-run fresh (oneByOne cs) ∙ sym (lanes-run fresh cs)) (λ k _. ap (λ (o : Own). o .lane) (each k))

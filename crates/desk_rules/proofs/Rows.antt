@@ -13,9 +13,9 @@ use Rattle.zvt_rules.specs.declared.Status.{Status}
 use Rattle.zvt_rules.specs.declared.ToldCode.{ToldCode}
 use Rattle.zvt_rules.specs.declared.ToldCode.the-variants.{Missing, Code}
 use Rattle.zvt_rules.specs.Reading.{Reading, got, refused, pick, among}
-use Rattle.zvt_rules.specs.Message.{Header, wholeHeader, Body, bytes, listed, Message, layoutOf, bodyOf, messageOf, readOf}
-use Rattle.zvt_rules.proofs.Readings.{got-same, then-got, pick-test}
-use Rattle.zvt_rules.proofs.Numbers.{between}
+use Rattle.zvt_rules.specs.Message.{Heading, wholeHeader, Body, bytes, listed, Message, layoutOf, bodyOf, messageOf, readOf}
+use Rattle.zvt_rules.proofs.Readings.{got-same, then-got}
+use Rattle.zvt_rules.proofs.Tests.{pick-test, pick-same, pick-under, leb-test, eqb-test, and-test, or-test, between, case, no-for}
 use Rattle.desk_rules.specs.declared.Phase.{Phase}
 use Rattle.desk_rules.specs.declared.Phase.the-variants.{Idle, Waiting, Running}
 use Rattle.desk_rules.specs.declared.Lane.{Lane}
@@ -35,28 +35,6 @@ use Rattle.desk_rules.proofs.Commands.{command-size}
 use Rattle.desk_rules.proofs.LastSale.{last-sale}
 
 -- ---- tests and what they say
-case : {A X : Type 0} {t : Bool} → ((t ≡ true) ↔ A) → (A → X) → ((A → ⊥) → X) → X
-case {t = true} r h k = h (r .0 refl)
-case {t = false} r h k = k λ a. false≢true (r .1 a)
-
-no-for : {A : Type 0} {t : Bool} → ((t ≡ true) ↔ A) → (A → ⊥) → t ≡ false
-no-for {t = true} r n = absurd (n (r .0 refl))
-no-for {t = false} r n = refl
-
-leb-test : (m n : ℕ) → (leb m n ≡ true) ↔ (m ≤ n)
-leb-test m n = (leb-true m n, le-leb m n)
-
-eqb-test : (m n : ℕ) → (eqb m n ≡ true) ↔ (m ≡ n)
-eqb-test m n = (eqb-true m n, eq-eqb m n)
-
-and-test : {A B : Type 0} {t u : Bool} → ((t ≡ true) ↔ A) → ((u ≡ true) ↔ B) → (t && u ≡ true) ↔ (A × B)
-and-test {t = true} r q = (λ e. (r .0 refl, q .0 e), λ k. q .1 (k .1))
-and-test {t = false} r q = (λ e. absurd (false≢true e), λ k. r .1 (k .0))
-
-or-test : {A B : Type 0} {t u : Bool} → ((t ≡ true) ↔ A) → ((u ≡ true) ↔ B) → (t || u ≡ true) ↔ (A ⊎ B)
-or-test {t = true} r q = (λ e. inl (r .0 refl), λ k. refl)
-or-test {t = false} r q = (λ e. inr (q .0 e), ⊎-elim (λ a. absurd (false≢true (r .1 a))) (q .1))
-
 idle-test : (p : Phase) → (isIdle p ≡ true) ↔ (p ≡ Idle)
 idle-test Idle = (λ e. refl, λ e. refl)
 idle-test Waiting = (λ e. absurd (false≢true e), λ e. cc)
@@ -153,19 +131,19 @@ among-test [] x = (λ e. false≢true e, λ e. absurd e)
 among-test (k ∷ ks) x = or-test (eqb-test k x) (among-test ks x)
 
 -- the tests of a pair in a phase that is not idle
-unfoldable allowedBy : Phase → Header → Bool
+unfoldable allowedBy : Phase → Heading → Bool
 allowedBy Idle h = false
 allowedBy Waiting h = eqb (h .size) 0 && (pairIs (h .class) (h .instruction) 0x80 0x00 || eqb (h .class) 0x84)
 allowedBy Running h = among runningPairs (h .class * 256 + h .instruction)
 
-allowed-test : (p : Phase) (h : Header) → (allowedBy p h ≡ true) ↔ Allowed p h
+allowed-test : (p : Phase) (h : Heading) → (allowedBy p h ≡ true) ↔ Allowed p h
 unfolding allowedBy
 allowed-test Idle h = (λ e. false≢true e, λ e. absurd e)
 allowed-test Waiting h =
     and-test (eqb-test (h .size) 0) (or-test (and-test (eqb-test (h .class) 0x80) (eqb-test (h .instruction) 0x00)) (eqb-test (h .class) 0x84))
 allowed-test Running h = among-test _ _
 
-waiting-says : (l : Lane) (h : Header) (x : Decision) → unlessRefused (heardWaiting l h) x ≡ pick (allowedBy Waiting h) x (refuse 15)
+waiting-says : (l : Lane) (h : Heading) (x : Decision) → unlessRefused (heardWaiting l h) x ≡ pick (allowedBy Waiting h) x (refuse 15)
 unfolding unlessRefused heardWaiting allowedBy
 waiting-says l h x = simp unless-pick (go (eqb (h .size) 0) (pairIs (h .class) (h .instruction) 0x80 0x00) (eqb (h .class) 0x84))
   where
@@ -274,23 +252,23 @@ module _ (s : State) (i : ℕ) (b : List ℕ) (room : ℕ) where
   unfolding heard
   from-header l n = from-lane l ∙ rw (no-for (idle-test (phaseAt s i)) n)
 
-  allowed-says : (p : Phase) (h : Header) → (p ≡ Idle → ⊥)
+  allowed-says : (p : Phase) (h : Heading) → (p ≡ Idle → ⊥)
       → unlessRefused (heardBy p (laneAt (s .lanes) i) b h) (said p) ≡ pick (allowedBy p h) (further p) (refuse 15)
   unfolding unlessRefused heardBy heardRunning allowedBy said answered further
   allowed-says Idle h n = absurd (n refl)
   allowed-says Waiting h n = waiting-says _ h _ ∙ rw (le-ltb room 0 (omega arith))
   allowed-says Running h n = unless-pick (allowedBy Running h) _ _ _
 
-  from-phase : (h : Header) → i < laneCount → (phaseAt s i ≡ Idle → ⊥) → wholeHeader b ≡ got h
+  from-phase : (h : Heading) → i < laneCount → (phaseAt s i ≡ Idle → ⊥) → wholeHeader b ≡ got h
       → decide s (message i b) room ≡ pick (allowedBy (phaseAt s i) h) (further (phaseAt s i)) (refuse 15)
   unfolding afterHeader
   from-phase h l n e = from-header l n ∙ rw e (allowed-says (phaseAt s i) h n)
 
-  from-allowed : (p : Phase) (h : Header) → i < laneCount → phaseAt s i ≡ p → isIdle p ≡ false → wholeHeader b ≡ got h → Allowed p h
+  from-allowed : (p : Phase) (h : Heading) → i < laneCount → phaseAt s i ≡ p → isIdle p ≡ false → wholeHeader b ≡ got h → Allowed p h
       → decide s (message i b) room ≡ further p
   from-allowed p h l q n e a = from-phase h l (busy q n) e ∙ rw (q, allowed-test p h .1 a)
 
-  from-body : (h : Header) (m : Message) → i < laneCount → phaseAt s i ≡ Running → wholeHeader b ≡ got h → Allowed Running h → readOf b ≡ got m
+  from-body : (h : Heading) (m : Message) → i < laneCount → phaseAt s i ≡ Running → wholeHeader b ≡ got h → Allowed Running h → readOf b ≡ got m
       → decide s (message i b) room ≡ pick (emptyAbort m) (refuse 1) (pick (ltb room 3) (refuse 11) accept)
   unfolding further afterBody said answered
   from-body h m l q e a r = from-allowed Running h l q refl e a ∙ rw r (moved-says b _ m _ r)
@@ -310,20 +288,20 @@ module _ (s : State) (i : ℕ) (b : List ℕ) (room : ℕ) where
   put : {d : Decision} → HearingRow s i b room d → HearingRow s i b room (decide s (message i b) room)
   put r = rw (hearing-given r) r
 
-  body-found : (h : Header) → i < laneCount → phaseAt s i ≡ Running → wholeHeader b ≡ got h → Allowed Running h
+  body-found : (h : Heading) → i < laneCount → phaseAt s i ≡ Running → wholeHeader b ≡ got h → Allowed Running h
       → (x : Reading Message) → readOf b ≡ x → HearingRow s i b room (decide s (message i b) room)
   body-found h l p e a (refused f) r = put (bad-body (f .number) h f l p e a r refl)
   body-found h l p e a (got m) r =
       case (abort-test m) (λ k. put (no-code h m l p e a r k)) λ k.
       case (leb-test (suc room) 3) (λ t. put (tight h m l p e a r k t)) (λ t. put (heard-running h m l p e a r k (omega arith)))
 
-  phase-found : (h : Header) → i < laneCount → (phaseAt s i ≡ Idle → ⊥) → wholeHeader b ≡ got h
+  phase-found : (h : Heading) → i < laneCount → (phaseAt s i ≡ Idle → ⊥) → wholeHeader b ≡ got h
       → (p : Phase) → phaseAt s i ≡ p → Allowed p h → HearingRow s i b room (decide s (message i b) room)
   phase-found h l n e Idle q a = absurd (n q)
   phase-found h l n e Waiting q a = put (heard-waiting h l q e a)
   phase-found h l n e Running q a = body-found h l q e a (readOf b) refl
 
-  header-found : i < laneCount → (phaseAt s i ≡ Idle → ⊥) → (x : Reading Header) → wholeHeader b ≡ x
+  header-found : i < laneCount → (phaseAt s i ≡ Idle → ⊥) → (x : Reading Heading) → wholeHeader b ≡ x
       → HearingRow s i b room (decide s (message i b) room)
   header-found l n (refused f) e = put (bad-header (f .number) f l n e refl)
   header-found l n (got h) e =

@@ -11,7 +11,7 @@ use Rattle.desk_rules.specs.Numbers.{laneCount, bookLines}
 use Rattle.desk_rules.specs.Lanes.{placeTaken}
 use Rattle.desk_rules.specs.Course.{Call, laneOf, needsPlace, moves, writes}
 use Rattle.desk_rules.specs.Desk.{State, fresh, laneAt, placesTaken, load, step, Accepted, run, wrote}
-use Rattle.desk_rules.specs.Runs.{having, callsOf, Own, own, total, oneOpened, openings, Exchange, replies}
+use Rattle.desk_rules.specs.Runs.{having, callsOf, Own, ownOf, total, oneOpened, openings, Exchange, replies}
 use Rattle.desk_rules.proofs.Calls.{Passes}
 use Rattle.desk_rules.proofs.Lanes.{moves-local, after, by-lane, Told, told, tell, opened-one, lanes-step, load-step}
 
@@ -72,15 +72,15 @@ unfoldable pub repliesAlone : Own → List Call → List Exchange
 repliesAlone o [] = []
 repliesAlone o (c ∷ cs) = record { call = c; wrote = writes (o .lane) c } ∷ repliesAlone (after o c) cs
 
-pub run-alone : (s : State) (cs : List Call) (k : ℕ) → length (s .lanes) ≡ laneCount → Accepted s cs → own k (run s cs) ≡ alone (own k s) (callsOf k cs)
+pub run-alone : (s : State) (cs : List Call) (k : ℕ) → length (s .lanes) ≡ laneCount → Accepted s cs → ownOf k (run s cs) ≡ alone (ownOf k s) (callsOf k cs)
 unfolding run Accepted alone having
 run-alone s [] k e h = refl
 run-alone s (c ∷ cs) k e h =
     run-alone (step s c) cs k (lanes-step s c ∙ e) (h .1)
     ∙ by-lane s c (omega (arith, told s c (h .0) .lane))
-    (λ j b o. alone o (callsOf j cs) ≡ alone (own j s) (pick b (c ∷ callsOf j cs) (callsOf j cs))) refl (λ j n. refl) k
+    (λ j b o. alone o (callsOf j cs) ≡ alone (ownOf j s) (pick b (c ∷ callsOf j cs) (callsOf j cs))) refl (λ j n. refl) k
 
-pub replies-alone : (s : State) (cs : List Call) (k : ℕ) → length (s .lanes) ≡ laneCount → Accepted s cs → repliesTo k s cs ≡ repliesAlone (own k s) (callsOf k cs)
+pub replies-alone : (s : State) (cs : List Call) (k : ℕ) → length (s .lanes) ≡ laneCount → Accepted s cs → repliesTo k s cs ≡ repliesAlone (ownOf k s) (callsOf k cs)
 unfolding repliesTo repliesAlone replies wrote Accepted having
 replies-alone s [] k e h = refl
 replies-alone s (c ∷ cs) k e h =
@@ -88,17 +88,17 @@ replies-alone s (c ∷ cs) k e h =
     rw (replies-alone (step s c) cs k (lanes-step s c ∙ e) (h .1))
     (by-lane s c (omega (arith, told s c (h .0) .lane))
     (λ j b o. pick b (reply ∷ repliesAlone o (callsOf j cs)) (repliesAlone o (callsOf j cs))
-    ≡ repliesAlone (own j s) (pick b (c ∷ callsOf j cs) (callsOf j cs))) refl (λ j n. refl) k)
+    ≡ repliesAlone (ownOf j s) (pick b (c ∷ callsOf j cs) (callsOf j cs))) refl (λ j n. refl) k)
 
-pub accepted-alone : (s : State) (cs : List Call) (k : ℕ) → length (s .lanes) ≡ laneCount → Accepted s cs → AcceptedAlone (own k s) (callsOf k cs)
+pub accepted-alone : (s : State) (cs : List Call) (k : ℕ) → length (s .lanes) ≡ laneCount → Accepted s cs → AcceptedAlone (ownOf k s) (callsOf k cs)
 unfolding Accepted AcceptedAlone having
 accepted-alone s [] k e h = tt
 accepted-alone s (c ∷ cs) k e h =
     let t = told s c (h .0) in
-    by-lane s c (omega (arith, t .lane)) (λ j b o. AcceptedAlone o (callsOf j cs) → AcceptedAlone (own j s) (pick b (c ∷ callsOf j cs) (callsOf j cs)))
+    by-lane s c (omega (arith, t .lane)) (λ j b o. AcceptedAlone o (callsOf j cs) → AcceptedAlone (ownOf j s) (pick b (c ∷ callsOf j cs) (callsOf j cs)))
     (λ a. (t .lane, rw moves-local at (t .moved), a)) (λ j n a. a) k (accepted-alone (step s c) cs k (lanes-step s c ∙ e) (h .1))
 
-pub accepted-from : (s : State) (cs : List Call) → length (s .lanes) ≡ laneCount → ((k : ℕ) → AcceptedAlone (own k s) (callsOf k cs))
+pub accepted-from : (s : State) (cs : List Call) → length (s .lanes) ≡ laneCount → ((k : ℕ) → AcceptedAlone (ownOf k s) (callsOf k cs))
     → load s + openings cs ≤ bookLines → Accepted s cs
 unfolding Accepted AcceptedAlone having total
 accepted-from s [] e al r = tt
@@ -106,11 +106,11 @@ accepted-from s (c ∷ cs) e al r = (
   tell s c t,
   accepted-from (step s c) cs (lanes-step s c ∙ e)
       (λ k. by-lane s c (omega (arith, t .lane))
-      (λ j b o. AcceptedAlone (own j s) (pick b (c ∷ callsOf j cs) (callsOf j cs)) → AcceptedAlone o (callsOf j cs)) (λ a. a .2) (λ j n a. a) k (al k))
+      (λ j b o. AcceptedAlone (ownOf j s) (pick b (c ∷ callsOf j cs) (callsOf j cs)) → AcceptedAlone o (callsOf j cs)) (λ a. a .2) (λ j n a. a) k (al k))
       (omega (arith, load-step s c e (tell s c t))),
 )
   where
-    first : AcceptedAlone (own (laneOf c) s) (c ∷ callsOf (laneOf c) cs)
+    first : AcceptedAlone (ownOf (laneOf c) s) (c ∷ callsOf (laneOf c) cs)
     first = rw (eq-eqb (laneOf c) (laneOf c) refl) at (al (laneOf c))
 
     t : Told s c

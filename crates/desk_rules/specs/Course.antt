@@ -4,7 +4,7 @@ use mathlib.Core.Bool.{Bool, true, false, not, _&&_, _||_}
 use mathlib.Core.List.{List, [], _∷_}
 use lib.Dec.{eqb}
 use Rattle.zvt_rules.specs.Reading.{Reading, got, refused, pick, among}
-use Rattle.zvt_rules.specs.Message.{Header, wholeHeader, Body, bytes, listed, Message, readOf}
+use Rattle.zvt_rules.specs.Message.{Heading, wholeHeader, Body, bytes, listed, Message, readOf}
 use Rattle.zvt_rules.specs.Values.{statusIn, bodyFields}
 use Rattle.zvt_rules.specs.Grammar.{Bytes}
 use Rattle.zvt_rules.specs.declared.Status.{Status}
@@ -29,8 +29,8 @@ use Rattle.desk_rules.specs.Kinds.{isReversal, booked, isIdle}
 use Rattle.desk_rules.specs.Lanes.{runningLane, reportedLane}
 use Rattle.desk_rules.specs.Openings.{kindOf, withinLimits, refersTo, lastLine, sold, openedLane, commandBytes}
 
-abbrev pub no : ℕ → Moved
-no number = Refused (record { number = number })
+abbrev pub noMove : ℕ → Moved
+noMove number = Refused (record { number = number })
 
 -- ---- from the terminal
 
@@ -39,12 +39,12 @@ pairIs class instruction c i = eqb class c && eqb instruction i
 
 -- P15: "80 00 with an empty body makes the lane running." P16: "84 xx with an empty body ends the payment, declined, with code xx".
 -- Else R15
-unfoldable pub heardWaiting : Lane → Header → Moved
+unfoldable pub heardWaiting : Lane → Heading → Moved
 heardWaiting l h =
     pick (eqb (h .size) 0)
     (pick (pairIs (h .class) (h .instruction) 0x80 0x00) (Becomes (runningLane l))
-    (pick (eqb (h .class) 0x84) (Ends Declined 0 (h .instruction)) (no 15)))
-    (no 15)
+    (pick (eqb (h .class) 0x84) (Ends Declined 0 (h .instruction)) (noMove 15)))
+    (noMove 15)
 
 -- P24: "The settled amount is field 04 of the remembered status or, where it has none, the amount asked."
 unfoldable pub amountBy : ToldAmount → ℕ → ℕ
@@ -65,9 +65,9 @@ completedBy l (Code c) =
 -- P21: "06 1E ends the payment, declined. The first byte of its body is the code, the others are not read; an empty body is refused
 -- (1)."
 unfoldable pub abortedBy : Body → Moved
-abortedBy (bytes []) = no 1
+abortedBy (bytes []) = noMove 1
 abortedBy (bytes (b ∷ s)) = Ends Declined 0 b
-abortedBy (listed password fs) = no 1
+abortedBy (listed password fs) = noMove 1
 
 -- P20: "04 0F with field 27 becomes the remembered status, all of it .. Without field 27 it changes nothing."
 unfoldable pub reportedBy : Lane → Status → ToldCode → Moved
@@ -84,47 +84,47 @@ movedBy l m =
     Stays))
 
 unfoldable pub afterBody : Lane → Reading Message → Moved
-afterBody l (refused f) = no (f .number)
+afterBody l (refused f) = noMove (f .number)
 afterBody l (got m) = movedBy l m
 
 -- P19 to P22: the six pairs that a running lane takes; any other is R15, before the body is read
 abbrev pub runningPairs : List ℕ
 runningPairs = 0x040F ∷ 0x04FF ∷ 0x060F ∷ 0x061E ∷ 0x06D1 ∷ 0x06D3 ∷ []
 
-unfoldable pub heardRunning : Lane → List ℕ → Header → Moved
+unfoldable pub heardRunning : Lane → List ℕ → Heading → Moved
 heardRunning l s h =
-    pick (among runningPairs (h .class * 256 + h .instruction)) (afterBody l (readOf s)) (no 15)
+    pick (among runningPairs (h .class * 256 + h .instruction)) (afterBody l (readOf s)) (noMove 15)
 
-unfoldable pub heardBy : Phase → Lane → List ℕ → Header → Moved
-heardBy Idle l s h = no 14
+unfoldable pub heardBy : Phase → Lane → List ℕ → Heading → Moved
+heardBy Idle l s h = noMove 14
 heardBy Waiting l s h = heardWaiting l h
 heardBy Running l s h = heardRunning l s h
 
-unfoldable pub afterHeader : Lane → List ℕ → Reading Header → Moved
-afterHeader l s (refused f) = no (f .number)
+unfoldable pub afterHeader : Lane → List ℕ → Reading Heading → Moved
+afterHeader l s (refused f) = noMove (f .number)
 afterHeader l s (got h) = heardBy (l .phase) l s h
 
 -- R35: "14, header, 15, body"
 unfoldable pub heard : Lane → List ℕ → Moved
-heard l s = pick (isIdle (l .phase)) (no 14) (afterHeader l s (wholeHeader s))
+heard l s = pick (isIdle (l .phase)) (noMove 14) (afterHeader l s (wholeHeader s))
 
 -- P27: "Where the link is lost, a waiting or running lane ends its payment, unclear, and replies nothing." P33: its code is 0
 unfoldable pub lostBy : Lane → Moved
-lostBy l = pick (isIdle (l .phase)) (no 14) (Ends Unclear 0 0)
+lostBy l = pick (isIdle (l .phase)) (noMove 14) (Ends Unclear 0 0)
 
 -- ---- opening
 
 -- P12, R17: what comes of an opening that refers to that line, if nothing else is against it
 abbrev pub standing : Reference → Line → Moved → Moved
 standing Nothing line m = m
-standing (Sold receipt) line m = pick (sold line) m (no 17)
+standing (Sold receipt) line m = pick (sold line) m (noMove 17)
 
 -- R34: "13, 16, 17"
 unfoldable pub openedBy : Lane → Opening → Line → Moved
 openedBy l o line =
     pick (isIdle (l .phase))
-    (pick (withinLimits o) (standing (refersTo o) line (Becomes (openedLane o line))) (no 16))
-    (no 13)
+    (pick (withinLimits o) (standing (refersTo o) line (Becomes (openedLane o line))) (noMove 16))
+    (noMove 13)
 
 -- ---- the calls: an opening on a lane, a message from its terminal, a lost link
 pub data Call : Type 0 where

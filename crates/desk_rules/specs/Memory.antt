@@ -1,10 +1,11 @@
 -- The desk's memory, and what each function answers and leaves, by the course. Definitions only.
 use mathlib.Core.Path.{_≡_}
 use Prim.Native.Nat.{ℕ, _+_, _≤_}
-use mathlib.Core.List.{List, _++_}
-use lib.ListN.{length, getD, set, take, drop, replicate}
+use mathlib.Core.List.{List}
+use lib.ListN.{length, getD, set, take, replicate}
 use lib.Dec.{ltb}
 use Rattle.zvt_rules.specs.Reading.{pick}
+use Rattle.zvt_rules.specs.Buffers.{front}
 use Rattle.zvt_rules.specs.declared.ToldAmount.{ToldAmount}
 use Rattle.zvt_rules.specs.declared.ToldAmount.the-variants.{Missing as no-amount, Amount}
 use Rattle.desk_rules.specs.declared.Lane.{Lane}
@@ -86,7 +87,7 @@ answerOf d c room = answerBy (decide (view d) c room) d c
 -- R33: "Success leaves the bytes of a lent buffer behind those written as they were."
 unfoldable pub leavesBy : Decision → Desk → Call → List ℕ → List ℕ
 leavesBy (refuse number) d c out = out
-leavesBy accept d c out = let w = writes (laneAt (d .lanes) (laneOf c)) c in w ++ drop (length w) out
+leavesBy accept d c out = front (writes (laneAt (d .lanes) (laneOf c)) c) out
 
 unfoldable pub leavesOf : Desk → Call → List ℕ → List ℕ
 leavesOf d c out = leavesBy (decide (view d) c (length out)) d c out

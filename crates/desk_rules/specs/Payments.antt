@@ -56,14 +56,14 @@ paymentsFrom p (c ∷ cs) = paymentsFrom (withCall p c) cs
 unfoldable pub paymentsOf : List Call → Payments
 paymentsOf cs = paymentsFrom (record { ended = []; ongoing = replicate laneCount [] }) cs
 
-unfoldable pub joined : List (List Call) → List Call
-joined [] = []
-joined (cs ∷ css) = cs ++ joined css
+unfoldable pub flattened : List (List Call) → List Call
+flattened [] = []
+flattened (cs ∷ css) = cs ++ flattened css
 
 -- The third demand: "each payment's calls in their own order, first the ended payments one after another in the order in which they ended, then the
 -- calls of each payment still open, lane by lane"
 unfoldable pub oneByOne : List Call → List Call
-oneByOne cs = joined (paymentsOf cs .ended) ++ joined (paymentsOf cs .ongoing)
+oneByOne cs = flattened (paymentsOf cs .ended) ++ flattened (paymentsOf cs .ongoing)
 
 -- an opening, and then none
 unfoldable pub NoneOpens : List Call → Type 0
@@ -75,8 +75,8 @@ Begins [] = ⊥
 Begins (o ∷ ds) = (opens o ≡ true) × NoneOpens ds
 
 -- a payment: calls of one lane, which begin with its opening
-abbrev pub Whole : List Call → Type 0
-Whole p = (k : ℕ) × (k < laneCount) × (callsOf k p ≡ p) × Begins p
+abbrev pub WholePayment : List Call → Type 0
+WholePayment p = (k : ℕ) × (k < laneCount) × (callsOf k p ≡ p) × Begins p
 
 -- P3: a payment that takes a place in the book, and those of a list that do
 unfoldable pub pays : List Call → Bool

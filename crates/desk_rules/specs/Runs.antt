@@ -27,8 +27,8 @@ pub record Own : Type 0 where
   pub lane : Lane
   pub lines : List Line
 
-abbrev pub own : ℕ → State → Own
-own k s = record { lane = laneAt (s .lanes) k; lines = ofLane k (s .lines) }
+abbrev pub ownOf : ℕ → State → Own
+ownOf k s = record { lane = laneAt (s .lanes) k; lines = ofLane k (s .lines) }
 
 -- ---- the third demand: "Payments opened = book lines + open payments"
 

@@ -8,7 +8,7 @@ use Prim.Native.Nat.{ℕ, _+_, _*_, _≤_, _<_}
 use Rattle.zvt_rules.specs.declared.Fault.{Fault}
 use Rattle.zvt_rules.specs.Reading.{got, refused}
 use Rattle.zvt_rules.specs.Fields.{Field}
-use Rattle.zvt_rules.specs.Message.{Header, wholeHeader, bytes, listed, Message, readOf}
+use Rattle.zvt_rules.specs.Message.{Heading, wholeHeader, bytes, listed, Message, readOf}
 use Rattle.zvt_rules.specs.Digits.{numberOf}
 use Rattle.zvt_rules.specs.Values.{found, valueIn}
 use Rattle.desk_rules.specs.declared.Kind.the-variants.{Sale}
@@ -93,7 +93,7 @@ OneOf [] x = ⊥
 OneOf (k ∷ ks) x = (k ≡ x) ⊎ OneOf ks x
 
 -- R15: "the pair, or a body that is not empty, is not allowed in this phase". Waiting, P15 and P16; running, P19 to P22
-abbrev pub Allowed : Phase → Header → Type 0
+abbrev pub Allowed : Phase → Heading → Type 0
 Allowed Idle h = ⊥
 Allowed Waiting h = (h .size ≡ 0) × (((h .class ≡ 0x80) × (h .instruction ≡ 0x00)) ⊎ (h .class ≡ 0x84))
 Allowed Running h = OneOf runningPairs (h .class * 256 + h .instruction)
@@ -108,16 +108,16 @@ pub data HearingRow (s : State) (i : ℕ) (b : List ℕ) (room : ℕ) : Decision
   is-idle : i < laneCount → phaseAt s i ≡ Idle → HearingRow s i b room (refuse 14)
   bad-header : (n : ℕ) (f : Fault) → i < laneCount → (phaseAt s i ≡ Idle → ⊥) → wholeHeader b ≡ refused f → f .number ≡ n
       → HearingRow s i b room (refuse n)
-  not-allowed : (h : Header) → i < laneCount → (phaseAt s i ≡ Idle → ⊥) → wholeHeader b ≡ got h → (Allowed (phaseAt s i) h → ⊥)
+  not-allowed : (h : Heading) → i < laneCount → (phaseAt s i ≡ Idle → ⊥) → wholeHeader b ≡ got h → (Allowed (phaseAt s i) h → ⊥)
       → HearingRow s i b room (refuse 15)
-  bad-body : (n : ℕ) (h : Header) (f : Fault) → i < laneCount → phaseAt s i ≡ Running → wholeHeader b ≡ got h → Allowed Running h
+  bad-body : (n : ℕ) (h : Heading) (f : Fault) → i < laneCount → phaseAt s i ≡ Running → wholeHeader b ≡ got h → Allowed Running h
       → readOf b ≡ refused f → f .number ≡ n → HearingRow s i b room (refuse n)
-  no-code : (h : Header) (m : Message) → i < laneCount → phaseAt s i ≡ Running → wholeHeader b ≡ got h → Allowed Running h
+  no-code : (h : Heading) (m : Message) → i < laneCount → phaseAt s i ≡ Running → wholeHeader b ≡ got h → Allowed Running h
       → readOf b ≡ got m → EmptyAbort m → HearingRow s i b room (refuse 1)
-  tight : (h : Header) (m : Message) → i < laneCount → phaseAt s i ≡ Running → wholeHeader b ≡ got h → Allowed Running h
+  tight : (h : Heading) (m : Message) → i < laneCount → phaseAt s i ≡ Running → wholeHeader b ≡ got h → Allowed Running h
       → readOf b ≡ got m → (EmptyAbort m → ⊥) → room < 3 → HearingRow s i b room (refuse 11)
-  heard-waiting : (h : Header) → i < laneCount → phaseAt s i ≡ Waiting → wholeHeader b ≡ got h → Allowed Waiting h → HearingRow s i b room accept
-  heard-running : (h : Header) (m : Message) → i < laneCount → phaseAt s i ≡ Running → wholeHeader b ≡ got h → Allowed Running h
+  heard-waiting : (h : Heading) → i < laneCount → phaseAt s i ≡ Waiting → wholeHeader b ≡ got h → Allowed Waiting h → HearingRow s i b room accept
+  heard-running : (h : Heading) (m : Message) → i < laneCount → phaseAt s i ≡ Running → wholeHeader b ≡ got h → Allowed Running h
       → readOf b ≡ got m → (EmptyAbort m → ⊥) → 3 ≤ room → HearingRow s i b room accept
 
 -- ---- a lost link

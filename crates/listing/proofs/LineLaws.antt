@@ -11,9 +11,9 @@ use Rattle.zvt_rules.specs.Message.{headerSize, Body, bytes, listed, Message, r
 use Rattle.zvt_rules.specs.Writing.{fieldBytes, listBytes, bodyBytes, lengthBytes, messageBytes}
 use Rattle.zvt_rules.specs.Grammar.{Bytes}
 use Rattle.zvt_rules.proofs.MessageBytes.{read-sound}
-use Rattle.zvt.specs.declared.Listed.{Listed}
-use Rattle.zvt.specs.declared.FieldAnswer.the-variants.{Field as listed-field, End}
-use Rattle.zvt.specs.List.{listedAt, listedFrom, listedBody, listedMessage, nthListed}
+use Rattle.zvt_rules.specs.declared.Listed.{Listed}
+use Rattle.zvt_rules.specs.declared.FieldAnswer.the-variants.{Field as listed-field, End}
+use Rattle.zvt_rules.specs.Listed.{listedAt, listedFrom, listedBody, listedMessage, nthListed}
 use Rattle.listing.specs.Text.{Text, write, hexText}
 use Rattle.listing.specs.Lines.{idsText, bodyIds, listedText}
 use Rattle.listing.proofs.TextLaws.{write-append, write-first}

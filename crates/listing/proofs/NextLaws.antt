@@ -11,10 +11,10 @@ use Rattle.zvt_rules.specs.Writing.{messageBytes}
 use Rattle.zvt_rules.specs.Grammar.{Bytes}
 use Rattle.zvt_rules.proofs.MessageBytes.{first-sound, read-complete}
 use Rattle.zvt_rules.specs.declared.Refusal.{Refusal}
-use Rattle.zvt.specs.declared.Message.{Message as ReadMessage}
-use Rattle.zvt.specs.declared.FirstAnswer.the-variants.{Accepted as first-accepted, Refused as first-refused}
-use Rattle.zvt.specs.Answers.{refusalOf, messageAnswer, asFirstAnswer, firstAnswer}
-use Rattle.zvt.specs.List.{listedMessage}
+use Rattle.zvt_rules.specs.declared.Outline.{Outline}
+use Rattle.zvt_rules.specs.declared.FirstAnswer.the-variants.{Accepted as first-accepted, Refused as first-refused}
+use Rattle.zvt_rules.specs.Answers.{refusalOf, outlineOf, asFirstAnswer, firstAnswer}
+use Rattle.zvt_rules.specs.Listed.{listedMessage}
 use Rattle.listing.specs.declared.Line.the-variants.{Message as message-line, Last}
 use Rattle.listing.specs.Text.{Text, text, write}
 use Rattle.listing.specs.Lines.{messageText, okText, refusedText, Next, message, last, nextBy, nextOf, lineText, asLine, Shown, readText}
@@ -56,20 +56,20 @@ module _ (count : ℕ) (s : List ℕ) (most : length s ≤ 65536) (some : length
       go (refused r) k = let same : refusalOf r ≡ f = cc in ap (λ (q : Refusal). last (refusedText count (q .number))) same
 
 -- the text of a message by what the reader answers
-told : (count : ℕ) (t : Message) (m : ReadMessage) (x : Reading Message) (next : ℕ) → messageAnswer t ≡ m
+told : (count : ℕ) (t : Message) (m : Outline) (x : Reading Message) (next : ℕ) → outlineOf t ≡ m
     → length (messageBytes t) ≡ next → x ≡ got t
     → nextBy count (got t) ≡ message (readText (count + 1) m (listedMessage x)) next
-unfolding nextBy messageText readText messageAnswer
+unfolding nextBy messageText readText outlineOf
 told count t m x next same size e = rw (e, ← size, ← same, message-ids t)
 
 -- a message's own part of the input is that message
-module _ (s : List ℕ) (b : Bytes s) (m : ReadMessage) (next : ℕ) (e : firstAnswer s ≡ first-accepted m next) where
+module _ (s : List ℕ) (b : Bytes s) (m : Outline) (next : ℕ) (e : firstAnswer s ≡ first-accepted m next) where
   whole : (x : Reading Message) → firstOf s ≡ x → asFirstAnswer x ≡ first-accepted m next
-      → (t : Message) × (firstOf s ≡ got t) × (messageAnswer t ≡ m) × (length (messageBytes t) ≡ next) × (readOf (take next s) ≡ got t)
+      → (t : Message) × (firstOf s ≡ got t) × (outlineOf t ≡ m) × (length (messageBytes t) ≡ next) × (readOf (take next s) ≡ got t)
   unfolding asFirstAnswer
   whole (got t) k h =
       let sound = first-sound s t b k in
-      let same : messageAnswer t ≡ m = cc in
+      let same : outlineOf t ≡ m = cc in
       let size : length (messageBytes t) ≡ next = cc in
       (t, k, same, size, rw (← size, ← (sound .0)) (read-complete t (sound .1)))
   whole (refused r) k h = let z : _≡_ {A = ℕ} 0 1 = cc in absurd (omega arith)

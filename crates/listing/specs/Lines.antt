@@ -10,8 +10,8 @@ use Rattle.zvt_rules.specs.Fields.{Field, fieldId}
 use Rattle.zvt_rules.specs.Message.{Message, Body, bytes, listed, firstOf}
 use Rattle.zvt_rules.specs.Writing.{bodyBytes, messageBytes}
 use Rattle.zvt_rules.specs.Shortest.{isShort}
-use Rattle.zvt.specs.declared.Listed.{Listed}
-use Rattle.zvt.specs.declared.Message.{Message as ReadMessage}
+use Rattle.zvt_rules.specs.declared.Listed.{Listed}
+use Rattle.zvt_rules.specs.declared.Outline.{Outline}
 use Rattle.listing.specs.Text.{text, write, hexText, decimalText}
 use Rattle.listing.specs.declared.Line.{Line}
 use Rattle.listing.specs.declared.Line.the-variants.{Message as message-line, Last}
@@ -91,5 +91,5 @@ unfoldable pub listedText : List Listed → List ℕ
 listedText [] = []
 listedText (l ∷ ls) = 32 ∷ (hexText (l .id) ++ listedText ls)
 
-unfoldable pub readText : ℕ → ReadMessage → List Listed → List ℕ
+unfoldable pub readText : ℕ → Outline → List Listed → List ℕ
 readText number m ls = startText number (m .class) (m .instruction) ++ (sizeText (m .length) (m .shortest) ++ listedText ls)

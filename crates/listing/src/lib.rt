@@ -5,11 +5,11 @@ use text::add;
 use text::add_all;
 use text::add_decimal;
 use text::add_hex;
-use zvt::FieldAnswer;
-use zvt::FirstAnswer;
-use zvt::Message;
+use zvt_rules::FieldAnswer;
+use zvt_rules::FirstAnswer;
+use zvt_rules::Outline;
 ghost use mathlib.Core.Path.{_≡_};
-ghost use Rattle.zvt.specs.List.{listedMessage};
+ghost use Rattle.zvt_rules.specs.Listed.{listedMessage};
 ghost use Rattle.zvt_rules.specs.Message.{readOf};
 ghost use Rattle.listing.specs.Text.{text, write};
 ghost use Rattle.listing.specs.Lines.{listedText, startText, sizeText, readText, endText, okText, refusedText, nextOf, Shown, Bounded};
@@ -43,7 +43,7 @@ pub fn add_ids(s: &[u8], at: usize, out: &mut [u8]) -> usize
 }
 
 // Number and pair.
-fn add_start(number: u64, m: Message, out: &mut [u8]) -> usize
+fn add_start(number: u64, m: Outline, out: &mut [u8]) -> usize
     ensures { λ r. ⌜ text r (now (out .exit)) ≡ write (startText number (m .class) (m .instruction)) (text 0 (now (out .entry))) ⌝ }
 {
     let mut to = add_decimal(number, 0, out);
@@ -53,7 +53,7 @@ fn add_start(number: u64, m: Message, out: &mut [u8]) -> usize
 }
 
 // Body length and form.
-fn add_size(m: Message, at: usize, out: &mut [u8]) -> usize
+fn add_size(m: Outline, at: usize, out: &mut [u8]) -> usize
     ensures { λ r. ⌜ text r (now (out .exit)) ≡ write (sizeText (m .length) (m .shortest)) (text at (now (out .entry))) ⌝ }
 {
     let mut to = add(b' ', at, out);
@@ -66,7 +66,7 @@ fn add_size(m: Message, at: usize, out: &mut [u8]) -> usize
 }
 
 // The line of the message that s is.
-fn message_line(s: &[u8], number: u64, m: Message, out: &mut [u8]) -> usize
+fn message_line(s: &[u8], number: u64, m: Outline, out: &mut [u8]) -> usize
     ensures { λ r. ⌜ text r (now (out .exit)) ≡ write (readText number m (listedMessage (readOf (now (s .entry))))) (text 0 (now (out .entry))) ⌝ }
 {
     let mut to = add_start(number, m, out);

@@ -12,12 +12,12 @@ use Rattle.zvt_rules.specs.declared.Fault.{Fault}
 use Rattle.zvt_rules.specs.declared.Refusal.{Refusal}
 use Rattle.zvt_rules.specs.Reading.{Reading, got, refused}
 use Rattle.zvt_rules.specs.Message.{wholeHeader, readOf, firstOf}
-use Rattle.zvt.specs.declared.HeaderAnswer.the-variants.{Refused as header-refused}
-use Rattle.zvt.specs.declared.ReadAnswer.the-variants.{Refused as read-refused}
-use Rattle.zvt.specs.declared.FirstAnswer.the-variants.{Refused as first-refused}
-use Rattle.zvt.specs.declared.ShortenAnswer.the-variants.{Written as short-written, Refused as short-refused}
-use Rattle.zvt.specs.Answers.{refusalOf, asHeaderAnswer, headerAnswer, asReadAnswer, readAnswer, asFirstAnswer, firstAnswer}
-use Rattle.zvt.specs.Writing.{front, shortened, asShortenAnswer, shortenAnswer, lent, shortenLeaves}
+use Rattle.zvt_rules.specs.declared.HeaderAnswer.the-variants.{Refused as header-refused}
+use Rattle.zvt_rules.specs.declared.ReadAnswer.the-variants.{Refused as read-refused}
+use Rattle.zvt_rules.specs.declared.FirstAnswer.the-variants.{Refused as first-refused}
+use Rattle.zvt_rules.specs.declared.ShortenAnswer.the-variants.{Written as short-written, Refused as short-refused}
+use Rattle.zvt_rules.specs.Answers.{refusalOf, asHeaderAnswer, headerAnswer, asReadAnswer, readAnswer, asFirstAnswer, firstAnswer, shortened, asShortenAnswer, shortenAnswer, shortenLeaves}
+use Rattle.zvt_rules.specs.Buffers.{writtenLeaves}
 use Rattle.desk_rules.specs.declared.Phase.{Phase}
 use Rattle.desk_rules.specs.declared.Phase.the-variants.{Idle, Waiting, Running}
 use Rattle.desk_rules.specs.declared.Lane.{Lane}
@@ -25,60 +25,60 @@ use Rattle.desk_rules.specs.declared.Desk.{Desk}
 use Rattle.desk_rules.specs.declared.Answer.{Answer}
 use Rattle.desk_rules.specs.declared.Reply.the-variants.{Written, Refused}
 use Rattle.desk_rules.specs.Course.{isIdle, Call, writes}
-use Rattle.desk_rules.specs.Desk.{laneAt, place, places, Decision, refuse, accept, decide}
+use Rattle.desk_rules.specs.Desk.{laneAt, lanePlace, places, Decision, refuse, accept, decide}
 use Rattle.desk_rules.specs.Memory.{freshDesk, view, laneFor, Valid, refusedAnswer, answerOf, leavesOf, closeAnswer}
 use Rattle.desk_rules.proofs.Memory.{place-idle, place-in, refused-same, accepted-answer, refused-leaves, accepted-leaves}
-use Rattle.promises.specs.Answers.{number, Refuses, Takes, Open}
+use Rattle.promises.specs.Answers.{numbered, Refuses, Takes, Open}
 use Rattle.promises.proofs.ReadTable.{No}
 
 -- ---- a reading that is answered by a map of its own, which keeps refusals apart
 pub record Maps {A X : Type 0} (say : Reading A → X) (refuser : Refusal → X) : Type 0 where
-  pub kept : (f : Fault) → say (refused f) ≡ refuser (number (f .number))
+  pub kept : (f : Fault) → say (refused f) ≡ refuser (numbered (f .number))
   pub apart : (a : A) (r : Refusal) → say (got a) ≡ refuser r → ⊥
   pub one : (r r′ : Refusal) → refuser r ≡ refuser r′ → r ≡ r′
 
 pub reading-no : {A X : Type 0} (say : Reading A → X) (refuser : Refusal → X) → Maps say refuser → (x : Reading A) (n : ℕ)
-    → (say x ≡ refuser (number n)) ↔ No x n
-reading-no {A} say refuser m x n = (to x refl, λ h. ap say (h .1) ∙ m .kept (h .0) ∙ ap (λ (k : ℕ). refuser (number k)) (h .2))
+    → (say x ≡ refuser (numbered n)) ↔ No x n
+reading-no {A} say refuser m x n = (to x refl, λ h. ap say (h .1) ∙ m .kept (h .0) ∙ ap (λ (k : ℕ). refuser (numbered k)) (h .2))
   where
-    to : (y : Reading A) → x ≡ y → say x ≡ refuser (number n) → No x n
+    to : (y : Reading A) → x ≡ y → say x ≡ refuser (numbered n) → No x n
     to (got a) e h = absurd (m .apart a _ (ap say (sym e) ∙ h))
     to (refused f) e h = (f, e, ap (λ (r : Refusal). r .number) (m .one _ _ (sym (m .kept f) ∙ ap say (sym e) ∙ h)))
 
-pub header-says : (s : List ℕ) (n : ℕ) → (headerAnswer s ≡ header-refused (number n)) ↔ No (wholeHeader s) n
+pub header-says : (s : List ℕ) (n : ℕ) → (headerAnswer s ≡ header-refused (numbered n)) ↔ No (wholeHeader s) n
 unfolding headerAnswer asHeaderAnswer refusalOf
 header-says s n =
     reading-no asHeaderAnswer header-refused
     (record { kept = λ f. refl; apart = λ a r e. (let z : _≡_ {A = ℕ} 0 1 = cc in omega arith); one = λ r r′ e. cc }) (wholeHeader s) n
 
-pub read-says : (s : List ℕ) (n : ℕ) → (readAnswer s ≡ read-refused (number n)) ↔ No (readOf s) n
+pub read-says : (s : List ℕ) (n : ℕ) → (readAnswer s ≡ read-refused (numbered n)) ↔ No (readOf s) n
 unfolding readAnswer asReadAnswer refusalOf
 read-says s n =
     reading-no asReadAnswer read-refused
     (record { kept = λ f. refl; apart = λ a r e. (let z : _≡_ {A = ℕ} 0 1 = cc in omega arith); one = λ r r′ e. cc }) (readOf s) n
 
-pub first-says : (s : List ℕ) (n : ℕ) → (firstAnswer s ≡ first-refused (number n)) ↔ No (firstOf s) n
+pub first-says : (s : List ℕ) (n : ℕ) → (firstAnswer s ≡ first-refused (numbered n)) ↔ No (firstOf s) n
 unfolding firstAnswer asFirstAnswer refusalOf
 first-says s n =
     reading-no asFirstAnswer first-refused
     (record { kept = λ f. refl; apart = λ a r e. (let z : _≡_ {A = ℕ} 0 1 = cc in omega arith); one = λ r r′ e. cc }) (firstOf s) n
 
-pub short-says : (room : ℕ) (s : List ℕ) (n : ℕ) → (shortenAnswer room s ≡ short-refused (number n)) ↔ No (shortened room s) n
+pub short-says : (room : ℕ) (s : List ℕ) (n : ℕ) → (shortenAnswer room s ≡ short-refused (numbered n)) ↔ No (shortened room s) n
 unfolding shortenAnswer asShortenAnswer refusalOf
 short-says room s n =
     reading-no asShortenAnswer short-refused
     (record { kept = λ f. refl; apart = λ a r e. (let z : _≡_ {A = ℕ} 0 1 = cc in omega arith); one = λ r r′ e. cc }) (shortened room s) n
 
 -- what a buffer that was lent holds at the end
-pub short-leaves : (s out : List ℕ) (n : ℕ) → shortenAnswer (length out) s ≡ short-refused (number n) → shortenLeaves s out ≡ out
-unfolding shortenLeaves lent
+pub short-leaves : (s out : List ℕ) (n : ℕ) → shortenAnswer (length out) s ≡ short-refused (numbered n) → shortenLeaves s out ≡ out
+unfolding shortenLeaves writtenLeaves
 short-leaves s out n e = let h = short-says (length out) s n .0 e in rw (h .1)
 
 pub short-beyond : (s out : List ℕ) (k : ℕ) → shortenAnswer (length out) s ≡ short-written k → drop k (shortenLeaves s out) ≡ drop k out
-unfolding shortenAnswer asShortenAnswer shortenLeaves lent front
+unfolding shortenAnswer asShortenAnswer shortenLeaves writtenLeaves
 short-beyond s out k = go (shortened (length out) s)
   where
-    go : (x : Reading (List ℕ)) → asShortenAnswer x ≡ short-written k → drop k (lent x out) ≡ drop k out
+    go : (x : Reading (List ℕ)) → asShortenAnswer x ≡ short-written k → drop k (writtenLeaves x out) ≡ drop k out
     go (got w) e = let q : length w ≡ k = cc in drop-at w (drop (length w) out) k q ∙ ap (λ (n : ℕ). drop n out) q
     go (refused f) e = absurd (let z : _≡_ {A = ℕ} 0 1 = cc in omega arith)
 
@@ -88,8 +88,8 @@ short-beyond s out k = go (shortened (length out) s)
 pub apart : {k : ℕ} {r : Refusal} → Written k ≡ Refused r → ⊥
 apart e = let z : _≡_ {A = ℕ} 0 1 = cc in omega arith
 
-pub same-number : {m n : ℕ} → Refused (number m) ≡ Refused (number n) → m ≡ n
-same-number {m} {n} e = let q : number m ≡ number n = cc in ap (λ (r : Refusal). r .number) q
+pub same-number : {m n : ℕ} → Refused (numbered m) ≡ Refused (numbered n) → m ≡ n
+same-number {m} {n} e = let q : numbered m ≡ numbered n = cc in ap (λ (r : Refusal). r .number) q
 
 module _ (d : Desk) (c : Call) (room : ℕ) where
   pub decided-no : (n : ℕ) → Refuses (answerOf d c room) n ↔ (decide (view d) c room ≡ refuse n)
@@ -141,7 +141,7 @@ idle-same Running e = absurd (false≢true e)
 
 -- no place is taken, or some lane is not idle
 place-or-none : (ls : List Lane) → (places ls ≡ 0) ⊎ ((i : ℕ) × (i < length ls) × (laneAt ls i .phase ≡ Idle → ⊥))
-unfolding places place isIdle
+unfolding places lanePlace isIdle
 place-or-none [] = inl refl
 place-or-none (l ∷ ls) = go (isIdle (l .phase)) refl (place-or-none ls)
   where
@@ -175,7 +175,7 @@ module _ (d : Desk) (v : Valid d) where
   unfolding refusedAnswer
   closing-no n = (
     λ h. ⊎-elim (λ e. absurd (apart (rw (closed e) at h))) (λ o. (o, same-number (rw (held o) at h))) open-or-not,
-    λ k. rw (held (k .0)) (ap (λ (m : ℕ). Refused (number m)) (k .1)),
+    λ k. rw (held (k .0)) (ap (λ (m : ℕ). Refused (numbered m)) (k .1)),
   )
 
   pub closing-yes : (closeAnswer d ≡ record { reply = Written 0; desk = freshDesk }) ↔ (Open d → ⊥)

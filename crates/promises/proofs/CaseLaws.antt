@@ -1,7 +1,7 @@
 -- Document 01's cases, all of one table, by one computation. Assumes nothing.
 use mathlib.Core.Path.{_≡_, refl}
 use Rattle.zvt_rules.specs.Reading.{unless, andThen, among}
-use Rattle.zvt_rules.specs.Objects.{secondTag, tagSize, formSize, oneByte, twoBytes, lenOf, headWith, headOf, insideOf, oneBy, runBy, runOf}
+use Rattle.zvt_rules.specs.Objects.{secondTag, tagSize, formSize, oneByteLen, twoByteLen, lenOf, headWith, headOf, insideOf, oneBy, runBy, runOf}
 use Rattle.zvt_rules.specs.Objects.{countObj, countObjs}
 use Rattle.zvt_rules.specs.Fields.{formatOf, unknown, digitsOf, unlessUndecimal, digitsIn, fieldId, countField, countFields, valueOf}
 use Rattle.zvt_rules.specs.Fields.{plainOf, containerOf, fieldBy, fieldOf, listBy, listOf}
@@ -10,18 +10,18 @@ use Rattle.zvt_rules.specs.Writing.{lenBytes, sized, objBytes, runBytes, length
 use Rattle.zvt_rules.specs.Writing.{digitBytes}
 use Rattle.zvt_rules.specs.Shortest.{formFor, isShortest, shortObj, shortRun, shortField, shortList, shortBody, shortMessage}
 use Rattle.zvt_rules.specs.Shortest.{isShortObj, isShortRun, isShortField, isShortList, isShortBody, isShort, write, shorten}
-use Rattle.zvt_rules.specs.Digits.{digitBytesOf, numberFrom, numberOf}
+use Rattle.zvt_rules.specs.Digits.{digitBytesOf, decimalFrom, numberOf}
 use Rattle.zvt_rules.specs.Values.{fieldValue, valueIn, codeOf, amountOf, receiptOf, codeIn, amountIn, receiptIn, statusIn, bodyFields}
-use Rattle.zvt.specs.Answers.{refusalOf, messageAnswer, asReadAnswer, readAnswer}
-use Rattle.zvt.specs.Writing.{front, shortened, asShortenAnswer, shortenAnswer, lent, shortenLeaves}
-use Rattle.zvt.specs.List.{listedAt, listedFrom, listedBody, listedMessage, namedListed}
-use Rattle.zvt.specs.Name.{upToZero, sizedName, nameIn, nameOf, nameAt, nameBytes, cardName}
+use Rattle.zvt_rules.specs.Answers.{refusalOf, outlineOf, asReadAnswer, readAnswer, shortened, asShortenAnswer, shortenAnswer, shortenLeaves}
+use Rattle.zvt_rules.specs.Buffers.{writtenLeaves}
+use Rattle.zvt_rules.specs.Listed.{listedAt, listedFrom, listedBody, listedMessage, namedListed}
+use Rattle.zvt_rules.specs.Name.{upToZero, sizedName, nameIn, nameOf, nameAt, nameBytes, cardName}
 use Rattle.desk_rules.specs.Lanes.{toldReceipt, receiptBy, lineAt}
 use Rattle.desk_rules.specs.Commands.{saleCommand, reversalCommand, saleBytes, reversalBytes}
 use Rattle.desk_rules.specs.Course.{heardWaiting, amountBy, isReversal, settledAs, completedBy, abortedBy, reportedBy, movedBy, afterBody, heardRunning}
 use Rattle.desk_rules.specs.Course.{heardBy, afterHeader, isIdle, heard, isApproved, isSale, concerns, lastFrom, lastLine, openedBy}
 use Rattle.desk_rules.specs.Course.{laneOf, opens, moves, answered, writes}
-use Rattle.desk_rules.specs.Desk.{place, places, load, unlessRefused, decide}
+use Rattle.desk_rules.specs.Desk.{lanePlace, places, load, unlessRefused, decide}
 use Rattle.desk_rules.specs.Memory.{view, endedDesk, movedDesk, refusedAnswer, answerBy, answerOf, leavesBy, leavesOf}
 use Rattle.desk_rules.specs.Turnover.{gain, loss, gains, losses, netOf}
 use Rattle.promises.specs.Days.{buffer}
@@ -30,18 +30,18 @@ use Rattle.promises.specs.Cases.{hex, plainBody, twoSales, twoLines, sol
 
 -- The definitions answer every row of the table as the page does.
 pub cases : computed table ≡ stated table
-unfolding unless andThen among secondTag tagSize formSize oneByte twoBytes lenOf headWith headOf insideOf oneBy runBy runOf countObj countObjs
+unfolding unless andThen among secondTag tagSize formSize oneByteLen twoByteLen lenOf headWith headOf insideOf oneBy runBy runOf countObj countObjs
     formatOf unknown digitsOf unlessUndecimal digitsIn fieldId countField countFields valueOf plainOf containerOf fieldBy fieldOf listBy listOf
     longLength lengthOf headerWith headerOf layoutOf bodyOf messageOf wholeHeader readOf countBody countOf
     lenBytes sized objBytes runBytes digitBytes lengthIn fieldBytes listBytes bodyBytes lengthBytes messageBytes
     formFor isShortest shortObj shortRun shortField shortList shortBody shortMessage isShortObj isShortRun isShortField isShortList isShortBody
-    isShort write shorten digitBytesOf numberFrom numberOf fieldValue valueIn codeOf amountOf receiptOf codeIn amountIn receiptIn statusIn
-    bodyFields refusalOf messageAnswer asReadAnswer readAnswer front shortened asShortenAnswer shortenAnswer lent shortenLeaves
+    isShort write shorten digitBytesOf decimalFrom numberOf fieldValue valueIn codeOf amountOf receiptOf codeIn amountIn receiptIn statusIn
+    bodyFields refusalOf outlineOf asReadAnswer readAnswer shortened asShortenAnswer shortenAnswer writtenLeaves shortenLeaves
     listedAt listedFrom listedBody listedMessage namedListed upToZero sizedName nameIn nameOf nameAt nameBytes cardName
     toldReceipt receiptBy lineAt saleCommand reversalCommand saleBytes reversalBytes
     heardWaiting amountBy isReversal settledAs completedBy abortedBy reportedBy movedBy afterBody heardRunning heardBy afterHeader isIdle heard
     isApproved isSale concerns lastFrom lastLine openedBy laneOf opens moves answered writes
-    place places load unlessRefused decide view endedDesk movedDesk refusedAnswer answerBy answerOf leavesBy leavesOf
+    lanePlace places load unlessRefused decide view endedDesk movedDesk refusedAnswer answerBy answerOf leavesBy leavesOf
     gain loss gains losses netOf
     readSays listSays shortSays callSays status output unlessNo afterDay answerTo computed stated buffer
     hex plainBody twoSales twoLines sold table

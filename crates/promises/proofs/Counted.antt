@@ -13,7 +13,7 @@ use Rattle.zvt_rules.specs.Values.{statusOf}
 use Rattle.zvt_rules.specs.declared.Status.{Status}
 use Rattle.zvt_rules.specs.declared.ToldCode.{ToldCode}
 use Rattle.zvt_rules.specs.declared.ToldCode.the-variants.{Missing as no-code, Code}
-use Rattle.zvt_rules.proofs.Readings.{pick-test}
+use Rattle.zvt_rules.proofs.Tests.{pick-test}
 use Rattle.desk_rules.specs.declared.Outcome.the-variants.{Approved}
 use Rattle.desk_rules.specs.declared.Lane.{Lane}
 use Rattle.desk_rules.specs.declared.Line.{Line}

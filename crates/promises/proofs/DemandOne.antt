@@ -8,13 +8,12 @@ use mathlib.Core.List.{List}
 use Prim.Native.Nat.{ℕ, _<_, _≤_}
 use lib.ListN.{length, drop}
 use Rattle.zvt_rules.specs.Reading.{got}
-use Rattle.zvt_rules.specs.Message.{Header, wholeHeader}
-use Rattle.zvt.specs.declared.HeaderAnswer.the-variants.{Refused as header-refused}
-use Rattle.zvt.specs.declared.ReadAnswer.the-variants.{Refused as read-refused}
-use Rattle.zvt.specs.declared.FirstAnswer.the-variants.{Refused as first-refused}
-use Rattle.zvt.specs.declared.ShortenAnswer.the-variants.{Written as short-written, Refused as short-refused}
-use Rattle.zvt.specs.Answers.{headerAnswer, readAnswer, firstAnswer}
-use Rattle.zvt.specs.Writing.{shortenAnswer, shortenLeaves}
+use Rattle.zvt_rules.specs.Message.{Heading, wholeHeader}
+use Rattle.zvt_rules.specs.declared.HeaderAnswer.the-variants.{Refused as header-refused}
+use Rattle.zvt_rules.specs.declared.ReadAnswer.the-variants.{Refused as read-refused}
+use Rattle.zvt_rules.specs.declared.FirstAnswer.the-variants.{Refused as first-refused}
+use Rattle.zvt_rules.specs.declared.ShortenAnswer.the-variants.{Written as short-written, Refused as short-refused}
+use Rattle.zvt_rules.specs.Answers.{headerAnswer, readAnswer, firstAnswer, shortenAnswer, shortenLeaves}
 use Rattle.desk_rules.specs.declared.Phase.the-variants.{Idle, Running}
 use Rattle.desk_rules.specs.declared.Desk.{Desk}
 use Rattle.desk_rules.specs.declared.Reply.the-variants.{Written}
@@ -25,7 +24,7 @@ use Rattle.desk_rules.specs.Memory.{freshDesk, view, Valid, answerOf, leavesOf,
 use Rattle.desk_rules.proofs.Refusals as table
 use Rattle.desk_rules.proofs.Memory as memory
 use Rattle.promises.specs.ReadRows.{WholeNo, ReadNo, FirstNo, ShortNo}
-use Rattle.promises.specs.Answers.{number, Refuses, Takes, Open}
+use Rattle.promises.specs.Answers.{numbered, Refuses, Takes, Open}
 use Rattle.promises.proofs.ReadTable.{whole-no, read-no, first-no, short-no}
 use Rattle.promises.proofs.Answers.{header-says, read-says, first-says, short-says, short-leaves, short-beyond}
 use Rattle.promises.proofs.Answers.{decided-no, decided-yes, call-same, call-beyond, closing-no, closing-yes, closing-same}
@@ -33,19 +32,19 @@ use Rattle.promises.proofs.Answers.{decided-no, decided-yes, call-same,
 -- ---- reading and shortening: "header, body, 11"
 
 -- A header is refused with a number exactly where the page's order for headers gives that number.
-pub header-refused-exactly : (s : List ℕ) (n : ℕ) → (headerAnswer s ≡ header-refused (number n)) ↔ WholeNo s n
+pub header-refused-exactly : (s : List ℕ) (n : ℕ) → (headerAnswer s ≡ header-refused (numbered n)) ↔ WholeNo s n
 header-refused-exactly s n = Iff·trans (header-says s n) (whole-no s n)
 
 -- Bytes are refused as a message exactly where the page's order, header and then body, gives that number.
-pub read-refused-exactly : (s : List ℕ) (n : ℕ) → (readAnswer s ≡ read-refused (number n)) ↔ ReadNo s n
+pub read-refused-exactly : (s : List ℕ) (n : ℕ) → (readAnswer s ≡ read-refused (numbered n)) ↔ ReadNo s n
 read-refused-exactly s n = Iff·trans (read-says s n) (read-no s n)
 
 -- The same where further messages may follow: then nothing is left over.
-pub first-refused-exactly : (s : List ℕ) (n : ℕ) → (firstAnswer s ≡ first-refused (number n)) ↔ FirstNo s n
+pub first-refused-exactly : (s : List ℕ) (n : ℕ) → (firstAnswer s ≡ first-refused (numbered n)) ↔ FirstNo s n
 first-refused-exactly s n = Iff·trans (first-says s n) (first-no s n)
 
 -- Shortening is refused where reading is, and with 11 where the shortest message does not fit.
-pub shorten-refused-exactly : (room : ℕ) (s : List ℕ) (n : ℕ) → (shortenAnswer room s ≡ short-refused (number n)) ↔ ShortNo room s n
+pub shorten-refused-exactly : (room : ℕ) (s : List ℕ) (n : ℕ) → (shortenAnswer room s ≡ short-refused (numbered n)) ↔ ShortNo room s n
 shorten-refused-exactly room s n = Iff·trans (short-says room s n) (short-no room s n)
 
 -- ---- "opening 12, 13, 16, 17, 18, 11 .. Terminal message 12, 14, header, 15, body, 11. Link lost 12, 14."
@@ -89,7 +88,7 @@ module _ (d : Desk) (i : ℕ) (b : List ℕ) (room : ℕ) where
   -- A terminal says nothing out of turn.
   pub out-of-turn : Refuses (answerOf d (message i b) room) 15
       ↔ ((i < 8) × (phaseAt (view d) i ≡ Idle → ⊥)
-      × ((h : Header) × (wholeHeader b ≡ got h) × (Allowed (phaseAt (view d) i) h → ⊥)))
+      × ((h : Heading) × (wholeHeader b ≡ got h) × (Allowed (phaseAt (view d) i) h → ⊥)))
   out-of-turn = Iff·trans (decided-no d (message i b) room 15) (table.not-allowed-exactly (view d) i b room)
 
   -- 1 to 10 are the reader's own numbers, of the header and then of the body.
@@ -152,7 +151,7 @@ pub close-unchanged : (d : Desk) → Valid d → (n : ℕ) → Refuses (closeAns
 close-unchanged = closing-same
 
 -- A refused shortening leaves the buffer as it was.
-pub shorten-unchanged : (s out : List ℕ) (n : ℕ) → shortenAnswer (length out) s ≡ short-refused (number n) → shortenLeaves s out ≡ out
+pub shorten-unchanged : (s out : List ℕ) (n : ℕ) → shortenAnswer (length out) s ≡ short-refused (numbered n) → shortenLeaves s out ≡ out
 shorten-unchanged = short-leaves
 
 -- "Where a call succeeds, buffer bytes beyond those written are unchanged."

@@ -10,18 +10,18 @@ use lib.IntN.{pos, _-ℤ_}
 use lib.ListN.{length, getD}
 use Rattle.desk_rules.specs.Desk.{State, fresh, places, run}
 use Rattle.desk_rules.specs.Memory.{freshDesk, view}
-use Rattle.desk_rules.specs.Runs.{callsOf, own, openings}
-use Rattle.desk_rules.specs.Payments.{paymentsOf, oneByOne, linesOf, Says}
+use Rattle.desk_rules.specs.Runs.{callsOf, ownOf, openings}
+use Rattle.desk_rules.specs.Payments.{paymentsOf, oneByOne, linesOf, LaneSays}
 use Rattle.desk_rules.specs.Turnover.{gains, losses, netOf}
 use Rattle.desk_rules.proofs.Runs.{repliesTo}
 use Rattle.desk_rules.proofs.Runs as runs
 use Rattle.desk_rules.proofs.DayBook as book
 use Rattle.desk_rules.proofs.Order as law
 use Rattle.desk_rules.proofs.Net as net
-use Rattle.promises.specs.Days.{Turn, callsIn, OfBytes, Taken, atEnd, linesIn, repliesAt, otherDay}
+use Rattle.promises.specs.Days.{DeskTurn, callsIn, OfBytes, Taken, atEnd, linesIn, repliesAt, otherDay}
 use Rattle.promises.proofs.Turns.{calls-roomy, bytes-one-by-one, a-day, as-a-day, of-desk, replies-same}
 
-module _ (day : List Turn) (b : OfBytes (callsIn day)) (t : Taken freshDesk day) where
+module _ (day : List DeskTurn) (b : OfBytes (callsIn day)) (t : Taken freshDesk day) where
   -- Terminals that talk at once do to the book and to each other what they would do one after another.
   pub order : let other = otherDay day in
       Taken freshDesk other × (view (atEnd other) ≡ view (atEnd day)) × ((k : ℕ) → repliesAt k other ≡ repliesAt k day)
@@ -57,10 +57,10 @@ module _ (day : List Turn) (b : OfBytes (callsIn day)) (t : Taken freshDesk day)
       of-desk (λ (s : State). s .lines ≡ linesOf [] (paymentsOf (callsIn day) .ended)) day its (book.book (callsIn day) (its .accepted))
 
   -- Every lane is what the messages of its open payment say.
-  pub every-lane : (k : ℕ) → Says k (own k (view (atEnd day))) (getD (paymentsOf (callsIn day) .ongoing) k [])
+  pub every-lane : (k : ℕ) → LaneSays k (ownOf k (view (atEnd day))) (getD (paymentsOf (callsIn day) .ongoing) k [])
   every-lane k =
       let its = a-day day b t in
-      of-desk (λ (s : State). Says k (own k s) (getD (paymentsOf (callsIn day) .ongoing) k [])) day its (book.lane-of-open (callsIn day) (its .accepted) k)
+      of-desk (λ (s : State). LaneSays k (ownOf k s) (getD (paymentsOf (callsIn day) .ongoing) k [])) day its (book.lane-of-open (callsIn day) (its .accepted) k)
 
   -- Net turnover is what the terminals' messages make of the ended payments: approved sales less approved reversals and refunds.
   pub turnover : let lines = linesOf [] (paymentsOf (callsIn day) .ended) in netOf (linesIn day) ≡ pos (gains lines) -ℤ pos (losses lines)

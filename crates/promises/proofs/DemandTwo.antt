@@ -19,10 +19,10 @@ use Rattle.zvt_rules.specs.Values.{valueIn, statusFields}
 use Rattle.zvt_rules.proofs.Readings.{got-same, then-on}
 use Rattle.zvt_rules.proofs.MessageBytes as reading
 use Rattle.zvt_rules.proofs.MessageShort as shortest
-use Rattle.zvt.specs.declared.Message.{Message as Told}
-use Rattle.zvt.specs.declared.ReadAnswer.the-variants.{Accepted}
-use Rattle.zvt.specs.Answers.{messageAnswer, asReadAnswer, readAnswer}
-use Rattle.zvt.specs.Name.{nameAt, cardName, namePlace}
+use Rattle.zvt_rules.specs.declared.Outline.{Outline}
+use Rattle.zvt_rules.specs.declared.ReadAnswer.the-variants.{Accepted}
+use Rattle.zvt_rules.specs.Answers.{outlineOf, asReadAnswer, readAnswer}
+use Rattle.zvt_rules.specs.Name.{nameAt, cardName, namePlace}
 use Rattle.desk_rules.specs.declared.Desk.{Desk}
 use Rattle.desk_rules.specs.declared.Reply.the-variants.{Written}
 use Rattle.desk_rules.specs.Numbers.{amountOk, receiptOk, passwordOk}
@@ -37,13 +37,13 @@ use Rattle.promises.proofs.NameTable.{shown, name-lies}
 -- ---- "read .. as PA00P015 13.11 lays them out"
 
 -- Bytes are accepted exactly where they are those of a message within the limits, and what is answered is told of that message.
-pub read-exactly : (s : List ℕ) (t : Told) → Bytes s
-    → (readAnswer s ≡ Accepted t) ↔ ((m : Message) × (messageBytes m ≡ s) × MessageOk m × (messageAnswer m ≡ t))
+pub read-exactly : (s : List ℕ) (t : Outline) → Bytes s
+    → (readAnswer s ≡ Accepted t) ↔ ((m : Message) × (messageBytes m ≡ s) × MessageOk m × (outlineOf m ≡ t))
 unfolding readAnswer asReadAnswer
 read-exactly s t b = (to (readOf s) refl, λ k. ap asReadAnswer (reading.read-exactly s (k .0) b .1 (k .1, k .2)) ∙ ap Accepted (k .3))
   where
     to : (x : Reading Message) → readOf s ≡ x → asReadAnswer x ≡ Accepted t
-        → (m : Message) × (messageBytes m ≡ s) × MessageOk m × (messageAnswer m ≡ t)
+        → (m : Message) × (messageBytes m ≡ s) × MessageOk m × (outlineOf m ≡ t)
     to (got m) e h = let k = reading.read-exactly s m b .0 e in (m, k .0, k .1, cc)
     to (refused f) e h = absurd (let z : _≡_ {A = ℕ} 0 1 = cc in omega arith)
 
@@ -56,12 +56,12 @@ pub first-of-many : (m : Message) (rest : List ℕ) → MessageOk m → firstOf 
 first-of-many = reading.first-complete
 
 -- "The reader reports the number of objects, and it is the number that the definition counts", at most 64.
-pub objects-counted : (s : List ℕ) (t : Told) → Bytes s → readAnswer s ≡ Accepted t
+pub objects-counted : (s : List ℕ) (t : Outline) → Bytes s → readAnswer s ≡ Accepted t
     → (m : Message) × (readOf s ≡ got m) × (t .objects ≡ countOf m) × (countOf m ≤ 64)
-unfolding messageAnswer
+unfolding outlineOf
 objects-counted s t b h =
     let k = read-exactly s t b .0 h in
-    (k .0, reading.read-exactly s (k .0) b .1 (k .1, k .2), ap (λ (x : Told). x .objects) (sym (k .3)), reading.count-limit (k .0) (k .2))
+    (k .0, reading.read-exactly s (k .0) b .1 (k .1, k .2), ap (λ (x : Outline). x .objects) (sym (k .3)), reading.count-limit (k .0) (k .2))
 
 -- ---- "What we write reads back as the same values."
 
@@ -104,12 +104,12 @@ reply-reads-back = refl
 -- ---- ".. has the same bytes exactly when all its lengths were in shortest form"
 
 -- Shortening changes a message exactly where the reader says that it is not shortest.
-pub same-bytes-exactly : (s : List ℕ) (t : Told) → Bytes s → readAnswer s ≡ Accepted t → (shorten s ≡ got s) ↔ (t .shortest ≡ true)
-unfolding messageAnswer
+pub same-bytes-exactly : (s : List ℕ) (t : Outline) → Bytes s → readAnswer s ≡ Accepted t → (shorten s ≡ got s) ↔ (t .shortest ≡ true)
+unfolding outlineOf
 same-bytes-exactly s t b h =
     let k = read-exactly s t b .0 h in
     let m = k .0 in
-    let e : isShort m ≡ t .shortest = ap (λ (x : Told). x .shortest) (k .3) in
+    let e : isShort m ≡ t .shortest = ap (λ (x : Outline). x .shortest) (k .3) in
     rw (← e) (shortest.shorten-exactly s m b (reading.read-exactly s m b .1 (k .1, k .2)))
 
 -- Shortening twice changes nothing more.

@@ -9,16 +9,17 @@ use lib.ListN.{length}
 use borrow.Author.Tests.{ne-eqb}
 use lib.Dec.{eqb}
 use Rattle.zvt_rules.specs.Reading.{pick, part}
-use Rattle.zvt_rules.proofs.ObjectSteps.{part-length}
+use Rattle.zvt_rules.proofs.ObjectReading.{part-length}
 use Rattle.zvt_rules.specs.Message.{readOf}
 use Rattle.zvt_rules.specs.Grammar.{Bytes}
 use Rattle.zvt_rules.specs.Values.{Found, missing, found, valueIn, statusFields}
-use Rattle.zvt.specs.declared.FieldAnswer.{FieldAnswer}
-use Rattle.zvt.specs.declared.FieldAnswer.the-variants.{Field as listed-field, End}
-use Rattle.zvt.specs.List.{namedListed, listedIn, statusPlace}
-use Rattle.zvt.specs.Name.{upToZero, NameAt, own, between, sizedName, nameIn, nameAt, nameBytes, cardName, namePlace}
-use Rattle.zvt.specs.declared.ListPlace.{ListPlace}
-use Rattle.zvt.specs.declared.ListPlace.the-variants.{Nowhere, Between}
+use Rattle.zvt_rules.specs.declared.FieldAnswer.{FieldAnswer}
+use Rattle.zvt_rules.specs.declared.FieldAnswer.the-variants.{Field as listed-field, End}
+use Rattle.zvt_rules.specs.Listed.{namedListed}
+use Rattle.zvt.specs.ListSteps.{listedIn, statusPlace}
+use Rattle.zvt_rules.specs.Name.{upToZero, own, NameAt, between, sizedName, nameIn, nameAt, nameBytes, cardName, namePlace}
+use Rattle.zvt_rules.specs.declared.ListPlace.{ListPlace}
+use Rattle.zvt_rules.specs.declared.ListPlace.the-variants.{Nowhere, Between}
 use Rattle.zvt.proofs.PlaceLaws.{StatusIn, status-at, status-nowhere}
 use Rattle.zvt.proofs.ValueLaws.{not-here, is-here}
 use Rattle.zvt.proofs.NameLaws.{name-begins, name-stands, own-name, part-name}

@@ -13,182 +13,182 @@ use Rattle.tape.proofs as tape
 use Rattle.listing.proofs as listing
 use Rattle.filling.proofs as filling
 use Rattle.listing.specs.Text.{Text}
-use Rattle.promises.specs.OneAnswer.{Only, whole, placed, nothing, contents}
+use Rattle.promises.specs.OneAnswer.{Only, itself, placed, nothing, contents}
 
 only : {A E X Y : Type 0} {answer : A → X} {lent : E → Y} {states : A → E → Type 0} (x : X) (y : Y)
     → ((r : A) (e : E) → states r e → (answer r ≡ x) × (lent e ≡ y)) → Only answer lent states
 only x y h = record { one = λ r r′ e e′ s s′. (h r e s .0 ∙ sym (h r′ e′ s′ .0), h r e s .1 ∙ sym (h r′ e′ s′ .1)) }
 
 -- ---- the reader
-pub read-header-one : (κs : _) (a : _) → Only whole nothing (zvt.read_header.Reads.Learnt κs a)
+pub read-header-one : (κs : _) (a : _) → Only itself nothing (zvt.read_header.Reads.Learnt κs a)
 read-header-one κs a = only _ _ (λ r e h. (h, refl))
 
-pub read-one : (κs : _) (a : _) → Only whole nothing (zvt.read.Reads.Learnt κs a)
+pub read-one : (κs : _) (a : _) → Only itself nothing (zvt.read.Reads.Learnt κs a)
 read-one κs a = only _ _ (λ r e h. (h, refl))
 
-pub read-first-one : (κs : _) (a : _) → Only whole nothing (zvt.read_first.Reads.Learnt κs a)
+pub read-first-one : (κs : _) (a : _) → Only itself nothing (zvt.read_first.Reads.Learnt κs a)
 read-first-one κs a = only _ _ (λ r e h. (h, refl))
 
-pub shorten-one : (κs : _) (a : _) → Only whole (λ e. now (e .1 .0)) (zvt.shorten.Reads.Learnt κs a)
+pub shorten-one : (κs : _) (a : _) → Only itself (λ e. now (e .1 .0)) (zvt.shorten.Reads.Learnt κs a)
 shorten-one κs a = only _ _ (λ r e h. h)
 
-pub list-place-one : (κs : _) (a : _) → Only whole nothing (zvt.list_place.Reads.Learnt κs a)
+pub list-place-one : (κs : _) (a : _) → Only itself nothing (zvt.list_place.Reads.Learnt κs a)
 list-place-one κs a = only _ _ (λ r e h. (h, refl))
 
-pub field-at-one : (κs : _) (a : _) → Only whole nothing (zvt.field_at.Reads.Learnt κs a)
+pub field-at-one : (κs : _) (a : _) → Only itself nothing (zvt.field_at.Reads.Learnt κs a)
 field-at-one κs a = only _ _ (λ r e h. (h, refl))
 
-pub field-named-one : (κs : _) (a : _) → Only whole nothing (zvt.field_named.Reads.Learnt κs a)
+pub field-named-one : (κs : _) (a : _) → Only itself nothing (zvt.field_named.Reads.Learnt κs a)
 field-named-one κs a = only _ _ (λ r e h. (h, refl))
 
-pub read-status-one : (κs : _) (a : _) → Only whole nothing (zvt.read_status.Reads.Learnt κs a)
+pub read-status-one : (κs : _) (a : _) → Only itself nothing (zvt.read_status.Reads.Learnt κs a)
 read-status-one κs a = only _ _ (λ r e h. (h, refl))
 
 pub card-name-one : (κs : _) (a : _) → Only placed nothing (zvt.card_name.Reads.Learnt κs a)
 card-name-one κs a = only _ _ (λ r e h. (ap₂ (λ (p : ℕ × ℕ) (n : List ℕ). (p, n)) (h .1) (h .0), refl))
 
-pub amount-bytes-one : (κs : _) (a : _) → Only whole nothing (zvt.amount_bytes.Reads.Learnt κs a)
+pub amount-bytes-one : (κs : _) (a : _) → Only itself nothing (zvt.amount_bytes.Reads.Learnt κs a)
 amount-bytes-one κs a = only _ _ (λ r e h. (h, refl))
 
-pub password-bytes-one : (κs : _) (a : _) → Only whole nothing (zvt.password_bytes.Reads.Learnt κs a)
+pub password-bytes-one : (κs : _) (a : _) → Only itself nothing (zvt.password_bytes.Reads.Learnt κs a)
 password-bytes-one κs a = only _ _ (λ r e h. (h, refl))
 
-pub receipt-bytes-one : (κs : _) (a : _) → Only whole nothing (zvt.receipt_bytes.Reads.Learnt κs a)
+pub receipt-bytes-one : (κs : _) (a : _) → Only itself nothing (zvt.receipt_bytes.Reads.Learnt κs a)
 receipt-bytes-one κs a = only _ _ (λ r e h. (h, refl))
 
 -- ---- the desk
-pub open-sale-one : (κs : _) (a : _) → Only whole (λ e. now (e .1 .1 .1 .0)) (desk.open_sale.Reads.Learnt κs a)
+pub open-sale-one : (κs : _) (a : _) → Only itself (λ e. now (e .1 .1 .1 .0)) (desk.open_sale.Reads.Learnt κs a)
 open-sale-one κs a = only _ _ (λ r e h. h)
 
-pub open-refund-one : (κs : _) (a : _) → Only whole (λ e. now (e .1 .1 .1 .1 .0)) (desk.open_refund.Reads.Learnt κs a)
+pub open-refund-one : (κs : _) (a : _) → Only itself (λ e. now (e .1 .1 .1 .1 .0)) (desk.open_refund.Reads.Learnt κs a)
 open-refund-one κs a = only _ _ (λ r e h. h)
 
-pub open-reversal-one : (κs : _) (a : _) → Only whole (λ e. now (e .1 .1 .1 .1 .0)) (desk.open_reversal.Reads.Learnt κs a)
+pub open-reversal-one : (κs : _) (a : _) → Only itself (λ e. now (e .1 .1 .1 .1 .0)) (desk.open_reversal.Reads.Learnt κs a)
 open-reversal-one κs a = only _ _ (λ r e h. h)
 
-pub terminal-one : (κs : _) (a : _) → Only whole (λ e. now (e .1 .1 .1 .0)) (desk.terminal.Reads.Learnt κs a)
+pub terminal-one : (κs : _) (a : _) → Only itself (λ e. now (e .1 .1 .1 .0)) (desk.terminal.Reads.Learnt κs a)
 terminal-one κs a = only _ _ (λ r e h. h)
 
-pub link-lost-one : (κs : _) (a : _) → Only whole nothing (desk.link_lost.Reads.Learnt κs a)
+pub link-lost-one : (κs : _) (a : _) → Only itself nothing (desk.link_lost.Reads.Learnt κs a)
 link-lost-one κs a = only _ _ (λ r e h. (h, refl))
 
-pub close-one : (κs : _) (a : _) → Only whole nothing (desk.close.Reads.Learnt κs a)
+pub close-one : (κs : _) (a : _) → Only itself nothing (desk.close.Reads.Learnt κs a)
 close-one κs a = only _ _ (λ r e h. (h, refl))
 
-pub net-one : (κs : _) (a : _) → Only whole nothing (desk.net.Reads.Learnt κs a)
+pub net-one : (κs : _) (a : _) → Only itself nothing (desk.net.Reads.Learnt κs a)
 net-one κs a = only _ _ (λ r e h. (h, refl))
 
-pub line-at-one : (κs : _) (a : _) → Only whole nothing (desk.line_at.Reads.Learnt κs a)
+pub line-at-one : (κs : _) (a : _) → Only itself nothing (desk.line_at.Reads.Learnt κs a)
 line-at-one κs a = only _ _ (λ r e h. (h, refl))
 
-pub lane-at-one : (κs : _) (a : _) → Only whole nothing (desk.lane_at.Reads.Learnt κs a)
+pub lane-at-one : (κs : _) (a : _) → Only itself nothing (desk.lane_at.Reads.Learnt κs a)
 lane-at-one κs a = only _ _ (λ r e h. (h, refl))
 
 -- ---- what a desk is made of
-pub desk-fresh-one : (κs : _) (a : _) → Only whole nothing (course.Desk.fresh.Reads.Learnt κs a)
+pub desk-fresh-one : (κs : _) (a : _) → Only itself nothing (course.Desk.fresh.Reads.Learnt κs a)
 desk-fresh-one κs a = only _ _ (λ r e h. (h, refl))
 
-pub book-empty-one : (κs : _) (a : _) → Only whole nothing (course.Book.empty.Reads.Learnt κs a)
+pub book-empty-one : (κs : _) (a : _) → Only itself nothing (course.Book.empty.Reads.Learnt κs a)
 book-empty-one κs a = only _ _ (λ r e h. (h, refl))
 
-pub line-blank-one : (κs : _) (a : _) → Only whole nothing (course.Line.blank.Reads.Learnt κs a)
+pub line-blank-one : (κs : _) (a : _) → Only itself nothing (course.Line.blank.Reads.Learnt κs a)
 line-blank-one κs a = only _ _ (λ r e h. (h, refl))
 
-pub lane-idle-one : (κs : _) (a : _) → Only whole nothing (course.Lane.idle.Reads.Learnt κs a)
+pub lane-idle-one : (κs : _) (a : _) → Only itself nothing (course.Lane.idle.Reads.Learnt κs a)
 lane-idle-one κs a = only _ _ (λ r e h. (h, refl))
 
-pub lane-waiting-one : (κs : _) (a : _) → Only whole nothing (course.Lane.waiting.Reads.Learnt κs a)
+pub lane-waiting-one : (κs : _) (a : _) → Only itself nothing (course.Lane.waiting.Reads.Learnt κs a)
 lane-waiting-one κs a = only _ _ (λ r e h. (h, refl))
 
-pub lane-running-one : (κs : _) (a : _) → Only whole nothing (course.Lane.running.Reads.Learnt κs a)
+pub lane-running-one : (κs : _) (a : _) → Only itself nothing (course.Lane.running.Reads.Learnt κs a)
 lane-running-one κs a = only _ _ (λ r e h. (h, refl))
 
-pub lane-reported-one : (κs : _) (a : _) → Only whole nothing (course.Lane.reported.Reads.Learnt κs a)
+pub lane-reported-one : (κs : _) (a : _) → Only itself nothing (course.Lane.reported.Reads.Learnt κs a)
 lane-reported-one κs a = only _ _ (λ r e h. (h, refl))
 
-pub lane-amount-ok-one : (κs : _) (a : _) → Only whole nothing (course.Lane.amount_ok.Reads.Learnt κs a)
+pub lane-amount-ok-one : (κs : _) (a : _) → Only itself nothing (course.Lane.amount_ok.Reads.Learnt κs a)
 lane-amount-ok-one κs a = only _ _ (λ r e h. (h, refl))
 
-pub lane-receipt-ok-one : (κs : _) (a : _) → Only whole nothing (course.Lane.receipt_ok.Reads.Learnt κs a)
+pub lane-receipt-ok-one : (κs : _) (a : _) → Only itself nothing (course.Lane.receipt_ok.Reads.Learnt κs a)
 lane-receipt-ok-one κs a = only _ _ (λ r e h. (h, refl))
 
-pub lane-password-ok-one : (κs : _) (a : _) → Only whole nothing (course.Lane.password_ok.Reads.Learnt κs a)
+pub lane-password-ok-one : (κs : _) (a : _) → Only itself nothing (course.Lane.password_ok.Reads.Learnt κs a)
 lane-password-ok-one κs a = only _ _ (λ r e h. (h, refl))
 
-pub nothing-told-one : (κs : _) (a : _) → Only whole nothing (course.nothing_told.Reads.Learnt κs a)
+pub nothing-told-one : (κs : _) (a : _) → Only itself nothing (course.nothing_told.Reads.Learnt κs a)
 nothing-told-one κs a = only _ _ (λ r e h. (h, refl))
 
 -- ---- a block of a tape, and a desk with its tape
-pub block-before-last-one : (κs : _) (a : _) → Only whole nothing (blocks.Block.before_last.Reads.Learnt κs a)
+pub block-before-last-one : (κs : _) (a : _) → Only itself nothing (blocks.Block.before_last.Reads.Learnt κs a)
 block-before-last-one κs a = only _ _ (λ r e h. (h, refl))
 
-pub block-at-end-one : (κs : _) (a : _) → Only whole nothing (blocks.Block.at_end.Reads.Learnt κs a)
+pub block-at-end-one : (κs : _) (a : _) → Only itself nothing (blocks.Block.at_end.Reads.Learnt κs a)
 block-at-end-one κs a = only _ _ (λ r e h. (h, refl))
 
-pub taped-fresh-one : (κs : _) (a : _) → Only whole nothing (blocks.Taped.fresh.Reads.Learnt κs a)
+pub taped-fresh-one : (κs : _) (a : _) → Only itself nothing (blocks.Taped.fresh.Reads.Learnt κs a)
 taped-fresh-one κs a = only _ _ (λ r e h. (h, refl))
 
 -- ---- the tape
 both : {o o′ t t′ : List ℕ} → o ≡ o′ → t ≡ t′ → _≡_ {A = List ℕ × List ℕ} (o, t) (o′, t′)
 both = ap₂ (λ (o t : List ℕ). (o, t))
 
-pub write-block-one : (κs : _) (a : _) → Only whole (λ e. now (e .1 .1 .0)) (tape.write_block.Reads.Learnt κs a)
+pub write-block-one : (κs : _) (a : _) → Only itself (λ e. now (e .1 .1 .0)) (tape.write_block.Reads.Learnt κs a)
 write-block-one κs a = only _ _ (λ r e h. h)
 
-pub read-block-one : (κs : _) (a : _) → Only whole nothing (tape.read_block.Reads.Learnt κs a)
+pub read-block-one : (κs : _) (a : _) → Only itself nothing (tape.read_block.Reads.Learnt κs a)
 read-block-one κs a = only _ _ (λ r e h. (h, refl))
 
-pub write-tape-one : (κs : _) (a : _) → Only whole (λ e. now (e .1 .0)) (tape.write_tape.Reads.Learnt κs a)
+pub write-tape-one : (κs : _) (a : _) → Only itself (λ e. now (e .1 .0)) (tape.write_tape.Reads.Learnt κs a)
 write-tape-one κs a = only _ _ (λ r e h. h)
 
-pub read-tape-one : (κs : _) (a : _) → Only whole (λ e. now (e .1 .0)) (tape.read_tape.Reads.Learnt κs a)
+pub read-tape-one : (κs : _) (a : _) → Only itself (λ e. now (e .1 .0)) (tape.read_tape.Reads.Learnt κs a)
 read-tape-one κs a = only _ _ (λ r e h. h)
 
 pub taped-sale-one : (κs : _) (a : _)
-    → Only whole (λ e. contents (e .1 .1 .1 .0) (e .1 .1 .1 .1 .0)) (tape.open_sale.Reads.Learnt κs a)
+    → Only itself (λ e. contents (e .1 .1 .1 .0) (e .1 .1 .1 .1 .0)) (tape.open_sale.Reads.Learnt κs a)
 taped-sale-one κs a = only _ _ (λ r e h. (h .0, both (h .1 .0) (h .1 .1)))
 
 pub taped-refund-one : (κs : _) (a : _)
-    → Only whole (λ e. contents (e .1 .1 .1 .1 .0) (e .1 .1 .1 .1 .1 .0)) (tape.open_refund.Reads.Learnt κs a)
+    → Only itself (λ e. contents (e .1 .1 .1 .1 .0) (e .1 .1 .1 .1 .1 .0)) (tape.open_refund.Reads.Learnt κs a)
 taped-refund-one κs a = only _ _ (λ r e h. (h .0, both (h .1 .0) (h .1 .1)))
 
 pub taped-reversal-one : (κs : _) (a : _)
-    → Only whole (λ e. contents (e .1 .1 .1 .1 .0) (e .1 .1 .1 .1 .1 .0)) (tape.open_reversal.Reads.Learnt κs a)
+    → Only itself (λ e. contents (e .1 .1 .1 .1 .0) (e .1 .1 .1 .1 .1 .0)) (tape.open_reversal.Reads.Learnt κs a)
 taped-reversal-one κs a = only _ _ (λ r e h. (h .0, both (h .1 .0) (h .1 .1)))
 
 pub taped-terminal-one : (κs : _) (a : _)
-    → Only whole (λ e. contents (e .1 .1 .1 .0) (e .1 .1 .1 .1 .0)) (tape.terminal.Reads.Learnt κs a)
+    → Only itself (λ e. contents (e .1 .1 .1 .0) (e .1 .1 .1 .1 .0)) (tape.terminal.Reads.Learnt κs a)
 taped-terminal-one κs a = only _ _ (λ r e h. (h .0, both (h .1 .0) (h .1 .1)))
 
-pub taped-link-lost-one : (κs : _) (a : _) → Only whole (λ e. now (e .1 .1 .0)) (tape.link_lost.Reads.Learnt κs a)
+pub taped-link-lost-one : (κs : _) (a : _) → Only itself (λ e. now (e .1 .1 .0)) (tape.link_lost.Reads.Learnt κs a)
 taped-link-lost-one κs a = only _ _ (λ r e h. h)
 
-pub taped-close-one : (κs : _) (a : _) → Only whole nothing (tape.close.Reads.Learnt κs a)
+pub taped-close-one : (κs : _) (a : _) → Only itself nothing (tape.close.Reads.Learnt κs a)
 taped-close-one κs a = only _ _ (λ r e h. (h, refl))
 
 -- ---- the text of a listing: how far the buffer is taken, and its bytes
-pub add-ids-one : (κs : _) (a : _) → Only whole (λ e. now (e .1 .1 .0)) (listing.add_ids.Reads.Learnt κs a)
+pub add-ids-one : (κs : _) (a : _) → Only itself (λ e. now (e .1 .1 .0)) (listing.add_ids.Reads.Learnt κs a)
 add-ids-one κs a = only _ _ (λ r e h. (ap (λ (t : Text). t .at) h, ap (λ (t : Text). t .bytes) h))
 
-pub next-line-one : (κs : _) (a : _) → Only whole (λ e. now (e .1 .1 .0)) (listing.next_line.Reads.Learnt κs a)
+pub next-line-one : (κs : _) (a : _) → Only itself (λ e. now (e .1 .1 .0)) (listing.next_line.Reads.Learnt κs a)
 next-line-one κs a = only _ _ (λ r e h. (h .0 .answer, h .0 .left))
 
-pub text-add-one : (κs : _) (a : _) → Only whole (λ e. now (e .1 .1 .0)) (listing.text.add.Reads.Learnt κs a)
+pub text-add-one : (κs : _) (a : _) → Only itself (λ e. now (e .1 .1 .0)) (listing.text.add.Reads.Learnt κs a)
 text-add-one κs a = only _ _ (λ r e h. (ap (λ (t : Text). t .at) h, ap (λ (t : Text). t .bytes) h))
 
-pub text-add-all-one : (κs : _) (a : _) → Only whole (λ e. now (e .1 .1 .0)) (listing.text.add_all.Reads.Learnt κs a)
+pub text-add-all-one : (κs : _) (a : _) → Only itself (λ e. now (e .1 .1 .0)) (listing.text.add_all.Reads.Learnt κs a)
 text-add-all-one κs a = only _ _ (λ r e h. (ap (λ (t : Text). t .at) h, ap (λ (t : Text). t .bytes) h))
 
-pub text-add-hex-one : (κs : _) (a : _) → Only whole (λ e. now (e .1 .1 .0)) (listing.text.add_hex.Reads.Learnt κs a)
+pub text-add-hex-one : (κs : _) (a : _) → Only itself (λ e. now (e .1 .1 .0)) (listing.text.add_hex.Reads.Learnt κs a)
 text-add-hex-one κs a = only _ _ (λ r e h. (ap (λ (t : Text). t .at) h, ap (λ (t : Text). t .bytes) h))
 
-pub text-add-decimal-one : (κs : _) (a : _) → Only whole (λ e. now (e .1 .1 .0)) (listing.text.add_decimal.Reads.Learnt κs a)
+pub text-add-decimal-one : (κs : _) (a : _) → Only itself (λ e. now (e .1 .1 .0)) (listing.text.add_decimal.Reads.Learnt κs a)
 text-add-decimal-one κs a = only _ _ (λ r e h. (ap (λ (t : Text). t .at) h, ap (λ (t : Text). t .bytes) h))
 
-pub text-add-bytes-one : (κs : _) (a : _) → Only whole (λ e. now (e .1 .1 .0)) (listing.text.add_bytes.Reads.Learnt κs a)
+pub text-add-bytes-one : (κs : _) (a : _) → Only itself (λ e. now (e .1 .1 .0)) (listing.text.add_bytes.Reads.Learnt κs a)
 text-add-bytes-one κs a = only _ _ (λ r e h. (ap (λ (t : Text). t .at) h, ap (λ (t : Text). t .bytes) h))
 
-pub text-hex-value-one : (κs : _) (a : _) → Only whole nothing (listing.text.hex_value.Reads.Learnt κs a)
+pub text-hex-value-one : (κs : _) (a : _) → Only itself nothing (listing.text.hex_value.Reads.Learnt κs a)
 text-hex-value-one κs a = only _ _ (λ r e h. (h, refl))
 
 pub fill-one : (κs : _) (a : _) → Only nothing (λ e. now (e .0)) (filling.fill.Reads.Learnt κs a)

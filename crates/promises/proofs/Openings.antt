@@ -8,10 +8,11 @@ use native.Mathlib.Omega.{arith}
 use lib.ListN.{length, getD}
 use lib.Dec.{eqb}
 use Rattle.zvt_rules.specs.Reading.{pick}
+use Rattle.zvt_rules.proofs.Tests.{pick-under}
 use Rattle.desk_rules.specs.Course.{Call, laneOf, opens}
 use Rattle.desk_rules.specs.Desk.{fresh, Accepted}
 use Rattle.desk_rules.specs.Runs.{having, callsOf, total, openings}
-use Rattle.desk_rules.specs.Payments.{paymentsOf, joined, Begins}
+use Rattle.desk_rules.specs.Payments.{paymentsOf, flattened, Begins}
 use Rattle.desk_rules.proofs.Lanes.{opening-is}
 use Rattle.desk_rules.proofs.DayBook.{every-opening}
 use Rattle.promises.specs.Days.{openingsIn, firsts}
@@ -20,12 +21,7 @@ use Rattle.promises.specs.Days.{openingsIn, firsts}
 openings-append : (xs ys : List Call) → openingsIn (xs ++ ys) ≡ openingsIn xs ++ openingsIn ys
 unfolding openingsIn
 openings-append [] ys = refl
-openings-append (x ∷ xs) ys = rw (openings-append xs ys) (go (opens x))
-  where
-    go : (t : Bool) → pick t (x ∷ (openingsIn xs ++ openingsIn ys)) (openingsIn xs ++ openingsIn ys)
-        ≡ pick t (x ∷ openingsIn xs) (openingsIn xs) ++ openingsIn ys
-    go true = refl
-    go false = refl
+openings-append (x ∷ xs) ys = rw (openings-append xs ys) (sym (pick-under (λ l. l ++ openingsIn ys) (opens x) _ _))
 
 openings-lane : (k : ℕ) (xs : List Call) → openingsIn (callsOf k xs) ≡ callsOf k (openingsIn xs)
 unfolding openingsIn having
@@ -64,13 +60,13 @@ unfolding All
 all-begin [] h = tt
 all-begin (p ∷ ps) h = (h 0 (omega arith), all-begin ps (λ j l. h (suc j) (omega arith)))
 
-joined-firsts : (ps : List (List Call)) → All ps → (openingsIn (joined ps) ≡ firsts ps) × (length (firsts ps) ≡ length ps)
-unfolding All joined firsts openingsIn Begins
+joined-firsts : (ps : List (List Call)) → All ps → (openingsIn (flattened ps) ≡ firsts ps) × (length (firsts ps) ≡ length ps)
+unfolding All flattened firsts openingsIn Begins
 joined-firsts [] h = (refl, refl)
 joined-firsts ([] ∷ ps) h = absurd (h .0)
 joined-firsts ((o ∷ ds) ∷ ps) h =
     let k = joined-firsts ps (h .1) in
-    (openings-append (o ∷ ds) (joined ps) ∙ ap₂ (λ (xs ys : List Call). xs ++ ys) (payment-first (o ∷ ds) (h .0)) (k .0), omega (arith, k .1))
+    (openings-append (o ∷ ds) (flattened ps) ∙ ap₂ (λ (xs ys : List Call). xs ++ ys) (payment-first (o ∷ ds) (h .0)) (k .0), omega (arith, k .1))
 
 -- ---- one by one
 module _ (cs : List Call) (h : Accepted fresh cs) where
@@ -90,6 +86,6 @@ module _ (cs : List Call) (h : Accepted fresh cs) where
       let p = paymentsOf cs in
       sym (openings-lane k cs)
       ∙ ap openingsIn (every-opening cs h .calls k)
-      ∙ openings-append (callsOf k (joined (p .ended))) (getD (p .ongoing) k [])
+      ∙ openings-append (callsOf k (flattened (p .ended))) (getD (p .ongoing) k [])
       ∙ ap₂ (λ (xs ys : List Call). xs ++ ys)
-      (openings-lane k (joined (p .ended)) ∙ ap (callsOf k) (joined-firsts (p .ended) begun .0)) (open-first k)
+      (openings-lane k (flattened (p .ended)) ∙ ap (callsOf k) (joined-firsts (p .ended) begun .0)) (open-first k)

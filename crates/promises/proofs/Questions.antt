@@ -13,19 +13,19 @@ use Rattle.desk_rules.specs.Course.{Call, laneOf}
 use Rattle.desk_rules.specs.Desk.{State, laneAt, Decision, refuse, accept, decide}
 use Rattle.desk_rules.specs.Memory.{freshDesk, linesOfDesk, view, Valid, refusedAnswer, answerOf}
 use Rattle.desk_rules.specs.Runs.{ofLane, callsOf}
-use Rattle.desk_rules.specs.Payments.{paymentsOf, Whole, lineOf}
+use Rattle.desk_rules.specs.Payments.{paymentsOf, WholePayment, lineOf}
 use Rattle.desk_rules.proofs.Lanes.{isolation}
 use Rattle.desk_rules.proofs.DayBook.{lines-length, line-of}
 use Rattle.desk_rules.proofs.DayBook as book
 use Rattle.desk_rules.proofs.Memory.{refused-same, follows}
-use Rattle.promises.specs.Days.{Turn, callsIn, OfBytes, Taken, linesIn, openingsIn, firsts}
+use Rattle.promises.specs.Days.{DeskTurn, callsIn, OfBytes, Taken, linesIn, openingsIn, firsts}
 use Rattle.promises.specs.Counted.{Counted}
 use Rattle.promises.proofs.Turns.{a-day, of-desk}
 use Rattle.promises.proofs.Counted.{counted}
 use Rattle.promises.proofs.Openings.{ended-firsts, one-by-one}
 use Rattle.promises.proofs.DemandThree.{every-line}
 
-module _ (day : List Turn) (b : OfBytes (callsIn day)) (t : Taken freshDesk day) where
+module _ (day : List DeskTurn) (b : OfBytes (callsIn day)) (t : Taken freshDesk day) where
   -- line j is judged by the calls of payment j
   by-payment : (j : ℕ) → j < length (linesIn day) → let p = getD (paymentsOf (callsIn day) .ended) j [] in
       getD (linesIn day) j blankLine ≡ lineOf (take j (linesIn day)) p
@@ -40,7 +40,7 @@ module _ (day : List Turn) (b : OfBytes (callsIn day)) (t : Taken freshDesk day)
   -- one lane and begin with its opening; and if it is approved, by a report of code 00, the last that this payment had, and a completion.
   pub which-bytes : (j : ℕ) → j < length (linesIn day) → let p = getD (paymentsOf (callsIn day) .ended) j [] in
       let line = getD (linesIn day) j blankLine in
-      (line ≡ lineOf (take j (linesIn day)) p) × Whole p × (line .outcome ≡ Approved → Counted (take j (linesIn day)) p)
+      (line ≡ lineOf (take j (linesIn day)) p) × WholePayment p × (line .outcome ≡ Approved → Counted (take j (linesIn day)) p)
   which-bytes j l =
       let e = by-payment j l in
       let few = ap length (every-line day b t) in

@@ -10,16 +10,16 @@ use lib.Dec.{ltb, eqb}
 use borrow.Author.Tests.{lt-ltb, le-ltb, ltb-true, ltb-false, eqb-true, eqb-false, ne-eqb}
 use Rattle.zvt_rules.specs.declared.Fault.{Fault}
 use Rattle.zvt_rules.specs.Reading.{Reading, got, refused, noHeader, unless, andThen}
-use Rattle.zvt_rules.specs.Message.{longLength, lengthOf, Header, headerSize, end, headerWith, headerOf, messageOf, wholeHeader, firstOf, readOf}
+use Rattle.zvt_rules.specs.Message.{longLength, lengthOf, Heading, headerSize, end, headerWith, headerOf, messageOf, wholeHeader, firstOf, readOf}
 use Rattle.zvt_rules.specs.Shortest.{write, shorten}
-use Rattle.zvt.specs.Writing.{shortened}
+use Rattle.zvt_rules.specs.Answers.{shortened}
 use Rattle.zvt_rules.proofs.Readings.{got-same, got-not-refused, unless-got, unless-on, then-got, then-on, then-stop}
-use Rattle.zvt_rules.proofs.FieldSteps.{header-in}
-use Rattle.promises.specs.ReadRows.{Says, HeaderRow, missing, long-missing, over-4096, cut-short, there}
-use Rattle.promises.specs.ReadRows.{HeaderNo, Whole, WholeNo, BodyNo, FirstNo, ReadNo, ShortNo}
+use Rattle.zvt_rules.proofs.FieldReading.{header-in}
+use Rattle.promises.specs.ReadRows.{LengthSays, HeaderRow, header-missing, long-missing, over-4096, cut-short, there}
+use Rattle.promises.specs.ReadRows.{HeaderNo, WholeRow, WholeNo, BodyNo, FirstNo, ReadNo, ShortNo}
 
 -- ---- what the length bytes say is what is read
-length-read : (c i : ℕ) (t : List ℕ) (long : Bool) (v : ℕ) → Says (c ∷ (i ∷ t)) long v → lengthOf t ≡ got (record { long = long; value = v })
+length-read : (c i : ℕ) (t : List ℕ) (long : Bool) (v : ℕ) → LengthSays (c ∷ (i ∷ t)) long v → lengthOf t ≡ got (record { long = long; value = v })
 unfolding lengthOf longLength
 length-read c i [] false v h = absurd (omega (arith, h .0))
 length-read c i [] true v h = absurd (omega (arith, h .0))
@@ -28,7 +28,7 @@ length-read c i (b ∷ []) true v h = absurd (omega (arith, h .0))
 length-read c i (b ∷ (l ∷ [])) true v h = absurd (omega (arith, h .0))
 length-read c i (b ∷ (l ∷ (k ∷ t))) true v h = rw (h .1, h .2)
 
-sized : (s : List ℕ) (long : Bool) (v : ℕ) → Says s long v
+sized : (s : List ℕ) (long : Bool) (v : ℕ) → LengthSays s long v
     → headerOf s ≡ headerWith (getD s 0 0) (getD s 1 0) s (record { long = long; value = v })
 unfolding headerOf andThen
 sized [] false v h = absurd (omega (arith, h .0))
@@ -38,15 +38,15 @@ sized (c ∷ []) true v h = absurd (omega (arith, h .0))
 sized (c ∷ (i ∷ t)) long v h = rw (length-read c i t long v h)
 
 -- ---- each row of a header is given
-given : (s : List ℕ) {r : Reading Header} → HeaderRow s r → headerOf s ≡ r
+given : (s : List ℕ) {r : Reading Heading} → HeaderRow s r → headerOf s ≡ r
 unfolding headerOf lengthOf longLength headerWith andThen unless
-given [] (missing h) = refl
+given [] (header-missing h) = refl
 given [] (long-missing m n e) = absurd (omega arith)
-given (c ∷ []) (missing h) = refl
+given (c ∷ []) (header-missing h) = refl
 given (c ∷ []) (long-missing m n e) = absurd (omega arith)
-given (c ∷ (i ∷ [])) (missing h) = refl
+given (c ∷ (i ∷ [])) (header-missing h) = refl
 given (c ∷ (i ∷ [])) (long-missing m n e) = absurd (omega arith)
-given (c ∷ (i ∷ (b ∷ t))) (missing h) = absurd (omega arith)
+given (c ∷ (i ∷ (b ∷ t))) (header-missing h) = absurd (omega arith)
 given (c ∷ (i ∷ (b ∷ []))) (long-missing m n e) = rw e
 given (c ∷ (i ∷ (b ∷ (l ∷ [])))) (long-missing m n e) = rw e
 given (c ∷ (i ∷ (b ∷ (l ∷ (k ∷ t))))) (long-missing m n e) = absurd (omega arith)
@@ -56,10 +56,10 @@ given s (there long v h m e) = sized s long v h ∙ rw (le-ltb 4096 v m, le-ltb 
 
 -- ---- and one of them is
 module _ (s : List ℕ) where
-  put : {r : Reading Header} → HeaderRow s r → HeaderRow s (headerOf s)
+  put : {r : Reading Heading} → HeaderRow s r → HeaderRow s (headerOf s)
   put x = rw (given s x) x
 
-  by-size : (long : Bool) (v : ℕ) → Says s long v → HeaderRow s (headerOf s)
+  by-size : (long : Bool) (v : ℕ) → LengthSays s long v → HeaderRow s (headerOf s)
   by-size long v h = go (ltb 4096 v) (ltb (length s) (headerSize long + v)) refl refl
     where
       go : (large short : Bool) → ltb 4096 v ≡ large → ltb (length s) (headerSize long + v) ≡ short → HeaderRow s (headerOf s)
@@ -68,9 +68,9 @@ module _ (s : List ℕ) where
       go false false a b = put (there long v h (ltb-false 4096 v a) (ltb-false (length s) (headerSize long + v) b))
 
 found : (s : List ℕ) → HeaderRow s (headerOf s)
-found [] = put [] (missing (omega arith))
-found (c ∷ []) = put (c ∷ []) (missing (omega arith))
-found (c ∷ (i ∷ [])) = put (c ∷ (i ∷ [])) (missing (omega arith))
+found [] = put [] (header-missing (omega arith))
+found (c ∷ []) = put (c ∷ []) (header-missing (omega arith))
+found (c ∷ (i ∷ [])) = put (c ∷ (i ∷ [])) (header-missing (omega arith))
 found (c ∷ (i ∷ (b ∷ t))) = go t (eqb b 0xFF) refl
   where
     go : (t : List ℕ) (e : Bool) → eqb b 0xFF ≡ e → HeaderRow (c ∷ (i ∷ (b ∷ t))) (headerOf (c ∷ (i ∷ (b ∷ t))))
@@ -79,7 +79,7 @@ found (c ∷ (i ∷ (b ∷ t))) = go t (eqb b 0xFF) refl
     go (l ∷ []) true e = put (c ∷ (i ∷ (b ∷ (l ∷ [])))) (long-missing (omega arith) (omega arith) (eqb-true b 0xFF e))
     go (l ∷ (k ∷ t)) true e = by-size (c ∷ (i ∷ (b ∷ (l ∷ (k ∷ t))))) true (k * 256 + l) (omega arith, eqb-true b 0xFF e, refl)
 
-pub header-table : (s : List ℕ) (r : Reading Header) → (headerOf s ≡ r) ↔ HeaderRow s r
+pub header-table : (s : List ℕ) (r : Reading Heading) → (headerOf s ≡ r) ↔ HeaderRow s r
 header-table s r = (λ e. rw e at (found s), given s)
 
 -- ---- refused with a number
@@ -118,7 +118,7 @@ pub header-no : (s : List ℕ) (n : ℕ) → No (headerOf s) n ↔ HeaderNo s n
 header-no s n = (λ h. row (h .0) (header-table s _ .0 (h .1)) (h .2), λ r. (noHeader n, given s r, refl))
   where
     row : (f : Fault) → HeaderRow s (refused f) → f .number ≡ n → HeaderNo s n
-    row _ (missing h) e = rw (← e) (missing h)
+    row _ (header-missing h) e = rw (← e) (header-missing h)
     row _ (long-missing a b c) e = rw (← e) (long-missing a b c)
     row _ (over-4096 long v h m) e = rw (← e) (over-4096 long v h m)
     row _ (cut-short long v h m c) e = rw (← e) (cut-short long v h m c)
@@ -136,7 +136,7 @@ pub whole-no : (s : List ℕ) (n : ℕ) → No (wholeHeader s) n ↔ WholeNo s n
 unfolding wholeHeader
 whole-no s n = then-table (headerOf s) _ n (header-no s n) (λ h. header-table s (got h)) (λ h. over-no (end h) (length s) 3 h n)
 
-pub whole-table : (s : List ℕ) (h : Header) → (wholeHeader s ≡ got h) ↔ Whole s h
+pub whole-table : (s : List ℕ) (h : Heading) → (wholeHeader s ≡ got h) ↔ WholeRow s h
 unfolding wholeHeader
 whole-table s h = (
   λ e.
@@ -154,7 +154,7 @@ whole-table s h = (
 pub got-no : {A B : Type 0} (x : Reading A) (g : A → B) (n : ℕ) → No (andThen x λ a. got (g a)) n ↔ No x n
 got-no x g n = (λ k. ⊎-elim (λ b. b) (λ b. absurd (got-not-refused (b .2 .1))) (then-no x _ n k), λ k. no-then x _ n (inl k))
 
-message-no : (s : List ℕ) (h : Header) (n : ℕ) → No (messageOf s h) n ↔ BodyNo s h n
+message-no : (s : List ℕ) (h : Heading) (n : ℕ) → No (messageOf s h) n ↔ BodyNo s h n
 unfolding messageOf
 message-no s h n = got-no _ _ n
 

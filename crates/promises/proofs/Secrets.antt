@@ -14,11 +14,11 @@ use Rattle.zvt_rules.specs.Writing.{fieldBytes}
 use Rattle.zvt_rules.specs.Grammar.{Bytes}
 use Rattle.zvt_rules.specs.Digits.{digitBytesOf}
 use Rattle.zvt_rules.specs.Values.{fieldValue, statusFields, statusOf, isStatus, statusIn, bodyFields}
-use Rattle.zvt_rules.proofs.Readings.{pick-test}
+use Rattle.zvt_rules.proofs.Tests.{pick-test}
 use Rattle.zvt_rules.proofs.MessageBytes.{read-sound}
-use Rattle.zvt.specs.Answers.{messageAnswer, asReadAnswer, readAnswer}
-use Rattle.zvt.specs.List.{listedAt, listedFrom, listedBody, listedMessage, nthListed, fieldAnswer}
-use Rattle.zvt.specs.declared.Listed.{Listed}
+use Rattle.zvt_rules.specs.Answers.{outlineOf, asReadAnswer, readAnswer}
+use Rattle.zvt_rules.specs.Listed.{listedAt, listedFrom, listedBody, listedMessage, nthListed, fieldAnswer}
+use Rattle.zvt_rules.specs.declared.Listed.{Listed}
 use Rattle.desk_rules.specs.declared.Phase.{Phase}
 use Rattle.desk_rules.specs.declared.Phase.the-variants.{Idle, Waiting, Running}
 use Rattle.desk_rules.specs.declared.Lane.{Lane}
@@ -31,7 +31,7 @@ use Rattle.desk_rules.proofs.Commands.{refund-size, reversal-size, sale-reads, 
 use Rattle.tape_rules.specs.declared.Taped.{Taped}
 use Rattle.tape_rules.specs.Records.{secret, maskField, maskList, maskBody, maskMessage, masked, HiddenBody, Hidden, Record, replyEntry, entriesBy, entriesOf}
 use Rattle.tape_rules.specs.Recording.{callBytes, decideTaped, usedBy, tapedBy, tapedAnswer, tapeBy, tapedLeaves}
-use Rattle.tape_rules.specs.Taping.{Turn, Day, afterTurn, tapedRun}
+use Rattle.tape_rules.specs.Taping.{TapeTurn, Day, afterTurn, tapedRun}
 use Rattle.tape_rules.proofs.Masks.{mask-same, mask-reads, mask-hides, masked-refused, alike-recorded, sale-masked, refund-masked, reversal-masked}
 use Rattle.tape_rules.proofs.Unseen.{alike-heard, heard-reads}
 use Rattle.promises.specs.Days.{OfBytes}
@@ -64,8 +64,8 @@ unfolding listedBody maskBody
 body-places at (bytes s) = refl
 body-places at (listed password fs) = rw (length-replicate {A = ℕ} (length password) 0) (list-places (at + length password) fs)
 
-told-same : (m : Message) → messageAnswer (maskMessage m) ≡ messageAnswer m
-unfolding messageAnswer
+told-same : (m : Message) → outlineOf (maskMessage m) ≡ outlineOf m
+unfolding outlineOf
 told-same m = let k = mask-same m in rw (k .count, k .short, k .size, k .class, k .instruction, k .long)
 
 -- a reading's answer that is the same of a masked message is the same of masked bytes
@@ -201,7 +201,7 @@ module _ (c e : Call) (a : Agree c e) where
     tape-agree (refuse n) tape = refl
     tape-agree accept tape = rw (bytes-agree (view (t .desk)))
 
-turn-agree : (d : Day) (u v : Turn) → AlikeCall (u .call) (v .call) → u .room ≡ v .room → afterTurn d u ≡ afterTurn d v
+turn-agree : (d : Day) (u v : TapeTurn) → AlikeCall (u .call) (v .call) → u .room ≡ v .room → afterTurn d u ≡ afterTurn d v
 unfolding afterTurn tapedAnswer tapedLeaves
 turn-agree d u v a r =
     let k = agree a in
@@ -213,7 +213,7 @@ turn-agree d u v a r =
       tape-agree (u .call) (v .call) k (d .taped) x (d .tape),
     )
 
-pub alike-days : (us vs : List Turn) (d : Day) → AlikeDays us vs → tapedRun d us ≡ tapedRun d vs
+pub alike-days : (us vs : List TapeTurn) (d : Day) → AlikeDays us vs → tapedRun d us ≡ tapedRun d vs
 unfolding AlikeDays tapedRun
 alike-days [] [] d a = refl
 alike-days [] (v ∷ vs) d a = absurd a

@@ -9,6 +9,7 @@ use lib.Seq.{take-append-seam, take-at, drop-at}
 use lib.Dec.{ltb}
 use borrow.Author.Tests.{lt-ltb, le-ltb, ltb-true}
 use Rattle.zvt_rules.specs.Reading.{Reading, got, refused}
+use Rattle.zvt_rules.proofs.Tests.{by-test}
 use Rattle.desk_rules.specs.declared.Reply.the-variants.{Written, Refused}
 use Rattle.desk_rules.specs.Course.{Call, laneOf, NumbersFit}
 use Rattle.desk_rules.specs.Desk.{fresh, laneAt, Decision, refuse, accept, decide, Accepted, run}
@@ -19,20 +20,20 @@ use Rattle.tape_rules.specs.declared.BlockAnswer.the-variants.{Payload, Refused
 use Rattle.tape_rules.specs.declared.Taped.{Taped}
 use Rattle.tape_rules.specs.declared.TapedAnswer.{TapedAnswer}
 use Rattle.tape_rules.specs.Records.{recordBytes, joined, entriesOf, recorded, recordsIn}
-use Rattle.tape_rules.specs.Recording.{blockAnswer, writtenAnswer, writtenLeaves, callBytes, thenSpace, decideTaped, tapedAnswer, tapedOut, tapedLeaves, usedAfter, closeTaped, freshTaped}
+use Rattle.zvt_rules.specs.Buffers.{writtenLeaves}
+use Rattle.tape_rules.specs.Recording.{blockAnswer, writtenAnswer, callBytes, thenSpace, decideTaped, tapedAnswer, tapedOut, tapedLeaves, usedAfter, closeTaped, freshTaped}
 use Rattle.tape_rules.proofs.RecordLaws.{directionOf, own-first, record-size, records-read}
-use Rattle.tape_rules.specs.Taping.{Turn, Day, freshDay, decideTurn, afterTurn, tapedRun, keptIf, keptCalls}
+use Rattle.tape_rules.specs.Taping.{TapeTurn, Day, freshDay, decideTurn, afterTurn, tapedRun, keptIf, keptCalls}
 use Rattle.tape_rules.proofs.Masks.{Each}
 use Rattle.tape_rules.proofs.Taping.{taped-taken, taped-refused, taped-accepted, TurnFits, tape-follows}
 use Rattle.promises.specs.Days.{OfBytes}
 use Rattle.promises.specs.TapeDays.{callsPlayed}
 use Rattle.promises.proofs.ReadTable.{No}
-use Rattle.promises.proofs.TapeTable.{by-test}
-use Rattle.promises.specs.Answers.{number, Refuses, Takes, Open}
+use Rattle.promises.specs.Answers.{numbered, Refuses, Takes, Open}
 use Rattle.promises.proofs.Answers.{reading-no, apart, same-number, decided-no, decided-yes, closing-no, closing-yes, closing-same}
 
 -- ---- what is written into a buffer
-pub written-says : (x : Reading (List ℕ)) (n : ℕ) → (writtenAnswer x ≡ Refused (number n)) ↔ No x n
+pub written-says : (x : Reading (List ℕ)) (n : ℕ) → (writtenAnswer x ≡ Refused (numbered n)) ↔ No x n
 unfolding writtenAnswer
 written-says x n =
     reading-no writtenAnswer Refused
@@ -50,7 +51,7 @@ pub written-from : (x : Reading (List ℕ)) (out w : List ℕ) → x ≡ got w �
 unfolding writtenAnswer writtenLeaves
 written-from x out w e = rw e (refl, take-append-seam w (drop (length w) out))
 
-pub written-same : (x : Reading (List ℕ)) (out : List ℕ) (n : ℕ) → writtenAnswer x ≡ Refused (number n) → writtenLeaves x out ≡ out
+pub written-same : (x : Reading (List ℕ)) (out : List ℕ) (n : ℕ) → writtenAnswer x ≡ Refused (numbered n) → writtenLeaves x out ≡ out
 unfolding writtenLeaves
 written-same x out n e = let h = written-says x n .0 e in rw (h .1)
 
@@ -71,7 +72,7 @@ module _ (x : Reading (List ℕ)) (out : List ℕ) (k : ℕ) (e : writtenAnswer 
       rw (h .1) (drop-at (h .0) (drop (length (h .0)) out) k (h .2) ∙ ap (λ (n : ℕ). drop n out) (h .2))
 
 -- ---- what is read of a block
-pub block-says : (x : Reading (List ℕ)) (n : ℕ) → (blockAnswer x ≡ block-refused (number n)) ↔ No x n
+pub block-says : (x : Reading (List ℕ)) (n : ℕ) → (blockAnswer x ≡ block-refused (numbered n)) ↔ No x n
 unfolding blockAnswer
 block-says x n =
     reading-no blockAnswer block-refused
@@ -135,10 +136,10 @@ module _ (t : Taped) (c : Call) where
     abbrev decision : Decision
     decision = decideTaped t c (length out) (length tape)
 
-    decision-no : (n : ℕ) → (answer .reply ≡ Refused (number n)) ↔ (decision ≡ refuse n)
+    decision-no : (n : ℕ) → (answer .reply ≡ Refused (numbered n)) ↔ (decision ≡ refuse n)
     decision-no n = (to decision refl, λ e. ap (λ (a : TapedAnswer). a .reply) (taped-refused t c out tape n e .0))
       where
-        to : (x : Decision) → decision ≡ x → answer .reply ≡ Refused (number n) → decision ≡ refuse n
+        to : (x : Decision) → decision ≡ x → answer .reply ≡ Refused (numbered n) → decision ≡ refuse n
         to (refuse m) e h = e ∙ ap refuse (same-number (rw (taped-refused t c out tape m e .0) at h))
         to accept e h = absurd (apart (rw (taped-accepted t c out tape e .0) at h))
 
@@ -152,7 +153,7 @@ module _ (t : Taped) (c : Call) where
     abbrev deskSays : Answer
     deskSays = answerOf (t .desk) c (length out)
 
-    pub taped-no : (n : ℕ) → (answer .reply ≡ Refused (number n))
+    pub taped-no : (n : ℕ) → (answer .reply ≡ Refused (numbered n))
         ↔ (Refuses deskSays n ⊎ (Takes deskSays × (length tape < t .used + length recordsOf) × (11 ≡ n)))
     taped-no n =
         let refusing = decided-no (t .desk) c (length out) n in
@@ -170,7 +171,7 @@ module _ (t : Taped) (c : Call) where
           λ k. decision-yes .1 (space .1 (taking .0 (k .0), k .1)),
         )
 
-    pub taped-same : (n : ℕ) → answer .reply ≡ Refused (number n)
+    pub taped-same : (n : ℕ) → answer .reply ≡ Refused (numbered n)
         → (answer .taped ≡ t) × (tapedOut t c (length tape) out ≡ out) × (tapedLeaves t c (length out) tape ≡ tape)
     taped-same n h =
         let k = taped-refused t c out tape n (decision-no n .0 h) in
@@ -198,7 +199,7 @@ module _ (t : Taped) (c : Call) where
 
 -- ---- closing
 module _ (t : Taped) (v : Valid (t .desk)) where
-  pub close-taped-no : (n : ℕ) → (closeTaped t .reply ≡ Refused (number n)) ↔ (Open (t .desk) × (19 ≡ n))
+  pub close-taped-no : (n : ℕ) → (closeTaped t .reply ≡ Refused (numbered n)) ↔ (Open (t .desk) × (19 ≡ n))
   unfolding closeTaped
   close-taped-no = closing-no (t .desk) v
 
@@ -209,12 +210,12 @@ module _ (t : Taped) (v : Valid (t .desk)) where
     λ n. rw (closing-yes (t .desk) v .1 n),
   )
 
-  pub close-taped-same : (n : ℕ) → closeTaped t .reply ≡ Refused (number n) → closeTaped t .taped ≡ t
+  pub close-taped-same : (n : ℕ) → closeTaped t .reply ≡ Refused (numbered n) → closeTaped t .taped ≡ t
   unfolding closeTaped usedAfter
   close-taped-same n h = rw (closing-same (t .desk) v n h, h)
 
 -- ---- the calls of a day
-turns-fit : (us : List Turn) → OfBytes (callsPlayed us) → Each TurnFits us
+turns-fit : (us : List TapeTurn) → OfBytes (callsPlayed us) → Each TurnFits us
 unfolding OfBytes callsPlayed
 turns-fit [] b = tt
 turns-fit (u ∷ us) b = (b .0, turns-fit us (b .1))
@@ -224,7 +225,7 @@ unfolding OfBytes
 calls-fit [] b = tt
 calls-fit (c ∷ cs) b = (b .0, calls-fit cs (b .1))
 
-pub kept-bytes : (d : Day) (us : List Turn) → OfBytes (callsPlayed us) → OfBytes (keptCalls d us)
+pub kept-bytes : (d : Day) (us : List TapeTurn) → OfBytes (callsPlayed us) → OfBytes (keptCalls d us)
 unfolding OfBytes callsPlayed keptCalls keptIf
 kept-bytes d [] b = tt
 kept-bytes d (u ∷ us) b = go (decideTurn d u) (kept-bytes (afterTurn d u) us (b .1))
@@ -233,7 +234,7 @@ kept-bytes d (u ∷ us) b = go (decideTurn d u) (kept-bytes (afterTurn d u) us (
     go (refuse n) more = more
     go accept more = (b .0, more)
 
-module _ (us : List Turn) (tape : List ℕ) (b : OfBytes (callsPlayed us)) where
+module _ (us : List TapeTurn) (tape : List ℕ) (b : OfBytes (callsPlayed us)) where
   abbrev kept : List Call
   kept = keptCalls (freshDay tape) us
 

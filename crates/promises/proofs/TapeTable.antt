@@ -1,6 +1,6 @@
 -- A block and a tape are refused as one of their rows says, and as no other. Assumes nothing.
 use mathlib.Core.Path.{_≡_, refl, sym, ap, _∙_}
-use mathlib.Core.Bool.{Bool, true, false, not, _||_, false≢true, or-true, and-eq-true-iff}
+use mathlib.Core.Bool.{Bool, true, false, not, _||_, or-true, and-eq-true-iff}
 use mathlib.Core.Logic.{_↔_, _⊎_, inl, inr, ⊎-elim, Iff·rfl}
 use mathlib.Core.List.{List, [], _∷_, _++_}
 use Prim.Native.Nat.{ℕ, zero, suc, _+_, _-_, _*_, _^_, _<_, _≤_}
@@ -14,14 +14,15 @@ use Rattle.zvt_rules.specs.Reading.{Reading, got, refused, noHeader, unless, pa
 use Rattle.zvt_rules.specs.Grammar.{Bytes}
 use Rattle.zvt_rules.proofs.ObjectBytes.{bytes-drop, bytes-take}
 use Rattle.zvt_rules.proofs.Readings.{got-same, got-not-refused, unless-got, unless-on, then-got, then-on}
+use Rattle.zvt_rules.proofs.Tests.{true-false, by-test, either}
 use Rattle.tape_rules.specs.Block.{checkOf, numberIn, usedIn, payloadIn, checkIn, allZero, wrongNumber, wrongCount, wrongFilling, blockBytes, writeBlock, readBlock}
-use Rattle.tape_rules.specs.Tape.{cut, blocksFrom, tapeBytes, payloadOf}
+use Rattle.tape_rules.specs.Tape.{cut, blocksFor, blocksFrom, tapeBytes, payloadOf}
 use Rattle.tape_rules.specs.Recording.{writeTape, readTape}
 use Rattle.tape_rules.proofs.BlockLaws.{block-size, BlockRead, read-got, outside-refused, room-refused, block-written, short-refused, long-refused, check-refused, wrong-refused, right-read, block-sound, block-exactly}
 use Rattle.tape_rules.proofs.Cutting.{cut-step, cut-count, tape-size, joinFrom, join-none, join-step, join-got, tape-reads, tape-sound}
 use Rattle.promises.specs.TapeRows.{Outside, number-0, payload-0, payload-over, WriteNo, outside, too-small}
 use Rattle.promises.specs.TapeRows.{Wrong, always-wrong, other-number, count-0, count-over, short-before-last, filling}
-use Rattle.promises.specs.TapeRows.{blocksFor, pieceAt, blockAt, lastAt, TapeWriteNo, too-many, tape-too-small, TapeNo}
+use Rattle.promises.specs.TapeRows.{pieceAt, blockAt, lastAt, TapeWriteNo, too-many, tape-too-small, TapeNo}
 use Rattle.promises.specs.TapeRows.{BlockNo, ends-early, left-over, check-wrong, contents-wrong}
 use Rattle.promises.proofs.ReadTable.{No, then-no, no-then, then-table, over-no, got-no}
 
@@ -37,18 +38,6 @@ module _ {A : Type 0} (x : Reading A) (Row : ℕ → Type 0) (given : (m : ℕ) 
           let q : noHeader (k .0) ≡ h .0 = cc in
           let same : k .0 ≡ n = ap (λ (f : Fault). f .number) q ∙ h .2 in
           rw same at (k .1)
-
--- ---- tests
-true-false : {t : Bool} → t ≡ true → t ≡ false → ⊥
-true-false e f = false≢true (sym f ∙ e)
-
-pub by-test : {X : Type 0} (t : Bool) → (t ≡ true → X) → (t ≡ false → X) → X
-by-test true p q = p refl
-by-test false p q = q refl
-
-either : (a b : Bool) → (a || b) ≡ true → (a ≡ true) ⊎ (b ≡ true)
-either true b e = inl refl
-either false b e = inr e
 
 -- ---- writing a block
 module _ (number : ℕ) (p : List ℕ) (room : ℕ) where
@@ -205,36 +194,36 @@ block-back-and-forth due last s p b fits =
     )
 
 -- ---- writing a tape
-pub tape-bytes : (p : List ℕ) → length (tapeBytes p) ≡ blocksFor p * 512
+pub tape-bytes : (p : List ℕ) → length (tapeBytes p) ≡ blocksFor (length p) * 512
 tape-bytes p = tape-size p ∙ ap (λ (m : ℕ). m * 512) (cut-count p)
 
 module _ (p : List ℕ) (room : ℕ) where
   by-size : writeTape p room
-      ≡ unless (ltb 4_294_967_295 (blocksFor p)) (noHeader 16) (unless (ltb room (blocksFor p * 512)) (noHeader 11) (got (tapeBytes p)))
+      ≡ unless (ltb 4_294_967_295 (blocksFor (length p))) (noHeader 16) (unless (ltb room (blocksFor (length p) * 512)) (noHeader 11) (got (tapeBytes p)))
   unfolding writeTape
   by-size = rw (tape-size p, cut-count p)
 
-  pub tape-fits : blocksFor p ≤ 4_294_967_295 → blocksFor p * 512 ≤ room → writeTape p room ≡ got (tapeBytes p)
-  tape-fits few h = by-size ∙ unless-on _ _ (le-ltb 4_294_967_295 (blocksFor p) few) ∙ unless-on _ _ (le-ltb room (blocksFor p * 512) h)
+  pub tape-fits : blocksFor (length p) ≤ 4_294_967_295 → blocksFor (length p) * 512 ≤ room → writeTape p room ≡ got (tapeBytes p)
+  tape-fits few h = by-size ∙ unless-on _ _ (le-ltb 4_294_967_295 (blocksFor (length p)) few) ∙ unless-on _ _ (le-ltb room (blocksFor (length p) * 512) h)
 
-  pub tape-got : (w : List ℕ) → writeTape p room ≡ got w → (blocksFor p ≤ 4_294_967_295) × (blocksFor p * 512 ≤ room) × (tapeBytes p ≡ w)
+  pub tape-got : (w : List ℕ) → writeTape p room ≡ got w → (blocksFor (length p) ≤ 4_294_967_295) × (blocksFor (length p) * 512 ≤ room) × (tapeBytes p ≡ w)
   tape-got w e =
-      let few = unless-got (ltb 4_294_967_295 (blocksFor p)) _ _ w (sym by-size ∙ e) in
-      let fits = unless-got (ltb room (blocksFor p * 512)) _ _ w (few .1) in
-      (ltb-false 4_294_967_295 (blocksFor p) (few .0), ltb-false room (blocksFor p * 512) (fits .0), got-same (fits .1))
+      let few = unless-got (ltb 4_294_967_295 (blocksFor (length p))) _ _ w (sym by-size ∙ e) in
+      let fits = unless-got (ltb room (blocksFor (length p) * 512)) _ _ w (few .1) in
+      (ltb-false 4_294_967_295 (blocksFor (length p)) (few .0), ltb-false room (blocksFor (length p) * 512) (fits .0), got-same (fits .1))
 
   given-tape : (m : ℕ) → TapeWriteNo p room m → writeTape p room ≡ refused (noHeader m)
   unfolding unless
-  given-tape _ (too-many h) = by-size ∙ rw (lt-ltb 4_294_967_295 (blocksFor p) h)
-  given-tape _ (tape-too-small few h) = by-size ∙ rw (le-ltb 4_294_967_295 (blocksFor p) few, lt-ltb room (blocksFor p * 512) h)
+  given-tape _ (too-many h) = by-size ∙ rw (lt-ltb 4_294_967_295 (blocksFor (length p)) h)
+  given-tape _ (tape-too-small few h) = by-size ∙ rw (le-ltb 4_294_967_295 (blocksFor (length p)) few, lt-ltb room (blocksFor (length p) * 512) h)
 
   found-tape : ((w : List ℕ) × (writeTape p room ≡ got w)) ⊎ ((m : ℕ) × TapeWriteNo p room m)
   found-tape =
-      by-test (ltb 4_294_967_295 (blocksFor p)) (λ e. inr (16, too-many (ltb-true 4_294_967_295 (blocksFor p) e)))
+      by-test (ltb 4_294_967_295 (blocksFor (length p))) (λ e. inr (16, too-many (ltb-true 4_294_967_295 (blocksFor (length p)) e)))
       (λ e.
-      let few = ltb-false 4_294_967_295 (blocksFor p) e in
-      by-test (ltb room (blocksFor p * 512)) (λ f. inr (11, tape-too-small few (ltb-true room (blocksFor p * 512) f)))
-      (λ f. inl (tapeBytes p, tape-fits few (ltb-false room (blocksFor p * 512) f))))
+      let few = ltb-false 4_294_967_295 (blocksFor (length p)) e in
+      by-test (ltb room (blocksFor (length p) * 512)) (λ f. inr (11, tape-too-small few (ltb-true room (blocksFor (length p) * 512) f)))
+      (λ f. inl (tapeBytes p, tape-fits few (ltb-false room (blocksFor (length p) * 512) f))))
 
   pub write-tape-no : (n : ℕ) → No (writeTape p room) n ↔ TapeWriteNo p room n
   write-tape-no = by-rows (writeTape p room) (TapeWriteNo p room) given-tape found-tape
@@ -360,9 +349,9 @@ pub written-joins : (p : List ℕ) (room : ℕ) (s : List ℕ) → writeTape p r
 written-joins p room s e = let k = tape-got p room s e in rw (← (k .2)) (tape-reads p (omega (arith, k .0)))
 
 -- the numbers of blocks that are read fit four bytes
-few-from : (b : ℕ) (s p : List ℕ) → Bytes s → joinFrom b s ≡ got p → blocksFor p ≤ 4_294_967_296 - b
+few-from : (b : ℕ) (s p : List ℕ) → Bytes s → joinFrom b s ≡ got p → blocksFor (length p) ≤ 4_294_967_296 - b
 few-from =
-    by-blocks (λ b s. (p : List ℕ) → Bytes s → joinFrom b s ≡ got p → blocksFor p ≤ 4_294_967_296 - b)
+    by-blocks (λ b s. (p : List ℕ) → Bytes s → joinFrom b s ≡ got p → blocksFor (length p) ≤ 4_294_967_296 - b)
     (λ b p y e. let none : p ≡ [] = got-same (sym e ∙ join-none b) in rw none (omega arith))
     (λ b s h more p y e.
     let r = join-got b s p h e in
@@ -371,7 +360,7 @@ few-from =
     omega (arith, first .2, first .4, more (r .rest) (bytes-drop 512 s y) (r .then)))
 
 module _ (s p : List ℕ) (b : Bytes s) where
-  few-blocks : payloadOf s ≡ got p → blocksFor p ≤ 4_294_967_295
+  few-blocks : payloadOf s ≡ got p → blocksFor (length p) ≤ 4_294_967_295
   unfolding payloadOf
   few-blocks e = omega (arith, few-from 1 s p b e)
 

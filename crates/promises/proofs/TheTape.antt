@@ -11,8 +11,8 @@ use Rattle.zvt_rules.specs.Reading.{Reading, got}
 use Rattle.zvt_rules.specs.Message.{Message, readOf}
 use Rattle.zvt_rules.specs.Grammar.{Bytes}
 use Rattle.zvt_rules.specs.Values.{statusOf}
-use Rattle.zvt.specs.Answers.{readAnswer}
-use Rattle.zvt.specs.List.{fieldAnswer}
+use Rattle.zvt_rules.specs.Answers.{readAnswer}
+use Rattle.zvt_rules.specs.Listed.{fieldAnswer}
 use Rattle.desk_rules.specs.declared.Lane.{Lane}
 use Rattle.desk_rules.specs.declared.Reply.the-variants.{Written, Refused}
 use Rattle.desk_rules.specs.Course.{Call, heard, NumbersFit}
@@ -22,18 +22,19 @@ use Rattle.tape_rules.specs.declared.BlockAnswer.the-variants.{Payload, Refused
 use Rattle.tape_rules.specs.declared.Taped.{Taped}
 use Rattle.tape_rules.specs.Block.{blockBytes, writeBlock, readBlock}
 use Rattle.tape_rules.specs.Records.{masked, Alike, recorded, entriesOf, recordsIn}
-use Rattle.tape_rules.specs.Tape.{tapeBytes, payloadOf}
-use Rattle.tape_rules.specs.Recording.{freshTaped, blockAnswer, writtenAnswer, writtenLeaves, writeTape, readTape, callBytes, tapedAnswer, tapedOut, tapedLeaves, closeTaped}
-use Rattle.tape_rules.specs.Taping.{Turn, Day, freshDay, tapedRun, keptCalls}
+use Rattle.tape_rules.specs.Tape.{blocksFor, tapeBytes, payloadOf}
+use Rattle.zvt_rules.specs.Buffers.{writtenLeaves}
+use Rattle.tape_rules.specs.Recording.{freshTaped, blockAnswer, writtenAnswer, writeTape, readTape, callBytes, tapedAnswer, tapedOut, tapedLeaves, closeTaped}
+use Rattle.tape_rules.specs.Taping.{TapeTurn, Day, freshDay, tapedRun, keptCalls}
 use Rattle.tape_rules.proofs.BlockLaws as block
 use Rattle.tape_rules.proofs.Changed.{changed-byte}
 use Rattle.tape_rules.proofs.Masks.{masked-twice, alike-recorded}
 use Rattle.tape_rules.proofs.Unseen.{mask-heard}
 use Rattle.tape_rules.proofs.Taping.{taped-valid, close-taped-valid}
 use Rattle.promises.specs.Days.{OfBytes}
-use Rattle.promises.specs.TapeRows.{Outside, WriteNo, BlockNo, blocksFor, pieceAt, blockAt, TapeWriteNo, TapeNo}
+use Rattle.promises.specs.TapeRows.{Outside, WriteNo, BlockNo, pieceAt, blockAt, TapeWriteNo, TapeNo}
 use Rattle.promises.specs.TapeDays.{callsPlayed, Hiding, AlikeDays}
-use Rattle.promises.specs.Answers.{number as numbered, Refuses, Takes, Open}
+use Rattle.promises.specs.Answers.{numbered, Refuses, Takes, Open}
 use Rattle.promises.proofs.TapeTable.{within, block-fits, block-got, block-back-and-forth, in-limits, write-no, block-no, tape-fits, tape-got, write-tape-no, tape-piece, tape-bytes, read-tape-no, read-tape-got, written-joins, tape-back-and-forth}
 use Rattle.promises.proofs.TapeAnswers as answers
 use Rattle.promises.proofs.Secrets as secrets
@@ -99,7 +100,7 @@ one-changed-byte number p room s i v due last b w h small other =
 
 -- A tape is written exactly where the numbers of its blocks fit four bytes and all of them have room.
 pub tape-written-exactly : (p : List ℕ) (room k : ℕ)
-    → (writtenAnswer (writeTape p room) ≡ Written k) ↔ ((blocksFor p ≤ 4_294_967_295) × (blocksFor p * 512 ≤ room) × (blocksFor p * 512 ≡ k))
+    → (writtenAnswer (writeTape p room) ≡ Written k) ↔ ((blocksFor (length p) ≤ 4_294_967_295) × (blocksFor (length p) * 512 ≤ room) × (blocksFor (length p) * 512 ≡ k))
 tape-written-exactly p room k =
     let says = answers.written-size (writeTape p room) k in (
       λ h.
@@ -119,7 +120,7 @@ tape-cut p room s k w h =
     block-fits (1 + k) (pieceAt k p) 512 o (omega arith) ∙ ap got (sym (tape-piece p k h) ∙ ap (blockAt k) (tape-got p room s w .2))
 
 -- Every block but the last is full.
-pub only-last-short : (p : List ℕ) (k : ℕ) → 1 + k < blocksFor p → length (pieceAt k p) ≡ 504
+pub only-last-short : (p : List ℕ) (k : ℕ) → 1 + k < blocksFor (length p) → length (pieceAt k p) ≡ 504
 only-last-short p k h = omega (arith, length-take 504 (drop (k * 504) p), length-drop (k * 504) p)
 
 -- No payload is no block, and no block is no payload.
@@ -160,7 +161,7 @@ module _ (t : Taped) (c : Call) (out tape : List ℕ) (k : ℕ) (h : tapedAnswer
   records-behind = answers.taped-records t c out tape k h
 
 -- A day is any list of calls, each with the room lent to it, on a fresh desk and an empty tape.
-module _ (day : List Turn) (tape : List ℕ) (b : OfBytes (callsPlayed day)) where
+module _ (day : List TapeTurn) (tape : List ℕ) (b : OfBytes (callsPlayed day)) where
   abbrev calls : List Call
   calls = keptCalls (freshDay tape) day
 
@@ -190,7 +191,7 @@ module _ (day : List Turn) (tape : List ℕ) (b : OfBytes (callsPlayed day)) whe
 -- ---- "Passwords are recorded as zeros and every value byte of fields 22, 23, 24 and 2D of a list, not of data objects, as EE."
 
 -- No record of a day holds a digit of a password or a value byte of field 22, 23, 24 or 2D of a list.
-pub nothing-secret : (day : List Turn) (tape : List ℕ) (b : OfBytes (callsPlayed day)) → Hiding (recordsIn (payload day tape b))
+pub nothing-secret : (day : List TapeTurn) (tape : List ℕ) (b : OfBytes (callsPlayed day)) → Hiding (recordsIn (payload day tape b))
 nothing-secret day tape b =
     rw (day-reads-back day tape b)
     (secrets.run-hides fresh (calls day tape b) (desk-of-day day tape b .0) (answers.kept-bytes (freshDay tape) day b))
@@ -214,7 +215,7 @@ pub alike-one-record : (s t : List ℕ) (m n : Message) → readOf s ≡ got m �
 alike-one-record = alike-recorded
 
 -- So are whole days: nobody can tell from the tape and the book which password was typed or what stood in these fields.
-pub alike-days-one-tape : (day other : List Turn) (tape : List ℕ) → AlikeDays day other
+pub alike-days-one-tape : (day other : List TapeTurn) (tape : List ℕ) → AlikeDays day other
     → tapedRun (freshDay tape) day ≡ tapedRun (freshDay tape) other
 alike-days-one-tape day other tape a = secrets.alike-days day other (freshDay tape) a
 

@@ -12,24 +12,24 @@ use Rattle.desk_rules.specs.Course.{Call, laneOf, opens, moves, writes}
 use Rattle.desk_rules.specs.Desk.{State, fresh, laneAt, load, accept, decide, Accepts, Accepted, run, wrote}
 use Rattle.desk_rules.specs.Memory.{freshDesk, view, Valid, answerOf, leavesOf}
 use Rattle.desk_rules.specs.Runs.{having, replies}
-use Rattle.desk_rules.specs.Payments.{Payments, ends, withCall, paymentsFrom, paymentsOf, joined, oneByOne}
+use Rattle.desk_rules.specs.Payments.{Payments, ends, withCall, paymentsFrom, paymentsOf, flattened, oneByOne}
 use Rattle.desk_rules.proofs.Commands.{writes-short}
 use Rattle.desk_rules.proofs.Lanes.{told, passing, room-tell, accepts-any}
 use Rattle.desk_rules.proofs.Runs.{repliesTo}
 use Rattle.desk_rules.proofs.Memory.{follows, fresh-valid, answer-valid, view-fresh}
-use Rattle.promises.specs.Days.{Turn, callsIn, buffer, roomy, OfBytes, answerIn, Taken, deskAfter, bytesBy, written, repliesAt}
+use Rattle.promises.specs.Days.{DeskTurn, callsIn, buffer, roomy, OfBytes, answerIn, Taken, deskAfter, bytesBy, writtenIn, repliesAt}
 use Rattle.promises.proofs.Answers.{decided-yes, call-wrote}
 
 -- ---- an accepted call is one of the course
 -- what a day of accepted calls leaves, and what each wrote
-pub record Gone (d : Desk) (ts : List Turn) : Type 0 where
+pub record Gone (d : Desk) (ts : List DeskTurn) : Type 0 where
   pub accepted : Accepted (view d) (callsIn ts)
   pub leaves : view (deskAfter d ts) ≡ run (view d) (callsIn ts)
-  pub wrote-same : written d ts ≡ wrote (view d) (callsIn ts)
+  pub wrote-same : writtenIn d ts ≡ wrote (view d) (callsIn ts)
   pub fit : Valid (deskAfter d ts)
 
-pub goes : (ts : List Turn) (d : Desk) → Valid d → OfBytes (callsIn ts) → Taken d ts → Gone d ts
-unfolding Taken OfBytes callsIn deskAfter written bytesBy Accepted run wrote view
+pub goes : (ts : List DeskTurn) (d : Desk) → Valid d → OfBytes (callsIn ts) → Taken d ts → Gone d ts
+unfolding Taken OfBytes callsIn deskAfter writtenIn bytesBy Accepted run wrote view
 goes [] d v b t = record { accepted = tt; leaves = refl; wrote-same = refl; fit = v }
 goes (x ∷ ts) d v b t =
     let c = x .call in
@@ -103,10 +103,10 @@ all-get [] i h = tt
 all-get (q ∷ ps) zero h = h .0
 all-get (q ∷ ps) (suc i) h = all-get ps i (h .1)
 
-all-joined : (ps : List (List Call)) → All ps → OfBytes (joined ps)
-unfolding All OfBytes joined
+all-joined : (ps : List (List Call)) → All ps → OfBytes (flattened ps)
+unfolding All OfBytes flattened
 all-joined [] h = tt
-all-joined (p ∷ ps) h = all-append p (joined ps) (h .0) (all-joined ps (h .1))
+all-joined (p ∷ ps) h = all-append p (flattened ps) (h .0) (all-joined ps (h .1))
 
 all-payments : (cs : List Call) (p : Payments) → OfBytes cs → All (p .ended) × All (p .ongoing)
     → All (paymentsFrom p cs .ended) × All (paymentsFrom p cs .ongoing)
@@ -133,15 +133,15 @@ unfolding oneByOne paymentsOf All OfBytes
 bytes-one-by-one cs b =
     let p = paymentsOf cs in
     let k = all-payments cs (record { ended = []; ongoing = replicate 8 [] }) b (tt, (tt, (tt, (tt, (tt, (tt, (tt, (tt, (tt, tt))))))))) in
-    all-append (joined (p .ended)) (joined (p .ongoing)) (all-joined (p .ended) (k .0)) (all-joined (p .ongoing) (k .1))
+    all-append (flattened (p .ended)) (flattened (p .ongoing)) (all-joined (p .ended) (k .0)) (all-joined (p .ongoing) (k .1))
 
 -- ---- a day from a fresh desk
-pub record Day (day : List Turn) : Type 0 where
+pub record Day (day : List DeskTurn) : Type 0 where
   pub accepted : Accepted fresh (callsIn day)
   pub leaves : view (deskAfter freshDesk day) ≡ run fresh (callsIn day)
-  pub wrote-same : written freshDesk day ≡ wrote fresh (callsIn day)
+  pub wrote-same : writtenIn freshDesk day ≡ wrote fresh (callsIn day)
 
-pub a-day : (day : List Turn) → OfBytes (callsIn day) → Taken freshDesk day → Day day
+pub a-day : (day : List DeskTurn) → OfBytes (callsIn day) → Taken freshDesk day → Day day
 a-day day b t =
     let g = goes day freshDesk fresh-valid b t in
     record {
@@ -155,10 +155,10 @@ pub as-a-day : (cs : List Call) → OfBytes cs → Accepted fresh cs → Taken f
 as-a-day cs b h = can cs freshDesk fresh-valid b (subst (λ (s : State). Accepted s cs) (sym view-fresh) h)
 
 -- what holds of the state that the course leaves holds of the desk
-pub of-desk : (P : State → Type 0) (day : List Turn) → Day day → P (run fresh (callsIn day)) → P (view (deskAfter freshDesk day))
+pub of-desk : (P : State → Type 0) (day : List DeskTurn) → Day day → P (run fresh (callsIn day)) → P (view (deskAfter freshDesk day))
 of-desk P day g h = subst P (sym (g .leaves)) h
 
 -- and each call wrote what the course says
-pub replies-same : (k : ℕ) (day : List Turn) → Day day → repliesAt k day ≡ repliesTo k fresh (callsIn day)
+pub replies-same : (k : ℕ) (day : List DeskTurn) → Day day → repliesAt k day ≡ repliesTo k fresh (callsIn day)
 unfolding repliesTo
 replies-same k day g = ap (λ (ws : List (List ℕ)). having (λ r. laneOf (r .call)) k (replies (callsIn day) ws)) (g .wrote-same)

@@ -10,12 +10,12 @@ use Rattle.desk_rules.specs.Table.{phaseAt}
 use Rattle.desk_rules.specs.Memory.{view}
 
 -- "Each refusal returns its number only"
-abbrev pub number : ℕ → Refusal
-number n = record { number = n }
+abbrev pub numbered : ℕ → Refusal
+numbered n = record { number = n }
 
 -- a call is refused with that number
 abbrev pub Refuses : Answer → ℕ → Type 0
-Refuses a n = a .reply ≡ Refused (number n)
+Refuses a n = a .reply ≡ Refused (numbered n)
 
 -- a call is taken: its answer says how many bytes were written
 abbrev pub Takes : Answer → Type 0

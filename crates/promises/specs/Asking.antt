@@ -9,13 +9,12 @@ use Rattle.zvt_rules.specs.Reading.{Reading, got, refused}
 use Rattle.zvt_rules.specs.Fields.{Field}
 use Rattle.zvt_rules.specs.Message.{Message, readOf}
 use Rattle.zvt_rules.specs.Values.{bodyFields}
-use Rattle.zvt.specs.declared.ReadAnswer.{ReadAnswer}
-use Rattle.zvt.specs.declared.ReadAnswer.the-variants.{Accepted, Refused as read-refused}
-use Rattle.zvt.specs.declared.ShortenAnswer.{ShortenAnswer}
-use Rattle.zvt.specs.declared.ShortenAnswer.the-variants.{Written as short-written, Refused as short-refused}
-use Rattle.zvt.specs.Answers.{readAnswer}
-use Rattle.zvt.specs.Writing.{shortenAnswer, shortenLeaves}
-use Rattle.zvt.specs.Name.{cardName}
+use Rattle.zvt_rules.specs.declared.ReadAnswer.{ReadAnswer}
+use Rattle.zvt_rules.specs.declared.ReadAnswer.the-variants.{Accepted, Refused as read-refused}
+use Rattle.zvt_rules.specs.declared.ShortenAnswer.{ShortenAnswer}
+use Rattle.zvt_rules.specs.declared.ShortenAnswer.the-variants.{Written as short-written, Refused as short-refused}
+use Rattle.zvt_rules.specs.Answers.{readAnswer, shortenAnswer, shortenLeaves}
+use Rattle.zvt_rules.specs.Name.{cardName}
 use Rattle.desk_rules.specs.declared.Line.{Line}
 use Rattle.desk_rules.specs.declared.Desk.{Desk}
 use Rattle.desk_rules.specs.declared.Reply.{Reply}
@@ -34,38 +33,38 @@ pub data Question : Type 0 where
   call : List Call → Call → Question
   day : List Call → Question
 
-pub data Answer : Type 0 where
+pub data CaseAnswer : Type 0 where
   -- pair, length of the body, whether every length was shortest, number of objects
-  accepted : ℕ → ℕ → Bool → ℕ → Answer
-  fields : List Field → Answer
-  bytes : List ℕ → Answer
+  accepted : ℕ → ℕ → Bool → ℕ → CaseAnswer
+  fields : List Field → CaseAnswer
+  gives : List ℕ → CaseAnswer
   -- the lines, and net turnover
-  book : List Line → ℤ → Answer
+  book : List Line → ℤ → CaseAnswer
   -- the number of refusal
-  no : ℕ → Answer
+  refusal : ℕ → CaseAnswer
 
 infix 70 _⟶_
 pub data Row : Type 0 where
-  _⟶_ : Question → Answer → Row
+  _⟶_ : Question → CaseAnswer → Row
 
 -- ---- what the definitions answer
 
-unfoldable pub readSays : ReadAnswer → Answer
+unfoldable pub readSays : ReadAnswer → CaseAnswer
 readSays (Accepted m) = accepted (m .class * 256 + m .instruction) (m .length) (m .shortest) (m .objects)
-readSays (read-refused r) = no (r .number)
+readSays (read-refused r) = refusal (r .number)
 
-unfoldable pub listSays : Reading Message → Answer
+unfoldable pub listSays : Reading Message → CaseAnswer
 listSays (got m) = fields (bodyFields (m .body))
-listSays (refused f) = no (f .number)
+listSays (refused f) = refusal (f .number)
 
 -- so many bytes were written into the output, which is left so
-unfoldable pub shortSays : ShortenAnswer → List ℕ → Answer
-shortSays (short-written n) out = bytes (take n out)
-shortSays (short-refused r) out = no (r .number)
+unfoldable pub shortSays : ShortenAnswer → List ℕ → CaseAnswer
+shortSays (short-written n) out = gives (take n out)
+shortSays (short-refused r) out = refusal (r .number)
 
-unfoldable pub callSays : Reply → List ℕ → Answer
-callSays (Written n) out = bytes (take n out)
-callSays (Refused r) out = no (r .number)
+unfoldable pub callSays : Reply → List ℕ → CaseAnswer
+callSays (Written n) out = gives (take n out)
+callSays (Refused r) out = refusal (r .number)
 
 -- a list as the body of a status information; an output as long as the message
 unfoldable pub status : List ℕ → List ℕ
@@ -75,29 +74,29 @@ unfoldable pub output : List ℕ → List ℕ
 output s = replicate (length s) 0
 
 -- the calls of a day one after another, and then what is asked of the desk; the first refusal is the answer
-unfoldable pub unlessNo : Reply → Answer → Answer
+unfoldable pub unlessNo : Reply → CaseAnswer → CaseAnswer
 unlessNo (Written n) a = a
-unlessNo (Refused r) a = no (r .number)
+unlessNo (Refused r) a = refusal (r .number)
 
-unfoldable pub afterDay : Desk → List Call → (Desk → Answer) → Answer
+unfoldable pub afterDay : Desk → List Call → (Desk → CaseAnswer) → CaseAnswer
 afterDay d [] ask = ask d
 afterDay d (c ∷ cs) ask =
     let a = answerOf d c (length buffer) in
     unlessNo (a .reply) (afterDay (a .desk) cs ask)
 
-unfoldable pub answerTo : Question → Answer
+unfoldable pub answerTo : Question → CaseAnswer
 answerTo (read s) = readSays (readAnswer s)
 answerTo (list s) = listSays (readOf (status s))
-answerTo (name s) = bytes (cardName (status s) [])
+answerTo (name s) = gives (cardName (status s) [])
 answerTo (short s) = shortSays (shortenAnswer (length s) s) (shortenLeaves s (output s))
 answerTo (call cs c) = afterDay freshDesk cs λ d. callSays (answerOf d c (length buffer) .reply) (leavesOf d c buffer)
 answerTo (day cs) = afterDay freshDesk cs λ d. book (linesOfDesk d) (netOf (linesOfDesk d))
 
 -- the answers that the definitions give to a table's rows, and those that the page gives
-unfoldable pub computed : List Row → List Answer
+unfoldable pub computed : List Row → List CaseAnswer
 computed [] = []
 computed (q ⟶ a ∷ rs) = answerTo q ∷ computed rs
 
-unfoldable pub stated : List Row → List Answer
+unfoldable pub stated : List Row → List CaseAnswer
 stated [] = []
 stated (q ⟶ a ∷ rs) = a ∷ stated rs

@@ -16,11 +16,11 @@ use Rattle.desk_rules.specs.Payments.{oneByOne}
 use Rattle.promises.specs.Answers.{Takes}
 
 -- a call, and what it is lent for its command or reply; a lost link needs none
-pub record Turn : Type 0 where
+pub record DeskTurn : Type 0 where
   pub call : Call
   pub out : List ℕ
 
-unfoldable pub callsIn : List Turn → List Call
+unfoldable pub callsIn : List DeskTurn → List Call
 callsIn [] = []
 callsIn (t ∷ ts) = t .call ∷ callsIn ts
 
@@ -28,7 +28,7 @@ callsIn (t ∷ ts) = t .call ∷ callsIn ts
 unfoldable pub buffer : List ℕ
 buffer = replicate 16 0
 
-unfoldable pub roomy : List Call → List Turn
+unfoldable pub roomy : List Call → List DeskTurn
 roomy [] = []
 roomy (c ∷ cs) = record { call = c; out = buffer } ∷ roomy cs
 
@@ -37,16 +37,16 @@ unfoldable pub OfBytes : List Call → Type 0
 OfBytes [] = Unit {0}
 OfBytes (c ∷ cs) = NumbersFit c × OfBytes cs
 
-abbrev pub answerIn : Desk → Turn → Answer
+abbrev pub answerIn : Desk → DeskTurn → Answer
 answerIn d t = answerOf d (t .call) (length (t .out))
 
 -- every call is taken
-unfoldable pub Taken : Desk → List Turn → Type 0
+unfoldable pub Taken : Desk → List DeskTurn → Type 0
 Taken d [] = Unit {0}
 Taken d (t ∷ ts) = Takes (answerIn d t) × Taken (answerIn d t .desk) ts
 
 -- the desk that is left
-unfoldable pub deskAfter : Desk → List Turn → Desk
+unfoldable pub deskAfter : Desk → List DeskTurn → Desk
 deskAfter d [] = d
 deskAfter d (t ∷ ts) = deskAfter (answerIn d t .desk) ts
 
@@ -55,9 +55,9 @@ unfoldable pub bytesBy : Reply → List ℕ → List ℕ
 bytesBy (Written k) out = take k out
 bytesBy (Refused r) out = []
 
-unfoldable pub written : Desk → List Turn → List (List ℕ)
-written d [] = []
-written d (t ∷ ts) = bytesBy (answerIn d t .reply) (leavesOf d (t .call) (t .out)) ∷ written (answerIn d t .desk) ts
+unfoldable pub writtenIn : Desk → List DeskTurn → List (List ℕ)
+writtenIn d [] = []
+writtenIn d (t ∷ ts) = bytesBy (answerIn d t .reply) (leavesOf d (t .call) (t .out)) ∷ writtenIn (answerIn d t .desk) ts
 
 -- the openings among calls, and the first calls of payments
 unfoldable pub openingsIn : List Call → List Call
@@ -72,16 +72,16 @@ firsts ((c ∷ cs) ∷ ps) = c ∷ firsts ps
 -- ---- a day from a fresh book
 
 -- the desk at its end, and the lines of the book then
-abbrev pub atEnd : List Turn → Desk
+abbrev pub atEnd : List DeskTurn → Desk
 atEnd day = deskAfter freshDesk day
 
-abbrev pub linesIn : List Turn → List Line
+abbrev pub linesIn : List DeskTurn → List Line
 linesIn day = linesOfDesk (atEnd day)
 
 -- the calls of lane k in their order, each with what it wrote
-abbrev pub repliesAt : ℕ → List Turn → List Exchange
-repliesAt k day = having (λ r. laneOf (r .call)) k (replies (callsIn day) (written freshDesk day))
+abbrev pub repliesAt : ℕ → List DeskTurn → List Exchange
+repliesAt k day = having (λ r. laneOf (r .call)) k (replies (callsIn day) (writtenIn freshDesk day))
 
 -- the third demand: "another run from a fresh book, each payment's calls in their own order", with room enough
-abbrev pub otherDay : List Turn → List Turn
+abbrev pub otherDay : List DeskTurn → List DeskTurn
 otherDay day = roomy (oneByOne (callsIn day))

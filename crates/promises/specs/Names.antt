@@ -5,7 +5,7 @@ use mathlib.Core.List.{List, [], _∷_}
 use lib.ListN.{length}
 use Rattle.zvt_rules.specs.Reading.{part}
 use Rattle.zvt_rules.specs.Values.{Found, missing, found}
-use Rattle.zvt.specs.Name.{upToZero}
+use Rattle.zvt_rules.specs.Name.{upToZero}
 
 -- ".. or the name is empty, the whole of the till's own name"
 unfoldable pub orOwn : List ℕ → List ℕ → List ℕ

@@ -11,8 +11,8 @@ pub record Only {A E X Y : Type 0} (answer : A → X) (lent : E → Y) (states :
   pub one : (r r′ : A) (e e′ : E) → states r e → states r′ e′ → (answer r ≡ answer r′) × (lent e ≡ lent e′)
 
 -- the answer itself; of a part of a slice, where it lies and its bytes
-abbrev pub whole : {A : Type 0} → A → A
-whole r = r
+abbrev pub itself : {A : Type 0} → A → A
+itself r = r
 
 abbrev pub placed : RefT (List ℕ) → (ℕ × ℕ) × List ℕ
 placed r = (r .ptr, now r)

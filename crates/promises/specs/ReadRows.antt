@@ -8,21 +8,21 @@ use mathlib.Core.List.{List}
 use lib.ListN.{length, getD}
 use Rattle.zvt_rules.specs.declared.Fault.{Fault}
 use Rattle.zvt_rules.specs.Reading.{Reading, got, refused, noHeader, part}
-use Rattle.zvt_rules.specs.Message.{Header, headerSize, start, end, layoutOf, bodyOf}
+use Rattle.zvt_rules.specs.Message.{Heading, headerSize, start, end, layoutOf, bodyOf}
 use Rattle.zvt_rules.specs.Shortest.{shorten}
 
 -- "A length byte 00 to FE is the length. FF means that two more bytes hold it, low byte first.": they are there, and say v
-abbrev pub Says : List ℕ → Bool → ℕ → Type 0
-Says s false v = (3 ≤ length s) × (getD s 2 0 ≡ v) × (v ≡ 0xFF → ⊥)
-Says s true v = (5 ≤ length s) × (getD s 2 0 ≡ 0xFF) × (getD s 4 0 * 256 + getD s 3 0 ≡ v)
+abbrev pub LengthSays : List ℕ → Bool → ℕ → Type 0
+LengthSays s false v = (3 ≤ length s) × (getD s 2 0 ≡ v) × (v ≡ 0xFF → ⊥)
+LengthSays s true v = (5 ≤ length s) × (getD s 2 0 ≡ 0xFF) × (getD s 4 0 * 256 + getD s 3 0 ≡ v)
 
 -- the header that s begins with
-pub data HeaderRow (s : List ℕ) : Reading Header → Type 0 where
-  missing : length s < 3 → HeaderRow s (refused (noHeader 1))
+pub data HeaderRow (s : List ℕ) : Reading Heading → Type 0 where
+  header-missing : length s < 3 → HeaderRow s (refused (noHeader 1))
   long-missing : 3 ≤ length s → length s < 5 → getD s 2 0 ≡ 0xFF → HeaderRow s (refused (noHeader 1))
-  over-4096 : (long : Bool) (v : ℕ) → Says s long v → 4096 < v → HeaderRow s (refused (noHeader 2))
-  cut-short : (long : Bool) (v : ℕ) → Says s long v → v ≤ 4096 → length s < headerSize long + v → HeaderRow s (refused (noHeader 1))
-  there : (long : Bool) (v : ℕ) → Says s long v → v ≤ 4096 → headerSize long + v ≤ length s
+  over-4096 : (long : Bool) (v : ℕ) → LengthSays s long v → 4096 < v → HeaderRow s (refused (noHeader 2))
+  cut-short : (long : Bool) (v : ℕ) → LengthSays s long v → v ≤ 4096 → length s < headerSize long + v → HeaderRow s (refused (noHeader 1))
+  there : (long : Bool) (v : ℕ) → LengthSays s long v → v ≤ 4096 → headerSize long + v ≤ length s
       → HeaderRow s (got (record { class = getD s 0 0; instruction = getD s 1 0; long = long; size = v }))
 
 -- it is refused with n
@@ -30,23 +30,23 @@ abbrev pub HeaderNo : List ℕ → ℕ → Type 0
 HeaderNo s n = HeaderRow s (refused (noHeader n))
 
 -- the header of the message that s is; "3 bytes left over where one message .. was due"
-abbrev pub Whole : List ℕ → Header → Type 0
-Whole s h = HeaderRow s (got h) × (length s ≡ end h)
+abbrev pub WholeRow : List ℕ → Heading → Type 0
+WholeRow s h = HeaderRow s (got h) × (length s ≡ end h)
 
 abbrev pub WholeNo : List ℕ → ℕ → Type 0
-WholeNo s n = HeaderNo s n ⊎ ((h : Header) × HeaderRow s (got h) × ((end h < length s) × (3 ≡ n)))
+WholeNo s n = HeaderNo s n ⊎ ((h : Heading) × HeaderRow s (got h) × ((end h < length s) × (3 ≡ n)))
 
 -- "Bodies are read left to right": the body is refused with n
-abbrev pub BodyNo : List ℕ → Header → ℕ → Type 0
+abbrev pub BodyNo : List ℕ → Heading → ℕ → Type 0
 BodyNo s h n =
     (f : Fault) × (bodyOf (start h) (part (start h) (end h) s) (layoutOf (h .class) (h .instruction)) ≡ refused f) × (f .number ≡ n)
 
 -- the message that s begins with, and the one that s is: "header, body"
 abbrev pub FirstNo : List ℕ → ℕ → Type 0
-FirstNo s n = HeaderNo s n ⊎ ((h : Header) × HeaderRow s (got h) × BodyNo s h n)
+FirstNo s n = HeaderNo s n ⊎ ((h : Heading) × HeaderRow s (got h) × BodyNo s h n)
 
 abbrev pub ReadNo : List ℕ → ℕ → Type 0
-ReadNo s n = WholeNo s n ⊎ ((h : Header) × Whole s h × BodyNo s h n)
+ReadNo s n = WholeNo s n ⊎ ((h : Heading) × WholeRow s h × BodyNo s h n)
 
 -- "header, body, 11": the shortest message is longer than the room for it
 abbrev pub ShortNo : ℕ → List ℕ → ℕ → Type 0

@@ -9,10 +9,10 @@ use Rattle.zvt_rules.specs.Message.{Message, readOf}
 use Rattle.zvt_rules.specs.Grammar.{Bytes}
 use Rattle.desk_rules.specs.Course.{Call, refund, reversal, message}
 use Rattle.tape_rules.specs.Records.{Record, Alike, Hidden}
-use Rattle.tape_rules.specs.Taping.{Turn}
+use Rattle.tape_rules.specs.Taping.{TapeTurn}
 
 -- what the turns of a day call
-unfoldable pub callsPlayed : List Turn → List Call
+unfoldable pub callsPlayed : List TapeTurn → List Call
 callsPlayed [] = []
 callsPlayed (u ∷ us) = u .call ∷ callsPlayed us
 
@@ -30,7 +30,7 @@ pub data AlikeCall : Call → Call → Type 0 where
       → AlikeCall (message i s) (message i t)
 
 -- call by call, with the same room lent to what each writes
-unfoldable pub AlikeDays : List Turn → List Turn → Type 0
+unfoldable pub AlikeDays : List TapeTurn → List TapeTurn → Type 0
 AlikeDays [] [] = Unit {0}
 AlikeDays [] (v ∷ vs) = ⊥
 AlikeDays (u ∷ us) [] = ⊥

@@ -1,12 +1,13 @@
 -- Document 01, 'The tape' and 'Numbers of refusal', for blocks and tapes that are written and read, as rows. Definitions only.
 use mathlib.Core.Path.{_≡_}
-use Prim.Native.Nat.{ℕ, _+_, _*_, _/_, _<_, _≤_}
+use Prim.Native.Nat.{ℕ, _+_, _*_, _<_, _≤_}
 use mathlib.Core.Bool.{Bool, false}
 use mathlib.Core.List.{List}
 use lib.ListN.{length, getD, take, drop}
 use lib.Dec.{leb}
 use Rattle.zvt_rules.specs.Reading.{got}
 use Rattle.tape_rules.specs.Block.{checkOf, numberIn, usedIn, checkIn, readBlock}
+use Rattle.tape_rules.specs.Tape.{blocksFor}
 
 -- ---- a block
 
@@ -40,10 +41,6 @@ pub data BlockNo (due : ℕ) (last : Bool) (s : List ℕ) : ℕ → Type 0 where
 
 -- ---- a tape: "cut every 504 bytes"
 
--- how many blocks a payload needs
-abbrev pub blocksFor : List ℕ → ℕ
-blocksFor p = (length p + 503) / 504
-
 -- piece k of a payload and block k of a tape, counted from 0, and whether it is the tape's last
 abbrev pub pieceAt : ℕ → List ℕ → List ℕ
 pieceAt k p = take 504 (drop (k * 504) p)
@@ -56,8 +53,8 @@ lastAt k s = leb (length s) (k * 512 + 512)
 
 -- "16 number outside its limits": a block's number has four bytes; then 11
 pub data TapeWriteNo (p : List ℕ) (room : ℕ) : ℕ → Type 0 where
-  too-many : 4_294_967_295 < blocksFor p → TapeWriteNo p room 16
-  tape-too-small : blocksFor p ≤ 4_294_967_295 → room < blocksFor p * 512 → TapeWriteNo p room 11
+  too-many : 4_294_967_295 < blocksFor (length p) → TapeWriteNo p room 16
+  tape-too-small : blocksFor (length p) ≤ 4_294_967_295 → room < blocksFor (length p) * 512 → TapeWriteNo p room 11
 
 -- the first block that is refused, of those with numbers from first on: all before it are read
 pub record TapeNo (first : ℕ) (s : List ℕ) (n : ℕ) : Type 0 where

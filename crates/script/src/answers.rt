@@ -13,7 +13,7 @@ use listing::text::add_bytes;
 use listing::text::add_decimal;
 use listing::text::add_hex;
 use tape_rules::Block;
-use zvt::Message;
+use zvt_rules::Outline;
 use zvt_rules::Status;
 use zvt_rules::ToldAmount;
 use zvt_rules::ToldCode;
@@ -260,7 +260,7 @@ pub(crate) fn add_lane(lane: u8, l: Lane, at: usize, out: &mut [u8]) -> usize {
 }
 
 // The message that s is, read as m.
-pub(crate) fn message(s: &[u8], m: Message, out: &mut [u8]) -> usize {
+pub(crate) fn message(s: &[u8], m: Outline, out: &mut [u8]) -> usize {
     let mut to = add_hex(m.class, 0, out);
     to = add_hex(m.instruction, to, out);
     to = add_number(m.length as u64, to, out);

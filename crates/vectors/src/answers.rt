@@ -7,12 +7,12 @@ use listing::text::add_all;
 use listing::text::add_bytes;
 use listing::text::add_decimal;
 use listing::text::add_hex;
-use zvt::FieldAnswer;
-use zvt::FirstAnswer;
-use zvt::HeaderAnswer;
-use zvt::Message;
-use zvt::ReadAnswer;
-use zvt::ShortenAnswer;
+use zvt_rules::FieldAnswer;
+use zvt_rules::FirstAnswer;
+use zvt_rules::HeaderAnswer;
+use zvt_rules::Outline;
+use zvt_rules::ReadAnswer;
+use zvt_rules::ShortenAnswer;
 use zvt_rules::ToldAmount;
 use zvt_rules::ToldCode;
 use zvt_rules::ToldReceipt;
@@ -66,7 +66,7 @@ fn add_form(shortest: bool, at: usize, out: &mut [u8]) -> usize {
 }
 
 // The message that s is, read as m.
-fn message_text(s: &[u8], m: Message, out: &mut [u8]) -> usize {
+fn message_text(s: &[u8], m: Outline, out: &mut [u8]) -> usize {
     let mut to = add_header(m.class, m.instruction, m.start, m.length, out);
     to = add_form(m.shortest, to, out);
     to = add_all(b" objects ", to, out);

@@ -5,8 +5,8 @@ use Prim.Native.Nat.{ℕ, _+_, _-_, _≤_}
 use native.Mathlib.Omega.{arith}
 use lib.ListN.{length, take, drop, length-append, length-take, length-drop, drop-of-length-le}
 use lib.Seq.{take-length, take-at, drop-at, take-take, length-take-le}
-use Rattle.zvt_rules.proofs.ObjectSteps.{tail}
-use Rattle.zvt.specs.Writing.{back, Put}
+use Rattle.zvt_rules.proofs.ObjectReading.{tail}
+use Rattle.zvt.specs.WritingSteps.{back, Put}
 
 -- nothing put leaves all as it was
 pub put-none : (d : List ℕ) → Put [] d (length d) d

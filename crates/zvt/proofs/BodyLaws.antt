@@ -14,15 +14,15 @@ use Rattle.zvt_rules.specs.Writing.{listBytes, bodyBytes}
 use Rattle.zvt_rules.specs.Shortest.{shortList, shortBody}
 use Rattle.zvt_rules.specs.Grammar.{Bytes}
 use Rattle.zvt_rules.proofs.Readings.{unless-on, then-on, then-stop}
-use Rattle.zvt_rules.proofs.ObjectSteps.{tail}
+use Rattle.zvt_rules.proofs.ObjectReading.{tail}
 use Rattle.zvt_rules.proofs.ObjectBytes.{bytes-drop}
 use Rattle.zvt_rules.proofs.FieldBytes.{list-sound}
 use Rattle.zvt.specs.declared.objects.Tally.{Tally}
 use Rattle.zvt.specs.declared.objects.PartRead.the-variants.{Part, Refused as part-refused}
 use Rattle.zvt.specs.declared.fields.Decimals.the-variants.{All, Refused as decimals-refused}
-use Rattle.zvt.specs.Objects.{asPart}
-use Rattle.zvt.specs.Fields.{decimalsAnswer, spareList, listTally, listAnswer}
-use Rattle.zvt.specs.Body.{spareBody, bodyTally, securedAnswer, bodyAnswer}
+use Rattle.zvt.specs.ObjectSteps.{asPart}
+use Rattle.zvt.specs.FieldSteps.{decimalsAnswer, spareList, listTally, listAnswer}
+use Rattle.zvt.specs.BodySteps.{spareBody, bodyTally, securedAnswer, bodyAnswer}
 use Rattle.zvt.proofs.RunLaws.{part-got, part-stopped}
 use Rattle.zvt.proofs.FieldLaws.{decimals-then, decimals-got, decimals-stopped}
 

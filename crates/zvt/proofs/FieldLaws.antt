@@ -13,9 +13,10 @@ use Rattle.zvt_rules.specs.declared.Format.the-variants.{Unknown, Fixed, Digits
 use Rattle.zvt_rules.specs.Reading.{Reading, got, refused, no, unless, andThen, among, part}
 use Rattle.zvt_rules.specs.Fields.{formatOf, decimal, unlessUndecimal, holdsDigits, digitsIn, plain}
 use Rattle.zvt_rules.specs.Shortest.{shortField}
-use Rattle.zvt_rules.proofs.Readings.{then-on, then-stop, pick-true, pick-false}
-use Rattle.zvt_rules.proofs.ObjectSteps.{tail, len-in}
-use Rattle.zvt_rules.proofs.FieldSteps.{digits-in}
+use Rattle.zvt_rules.proofs.Tests.{pick-true, pick-false, allFrom, at-from}
+use Rattle.zvt_rules.proofs.Readings.{then-on, then-stop, unless-then}
+use Rattle.zvt_rules.proofs.ObjectReading.{tail, len-in}
+use Rattle.zvt_rules.proofs.FieldReading.{digits-in}
 use Rattle.zvt.specs.declared.objects.LenRead.the-variants.{Len as len-read, Refused as len-refused}
 use Rattle.zvt.specs.declared.objects.Bounds.{Bounds}
 use Rattle.zvt.specs.declared.objects.BoundsRead.the-variants.{Refused as bounds-refused}
@@ -23,10 +24,9 @@ use Rattle.zvt.specs.declared.objects.Tally.{Tally}
 use Rattle.zvt.specs.declared.objects.PartRead.the-variants.{Part, Refused as part-refused}
 use Rattle.zvt.specs.declared.fields.DigitsRead.the-variants.{Number, Refused as digits-refused}
 use Rattle.zvt.specs.declared.fields.Decimals.the-variants.{All, Refused as decimals-refused}
-use Rattle.zvt.specs.Objects.{asBounds, asPart, lenAnswer, within}
-use Rattle.zvt.specs.Fields.{asDigits, digitsAnswer, asDecimals, decimalsAnswer, boundsBy, fieldBounds, spareField, fieldTally, plainAnswer}
-use Rattle.zvt.proofs.ObjectLaws.{unless-then, len-got, len-stopped}
-use Rattle.zvt.proofs.Tables.{allFrom, at-from}
+use Rattle.zvt.specs.ObjectSteps.{asBounds, asPart, lenAnswer, within}
+use Rattle.zvt.specs.FieldSteps.{asDigits, digitsAnswer, asDecimals, decimalsAnswer, boundsBy, fieldBounds, spareField, fieldTally, plainAnswer}
+use Rattle.zvt.proofs.ObjectLaws.{len-got, len-stopped}
 
 -- ---- decimal digits, whatever follows them
 pub decimals-then : {A : Type 0} (at : ℕ) (s t : List ℕ) (x : Reading A)

@@ -16,7 +16,7 @@ use Rattle.zvt_rules.specs.Writing.{runBytes, fieldBytes}
 use Rattle.zvt_rules.specs.Shortest.{formFor, shortRun, shortField}
 use Rattle.zvt_rules.specs.Grammar.{Bytes}
 use Rattle.zvt_rules.proofs.Readings.{got-same, got-not-refused, unless-got, unless-on, then-got, then-on, then-stop}
-use Rattle.zvt_rules.proofs.ObjectSteps.{part-length}
+use Rattle.zvt_rules.proofs.ObjectReading.{part-length}
 use Rattle.zvt_rules.proofs.ObjectBytes.{bytes-drop, bytes-part}
 use Rattle.zvt_rules.proofs.Lengths.{sized-size, len-sound}
 use Rattle.zvt.specs.declared.objects.Bounds.{Bounds}
@@ -24,8 +24,8 @@ use Rattle.zvt.specs.declared.objects.BoundsRead.the-variants.{Bounds as
 use Rattle.zvt.specs.declared.objects.Tally.{Tally}
 use Rattle.zvt.specs.declared.objects.PartRead.{PartRead}
 use Rattle.zvt.specs.declared.objects.PartRead.the-variants.{Part, Refused as part-refused}
-use Rattle.zvt.specs.Objects.{asBounds, asPart, boundsIn, spareRun, tallyOf, runTally, runAnswer}
-use Rattle.zvt.specs.Fields.{boundsBy, fieldBounds, spareField, fieldTally, plainAnswer, fieldWhen, fieldAnswer}
+use Rattle.zvt.specs.ObjectSteps.{asBounds, asPart, boundsIn, spareRun, tallyOf, runTally, runAnswer}
+use Rattle.zvt.specs.FieldSteps.{boundsBy, fieldBounds, spareField, fieldTally, plainAnswer, fieldWhen, fieldPart}
 use Rattle.zvt.proofs.RunLaws.{part-got, part-stopped, spare-read, tally-is, Fits, tally-fits}
 
 -- ---- readings that stop alike
@@ -137,13 +137,13 @@ when-by id n at s (Fixed k) = refl
 when-by id n at s (Digits d) = refl
 when-by id n at s Container = refl
 
-pub field-unknown : (twice : Bool) (n at : ℕ) (s : List ℕ) → formatOf (getD s 0 0) ≡ Unknown → fieldAnswer twice n at s ≡ part-refused (no 5 at)
-unfolding fieldAnswer fieldWhen unless unknown asPart
+pub field-unknown : (twice : Bool) (n at : ℕ) (s : List ℕ) → formatOf (getD s 0 0) ≡ Unknown → fieldPart twice n at s ≡ part-refused (no 5 at)
+unfolding fieldPart fieldWhen unless unknown asPart
 field-unknown twice n at s e = rw e
 
 pub field-twice : (twice : Bool) (n at : ℕ) (s : List ℕ) → unknown (formatOf (getD s 0 0)) ≡ false → twice ≡ true
-    → fieldAnswer twice n at s ≡ part-refused (no 7 at)
-unfolding fieldAnswer fieldWhen unless asPart
+    → fieldPart twice n at s ≡ part-refused (no 7 at)
+unfolding fieldPart fieldWhen unless asPart
 field-twice twice n at s e f = rw (e, f)
 
 pub field-value : (at : ℕ) (s : List ℕ) (b : Bounds) → fieldBounds at s ≡ bounds-read b → (b .from ≤ b .to) × (b .to ≤ length s)
@@ -152,21 +152,21 @@ field-value at s b e = by-lies at s (formatOf (getD s 0 0)) b (found _ b e)
 
 -- the container that lies there is answered by its tally
 abbrev pub Answered : Bool → ℕ → ℕ → List ℕ → Bounds → ℕ → ℕ → Type 0
-Answered twice n at s b objects saved = Fits b saved × (fieldAnswer twice n at s ≡ Part (tallyOf b objects saved))
+Answered twice n at s b objects saved = Fits b saved × (fieldPart twice n at s ≡ Part (tallyOf b objects saved))
 
 module _ (twice : Bool) (n at : ℕ) (s : List ℕ) (once : twice ≡ false) where
   abbrev format : Format
   format = formatOf (getD s 0 0)
 
-  by-format : (x : Reading FieldRead) → fieldBy (getD s 0 0) n at s format ≡ x → fieldAnswer twice n at s ≡ asPart fieldTally x
-  unfolding fieldAnswer fieldWhen
+  by-format : (x : Reading FieldRead) → fieldBy (getD s 0 0) n at s format ≡ x → fieldPart twice n at s ≡ asPart fieldTally x
+  unfolding fieldPart fieldWhen
   by-format x e = ap (asPart fieldTally) (rw once (when-by (getD s 0 0) n at s format) ∙ e)
 
-  pub field-no-bounds : (r : Fault) → fieldBounds at s ≡ bounds-refused r → fieldAnswer twice n at s ≡ part-refused r
+  pub field-no-bounds : (r : Fault) → fieldBounds at s ≡ bounds-refused r → fieldPart twice n at s ≡ part-refused r
   unfolding fieldBounds asPart
   field-no-bounds r e = by-format _ (by-stopped (getD s 0 0) n at s format r (not-found _ r e))
 
-  pub field-plain : (b : Bounds) → fieldBounds at s ≡ bounds-read b → b .nested ≡ false → fieldAnswer twice n at s ≡ plainAnswer n at b s
+  pub field-plain : (b : Bounds) → fieldBounds at s ≡ bounds-read b → b .nested ≡ false → fieldPart twice n at s ≡ plainAnswer n at b s
   unfolding fieldBounds plainAnswer
   field-plain b e h = by-format _ (by-plain (getD s 0 0) n at s format b (found _ b e) h)
 
@@ -179,7 +179,7 @@ module _ (twice : Bool) (n at : ℕ) (s : List ℕ) (once : twice ≡ false) whe
     unfolding fieldBounds
     contained = by-container (getD s 0 0) n at s format b (found _ b bounds) h
 
-    pub field-no-inner : (r : Fault) → inner ≡ part-refused r → fieldAnswer twice n at s ≡ part-refused r
+    pub field-no-inner : (r : Fault) → inner ≡ part-refused r → fieldPart twice n at s ≡ part-refused r
     unfolding runAnswer asPart
     field-no-inner r e = by-format _ (contained .then ∙ then-stop _ r (part-stopped _ _ r e))
 

@@ -1,6 +1,6 @@
 -- What the readers of a header answer, case by case. Assumes nothing.
 use mathlib.Core.Path.{_≡_, refl, ap, _∙_}
-use mathlib.Core.Bool.{Bool, true, false}
+use mathlib.Core.Bool.{true, false}
 use mathlib.Core.List.{List, [], _∷_}
 use Prim.Native.Nat.{ℕ, _+_, _-_, _*_, _<_, _≤_}
 use native.Mathlib.Omega.{arith}
@@ -9,16 +9,15 @@ use lib.Dec.{ltb}
 use borrow.Author.Tests.{lt-ltb, le-ltb, ne-eqb}
 use Rattle.zvt_rules.specs.declared.Fault.{Fault}
 use Rattle.zvt_rules.specs.Reading.{Reading, got, refused, noHeader, unless, andThen}
-use Rattle.zvt_rules.specs.Message.{BodyLength, longLength, lengthOf, Header as MessageHeader, headerSize, end, headerWith, headerOf, wholeHeader}
-use Rattle.zvt_rules.proofs.Readings.{unless-got, then-got, then-on, then-stop}
-use Rattle.zvt_rules.proofs.FieldSteps.{header-in}
-use Rattle.zvt.specs.declared.Header.{Header}
+use Rattle.zvt_rules.specs.Message.{BodyLength, longLength, lengthOf, Heading, end, headerWith, headerOf, wholeHeader}
+use Rattle.zvt_rules.proofs.Readings.{unless-got, then-got, then-on, then-stop, unless-then}
+use Rattle.zvt_rules.proofs.FieldReading.{header-most, header-in}
+use Rattle.zvt_rules.specs.declared.Header.{Header}
 use Rattle.zvt.specs.declared.headers.HeaderRead.{HeaderRead}
 use Rattle.zvt.specs.declared.headers.HeaderRead.the-variants.{Header as header-read, Refused as header-refused}
-use Rattle.zvt.specs.Header.{asHeader, headerIn, fitting, firstHeader, wholeAnswer}
-use Rattle.zvt.specs.declared.HeaderAnswer.the-variants.{Header as answer-got, Refused as answer-no}
-use Rattle.zvt.specs.Answers.{refusalOf, asHeaderAnswer, headerAnswer}
-use Rattle.zvt.proofs.ObjectLaws.{unless-then}
+use Rattle.zvt.specs.HeaderSteps.{asHeader, fitting, firstHeader, wholeAnswer}
+use Rattle.zvt_rules.specs.Answers.{refusalOf, headerIn, asHeaderAnswer, headerAnswer}
+use Rattle.zvt_rules.specs.declared.HeaderAnswer.the-variants.{Header as answer-got, Refused as answer-no}
 
 -- ---- where the body lies
 pub fit-over : (h : Header) (s : List ℕ) → 4096 < h .length → fitting h s ≡ header-refused (noHeader 2)
@@ -35,7 +34,7 @@ fit-in h s o l = rw (le-ltb 4096 (h .length) o, le-ltb (length s) (h .start + h 
 
 -- ---- the bytes of a header
 -- a header in the code's terms
-abbrev inCode : Reading MessageHeader → HeaderRead
+abbrev inCode : Reading Heading → HeaderRead
 inCode x = asHeader (andThen x λ m. got (headerIn m))
 
 with-fitting : (c i : ℕ) (s : List ℕ) (l : BodyLength)
@@ -85,18 +84,18 @@ header-long (c ∷ (i ∷ (b ∷ (x ∷ [])))) h e = absurd (omega arith)
 header-long (c ∷ (i ∷ (b ∷ (x ∷ (y ∷ s))))) h e = by-length c i (b ∷ (x ∷ (y ∷ s))) (record { long = true; value = y * 256 + x }) (rw e)
 
 -- ---- from the code's answer to what was read
-as-got : (x : Reading MessageHeader) (h : Header) → inCode x ≡ header-read h
-    → (m : MessageHeader) × (x ≡ got m) × (headerIn m ≡ h)
+as-got : (x : Reading Heading) (h : Header) → inCode x ≡ header-read h
+    → (m : Heading) × (x ≡ got m) × (headerIn m ≡ h)
 unfolding asHeader andThen
 as-got (got m) h e = (m, refl, cc)
 as-got (refused r) h e = absurd (let z : _≡_ {A = ℕ} 0 1 = cc in omega arith)
 
-as-stopped : (x : Reading MessageHeader) (r : Fault) → inCode x ≡ header-refused r → x ≡ refused r
+as-stopped : (x : Reading Heading) (r : Fault) → inCode x ≡ header-refused r → x ≡ refused r
 unfolding asHeader andThen
 as-stopped (got m) r e = absurd (let z : _≡_ {A = ℕ} 0 1 = cc in omega arith)
 as-stopped (refused q) r e = cc
 
-pub first-got : (s : List ℕ) (h : Header) → firstHeader s ≡ header-read h → (m : MessageHeader) × (headerOf s ≡ got m) × (headerIn m ≡ h)
+pub first-got : (s : List ℕ) (h : Header) → firstHeader s ≡ header-read h → (m : Heading) × (headerOf s ≡ got m) × (headerIn m ≡ h)
 unfolding firstHeader
 first-got s h e = as-got (headerOf s) h e
 
@@ -104,7 +103,7 @@ pub first-stopped : (s : List ℕ) (r : Fault) → firstHeader s ≡ header-refu
 unfolding firstHeader
 first-stopped s r e = as-stopped (headerOf s) r e
 
-pub whole-got : (s : List ℕ) (h : Header) → wholeAnswer s ≡ header-read h → (m : MessageHeader) × (wholeHeader s ≡ got m) × (headerIn m ≡ h)
+pub whole-got : (s : List ℕ) (h : Header) → wholeAnswer s ≡ header-read h → (m : Heading) × (wholeHeader s ≡ got m) × (headerIn m ≡ h)
 unfolding wholeAnswer
 whole-got s h e = as-got (wholeHeader s) h e
 
@@ -113,7 +112,7 @@ unfolding wholeAnswer
 whole-stopped s r e = as-stopped (wholeHeader s) r e
 
 -- a whole header is a header
-pub whole-first : (s : List ℕ) (m : MessageHeader) → wholeHeader s ≡ got m → headerOf s ≡ got m
+pub whole-first : (s : List ℕ) (m : Heading) → wholeHeader s ≡ got m → headerOf s ≡ got m
 unfolding wholeHeader
 whole-first s m e =
     let k = then-got (headerOf s) _ m e in
@@ -123,13 +122,9 @@ whole-first s m e =
 abbrev pub Within : Header → List ℕ → Type 0
 Within h s = (h .start ≤ 5) × (h .length ≤ 4096) × (h .start + h .length ≤ length s)
 
-starts : (long : Bool) → headerSize long ≤ 5
-starts true = omega arith
-starts false = omega arith
-
-got-within : (s : List ℕ) (m : MessageHeader) → headerOf s ≡ got m → Within (headerIn m) s
+got-within : (s : List ℕ) (m : Heading) → headerOf s ≡ got m → Within (headerIn m) s
 unfolding headerIn
-got-within s m e = let i = header-in s m e in (starts (m .long), i .0, i .1)
+got-within s m e = let i = header-in s m e in (header-most (m .long), i .0, i .1)
 
 pub first-within : (s : List ℕ) (h : Header) → firstHeader s ≡ header-read h → Within h s
 first-within s h e = let g = first-got s h e in rw (← (g .2)) (got-within s (g .0) (g .1))

@@ -16,16 +16,16 @@ use Rattle.zvt_rules.specs.Writing.{fieldBytes, listBytes}
 use Rattle.zvt_rules.specs.Shortest.{shortField, shortList}
 use Rattle.zvt_rules.specs.Grammar.{Bytes, FieldOk, ListOk}
 use Rattle.zvt_rules.proofs.Readings.{then-on, then-stop}
-use Rattle.zvt_rules.proofs.ObjectSteps.{tail}
+use Rattle.zvt_rules.proofs.ObjectReading.{tail}
 use Rattle.zvt_rules.proofs.ObjectBytes.{bytes-drop}
-use Rattle.zvt_rules.proofs.FieldSteps.{field-in, list-none, list-step}
+use Rattle.zvt_rules.proofs.FieldReading.{field-in, list-none, list-step}
 use Rattle.zvt_rules.proofs.FieldBytes.{field-sound, list-sound}
 use Rattle.zvt_rules.proofs.FieldShort.{field-shorter, list-shorter}
 use Rattle.zvt.specs.declared.objects.Tally.{Tally}
 use Rattle.zvt.specs.declared.objects.PartRead.{PartRead}
 use Rattle.zvt.specs.declared.objects.PartRead.the-variants.{Part, Refused as part-refused}
-use Rattle.zvt.specs.Objects.{asPart}
-use Rattle.zvt.specs.Fields.{spareField, spareList, fieldTally, listTally, fieldWhen, fieldAnswer, listAnswer}
+use Rattle.zvt.specs.ObjectSteps.{asPart}
+use Rattle.zvt.specs.FieldSteps.{spareField, spareList, fieldTally, listTally, fieldWhen, fieldPart, listAnswer}
 use Rattle.zvt.proofs.RunLaws.{part-got, part-stopped}
 
 -- ---- the marks: at each id, whether it is one of those that came
@@ -81,9 +81,9 @@ module _ (ids : List ℕ) (twice : Bool) (n at : ℕ) (s : List ℕ) (seen : twi
   unfolding fieldWhen fieldOf
   field-is = rw seen
 
-  list-no-first : 0 < length s → (r : Fault) → fieldAnswer twice n at s ≡ part-refused r → (f : ListRead → Tally)
+  list-no-first : 0 < length s → (r : Fault) → fieldPart twice n at s ≡ part-refused r → (f : ListRead → Tally)
       → asPart f (listOf ids n at s) ≡ part-refused r
-  unfolding fieldAnswer asPart
+  unfolding fieldPart asPart
   list-no-first l r e f = ap (asPart f) (list-step ids n at s l ∙ then-stop _ r (sym field-is ∙ part-stopped _ _ r e))
 
   abbrev Goes : ℕ → ℕ → Tally → Type 0
@@ -112,8 +112,8 @@ module _ (ids : List ℕ) (twice : Bool) (n at : ℕ) (s : List ℕ) (seen : twi
             spared size (r .count) (omega (arith, spare-more (o .field) (r .fields) next (g .ok) (k .1)))),
       )
 
-  list-goes : Bytes s → 0 < length s → (size spare : ℕ) (t : Tally) → fieldAnswer twice n at s ≡ Part t → Goes size spare t
-  unfolding fieldAnswer
+  list-goes : Bytes s → 0 < length s → (size spare : ℕ) (t : Tally) → fieldPart twice n at s ≡ Part t → Goes size spare t
+  unfolding fieldPart
   list-goes b l size spare = part-got fieldTally (fieldWhen twice n at s) (Goes size spare) (goes b l size spare)
 
 -- ---- a list from the i-th byte on, with so many bytes saved before
@@ -141,7 +141,7 @@ module _ (at : ℕ) (s : List ℕ) where
     module _ (twice : Bool) (seen : twice ≡ among ids (getD s i 0)) (l : i < length s) where
       -- the answer for the field that is next
       abbrev next : PartRead
-      next = fieldAnswer twice n (at + i) (take (length s - i) (drop i s))
+      next = fieldPart twice n (at + i) (take (length s - i) (drop i s))
 
       some : 0 < length (drop i s)
       some = omega (arith, length-drop i s)

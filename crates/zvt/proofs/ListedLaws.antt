@@ -1,9 +1,8 @@
 -- The fields of a list that lies in a message, one after the other. Assumes nothing.
 use mathlib.Core.Path.{_≡_, refl, sym, ap, _∙_}
-use mathlib.Core.Logic.{⊎-elim}
 use mathlib.Core.List.{List, [], _∷_}
-use Prim.Native.Nat.{ℕ, zero, suc, _+_, _-_, _<_, _≤_}
-use native.Mathlib.Nat.{add-zero, eq-or-lt-of-le}
+use Prim.Native.Nat.{ℕ, suc, _+_, _-_, _<_, _≤_}
+use native.Mathlib.Nat.{add-zero}
 use native.Mathlib.Omega.{arith}
 use lib.ListN.{length, getD, take, drop, length-drop}
 use lib.Seq.{length-take-le, take-add, take-take, drop-at, drop-drop, getD-take, getD-drop}
@@ -13,18 +12,20 @@ use Rattle.zvt_rules.specs.Reading.{got, part}
 use Rattle.zvt_rules.specs.Fields.{Field, fieldId, listOf}
 use Rattle.zvt_rules.specs.Writing.{fieldBytes}
 use Rattle.zvt_rules.specs.Grammar.{Bytes}
-use Rattle.zvt_rules.proofs.ObjectSteps.{part-length}
+use Rattle.zvt_rules.proofs.ObjectReading.{part-length}
 use Rattle.zvt_rules.proofs.ObjectBytes.{bytes-part}
-use Rattle.zvt_rules.proofs.FieldSteps.{list-none}
+use Rattle.zvt_rules.proofs.FieldReading.{list-none}
 use Rattle.zvt_rules.specs.Values.{fieldValue}
-use Rattle.zvt.specs.declared.Listed.{Listed}
-use Rattle.zvt.specs.declared.FieldAnswer.the-variants.{Field as listed-field, End}
+use Rattle.zvt_rules.specs.declared.Listed.{Listed}
+use Rattle.zvt_rules.specs.declared.FieldAnswer.{FieldAnswer}
+use Rattle.zvt_rules.specs.declared.FieldAnswer.the-variants.{Field as listed-field, End}
 use Rattle.zvt.specs.declared.objects.Bounds.{Bounds}
 use Rattle.zvt.specs.declared.objects.BoundsRead.the-variants.{Bounds as bounds-read, Refused as bounds-refused}
-use Rattle.zvt.specs.Objects.{asBounds}
-use Rattle.zvt.specs.Fields.{fieldBounds}
-use Rattle.zvt.specs.List.{listedAt, listedFrom, firstListed, nthListed, namedListed, listFields, fieldsBetween, listedIn, ListIn}
-use Rattle.zvt.specs.Writing.{ListReads}
+use Rattle.zvt.specs.ObjectSteps.{asBounds}
+use Rattle.zvt.specs.FieldSteps.{fieldBounds}
+use Rattle.zvt_rules.specs.Listed.{listedAt, listedFrom, nthListed, namedListed}
+use Rattle.zvt.specs.ListSteps.{listFields, fieldsBetween, listedIn, ListIn, FieldHere, StandsAt, field, none}
+use Rattle.zvt.specs.WritingSteps.{ListReads}
 use Rattle.zvt.proofs.ShortLists.{first-field}
 
 -- ---- a part of a part
@@ -101,59 +102,46 @@ first-in at end s b l h =
 module _ (at end : ℕ) (s : List ℕ) (b : Bytes s) (h : ListIn at end s) (n : at ≡ end → ⊥) where
   -- its bounds give it
   pub first-is : (x : Bounds) → fieldBounds 0 (part at end s) ≡ bounds-read x
-      → (x .from ≤ x .to) × (at + x .to ≤ end)
-      × (listed-field (record { id = getD s at 0; from = at + x .from; to = at + x .to }) ≡ firstListed (listedIn at end s))
-  unfolding firstListed
+      → (x .from ≤ x .to) × (at + x .to ≤ end) × FieldHere at end s (record { id = getD s at 0; from = at + x .from; to = at + x .to })
   first-is x e =
       let f = first-in at end s b h (omega (arith, h .order)) in
       let same : f .bounds ≡ x = cc (f .read) in
-      rw (← same) (f .order, f .within, sym (ap firstListed (f .all)))
+      rw (← same) (f .order, f .within, record { some = omega (arith, f .some); rest = f .rest; all = f .all })
 
   -- and are never refused
   pub first-never : (r : Fault) → fieldBounds 0 (part at end s) ≡ bounds-refused r → ⊥
   first-never r e = let z : _≡_ {A = ℕ} 0 1 = cc (first-in at end s b h (omega (arith, h .order)) .read) in omega arith
 
--- ---- what the first field says of the whole list
-abbrev pub Next : ℕ → ℕ → List ℕ → Listed → Type 0
-Next at end s l = (at < l .to) × ListIn (l .to) end s × (listedIn at end s ≡ l ∷ listedIn (l .to) end s)
+-- ---- what stands at a place says of the whole list
+pub field-here : {at e : ℕ} {s : List ℕ} {r : FieldAnswer} {l : Listed} → StandsAt at e s r → r ≡ listed-field l → FieldHere at e s l
+field-here {l = l} (field {l = k} h) e = let same : k ≡ l = cc in rw same at h
+field-here (none h) e = absurd (let z : _≡_ {A = ℕ} 0 1 = cc in omega arith)
 
-pub next-in : (at end : ℕ) (s : List ℕ) (l : Listed) → Bytes s → ListIn at end s → firstListed (listedIn at end s) ≡ listed-field l → Next at end s l
-unfolding firstListed
-next-in at end s l b h e =
-    ⊎-elim
-    (λ q. absurd (let z : _≡_ {A = ℕ} 0 1 = cc (list-empty at end s q) in omega arith))
-    (λ k.
-    let f = first-in at end s b h k in
-    let p : record { id = getD s at 0; from = at + f .bounds .from; to = at + f .bounds .to } ≡ l = cc (f .all) in
-    rw (← p) (omega (arith, f .some), f .rest, f .all))
-    (eq-or-lt-of-le (h .order))
+pub none-here : {at e : ℕ} {s : List ℕ} {r : FieldAnswer} → StandsAt at e s r → r ≡ End → listedIn at e s ≡ []
+none-here (field h) e = absurd (let z : _≡_ {A = ℕ} 0 1 = cc in omega arith)
+none-here (none h) e = h
 
-none-listed : (ls : List Listed) → firstListed ls ≡ End → ls ≡ []
-unfolding firstListed
-none-listed [] e = refl
-none-listed (l ∷ ls) e = absurd (let z : _≡_ {A = ℕ} 0 1 = cc in omega arith)
-
-pub nth-end : (k : ℕ) (ls : List Listed) → firstListed ls ≡ End → nthListed k ls ≡ End
+pub nth-end : (k : ℕ) {ls : List Listed} → ls ≡ [] → End ≡ nthListed k ls
 unfolding nthListed
-nth-end k ls e = rw (none-listed ls e)
+nth-end k h = rw h
 
-pub nth-here : (k : ℕ) (l : Listed) (ls : List Listed) → k ≡ 0 → nthListed k (l ∷ ls) ≡ listed-field l
-unfolding nthListed
-nth-here k l ls e = rw e
-
-pub nth-next : (k : ℕ) (l : Listed) (ls : List Listed) → (k ≡ 0 → ⊥) → nthListed k (l ∷ ls) ≡ nthListed (k - 1) ls
-unfolding nthListed
-nth-next zero l ls n = absurd (n refl)
-nth-next (suc k) l ls n = let e : suc k - 1 ≡ k = omega arith in rw e
-
-pub named-end : (id : ℕ) (ls : List Listed) → firstListed ls ≡ End → namedListed id ls ≡ End
+pub named-end : (id : ℕ) {ls : List Listed} → ls ≡ [] → End ≡ namedListed id ls
 unfolding namedListed
-named-end id ls e = rw (none-listed ls e)
+named-end id h = rw h
 
-pub named-here : (id : ℕ) (l : Listed) (ls : List Listed) → l .id ≡ id → namedListed id (l ∷ ls) ≡ listed-field l
-unfolding namedListed
-named-here id l ls e = rw (eq-eqb (l .id) id e)
+module _ {at e : ℕ} {s : List ℕ} {l : Listed} (h : FieldHere at e s l) where
+  pub nth-here : (k : ℕ) → k ≡ 0 → listed-field l ≡ nthListed k (listedIn at e s)
+  unfolding nthListed
+  nth-here k z = rw (h .all, z)
 
-pub named-next : (id : ℕ) (l : Listed) (ls : List Listed) → (l .id ≡ id → ⊥) → namedListed id (l ∷ ls) ≡ namedListed id ls
-unfolding namedListed
-named-next id l ls n = rw (ne-eqb (l .id) id n)
+  pub nth-next : (k : ℕ) → (k ≡ 0 → ⊥) → nthListed (k - 1) (listedIn (l .to) e s) ≡ nthListed k (listedIn at e s)
+  unfolding nthListed
+  nth-next k n = let d : k ≡ suc (k - 1) = omega arith in rw (h .all) (sym (ap (λ j. nthListed j (l ∷ listedIn (l .to) e s)) d))
+
+  pub named-here : (id : ℕ) → l .id ≡ id → listed-field l ≡ namedListed id (listedIn at e s)
+  unfolding namedListed
+  named-here id q = rw (h .all, eq-eqb (l .id) id q)
+
+  pub named-next : (id : ℕ) → (l .id ≡ id → ⊥) → namedListed id (listedIn (l .to) e s) ≡ namedListed id (listedIn at e s)
+  unfolding namedListed
+  named-next id n = rw (h .all, ne-eqb (l .id) id n)

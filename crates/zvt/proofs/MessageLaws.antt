@@ -10,32 +10,32 @@ use borrow.Author.Tests.{eq-eqb, ne-eqb, le-leb, lt-leb}
 use Rattle.zvt_rules.specs.declared.Fault.{Fault}
 use Rattle.zvt_rules.specs.declared.Layout.{Layout}
 use Rattle.zvt_rules.specs.Reading.{got, refused, part}
-use Rattle.zvt_rules.specs.Message.{Header as MessageHeader, headerSize, start, end, layoutOf, Body, bodyOf, Message as MessageTree, messageOf, headerOf, readOf, firstOf, countOf}
+use Rattle.zvt_rules.specs.Message.{Heading, headerSize, start, end, layoutOf, Body, bodyOf, Message, messageOf, headerOf, readOf, firstOf, countOf}
 use Rattle.zvt_rules.specs.Writing.{bodyBytes, messageBytes}
 use Rattle.zvt_rules.specs.Shortest.{isShortBody, isShort}
 use Rattle.zvt_rules.specs.Grammar.{Bytes, LayoutOk}
 use Rattle.zvt_rules.proofs.Readings.{then-on, then-stop}
-use Rattle.zvt_rules.proofs.ObjectSteps.{part-length}
+use Rattle.zvt_rules.proofs.ObjectReading.{part-length}
 use Rattle.zvt_rules.proofs.ObjectBytes.{bytes-part}
-use Rattle.zvt_rules.proofs.FieldSteps.{header-in}
+use Rattle.zvt_rules.proofs.FieldReading.{header-in}
 use Rattle.zvt_rules.proofs.MessageBytes.{body-sound, message-size}
 use Rattle.zvt_rules.proofs.MessageShort.{body-shorter, body-exactly}
-use Rattle.zvt.specs.declared.Header.{Header}
-use Rattle.zvt.specs.declared.Message.{Message}
+use Rattle.zvt_rules.specs.declared.Header.{Header}
+use Rattle.zvt_rules.specs.declared.Outline.{Outline}
 use Rattle.zvt_rules.specs.declared.Refusal.{Refusal}
 use Rattle.zvt.specs.declared.headers.HeaderRead.the-variants.{Header as header-read, Refused as header-refused}
 use Rattle.zvt.specs.declared.objects.Tally.{Tally}
 use Rattle.zvt.specs.declared.objects.PartRead.the-variants.{Part, Refused as part-refused}
-use Rattle.zvt.specs.declared.ReadAnswer.the-variants.{Accepted, Refused}
-use Rattle.zvt.specs.declared.FirstAnswer.the-variants.{Accepted as first-accepted, Refused as first-refused}
-use Rattle.zvt.specs.Header.{headerIn, firstHeader, wholeAnswer}
-use Rattle.zvt.specs.Body.{spareBody, bodyTally, bodyAnswer, bodyIn, described}
-use Rattle.zvt.specs.Answers.{refusalOf, messageAnswer, asReadAnswer, readAnswer, asFirstAnswer, firstAnswer}
+use Rattle.zvt_rules.specs.declared.ReadAnswer.the-variants.{Accepted, Refused}
+use Rattle.zvt_rules.specs.declared.FirstAnswer.the-variants.{Accepted as first-accepted, Refused as first-refused}
+use Rattle.zvt_rules.specs.Answers.{refusalOf, headerIn, outlineOf, asReadAnswer, readAnswer, asFirstAnswer, firstAnswer}
+use Rattle.zvt.specs.HeaderSteps.{firstHeader, wholeAnswer}
+use Rattle.zvt.specs.BodySteps.{spareBody, bodyTally, bodyAnswer, bodyIn, described}
 use Rattle.zvt.proofs.HeaderLaws.{first-got, first-stopped, whole-got, whole-first, whole-stopped}
 use Rattle.zvt.proofs.RunLaws.{part-got, part-stopped}
 
 -- ---- whether every length was shortest
-abbrev pub describedAs : Header → Tally → Bool → Message
+abbrev pub describedAs : Header → Tally → Bool → Outline
 describedAs h t shortest =
     record { class = h .class; instruction = h .instruction; start = h .start; length = h .length; objects = t .objects; shortest = shortest }
 
@@ -70,7 +70,7 @@ starts-at true = refl
 starts-at false = refl
 
 -- ---- the message of a header
-module _ (s : List ℕ) (m : MessageHeader) where
+module _ (s : List ℕ) (m : Heading) where
   abbrev inside : List ℕ
   inside = part (start m) (end m) s
 
@@ -83,13 +83,13 @@ module _ (s : List ℕ) (m : MessageHeader) where
 
   abbrev pub Described : Tally → Type 0
   Described t =
-      (w : MessageTree) × (messageOf s m ≡ got w) × (messageAnswer w ≡ described (headerIn m) t) × (length (messageBytes w) ≡ end m)
+      (w : Message) × (messageOf s m ≡ got w) × (outlineOf w ≡ described (headerIn m) t) × (length (messageBytes w) ≡ end m)
 
   module _ (bs : Bytes s) (e : headerOf s ≡ got m) where
     body-described : (b : Body) → bodyOf (start m) inside layout ≡ got b → Described (bodyTally inside b)
-    unfolding messageOf messageAnswer described headerIn bodyTally countOf isShort
+    unfolding messageOf outlineOf described headerIn bodyTally countOf isShort
     body-described b f =
-        let w : MessageTree = record { class = m .class; instruction = m .instruction; long = m .long; body = b } in
+        let w : Message = record { class = m .class; instruction = m .instruction; long = m .long; body = b } in
         let g = body-sound (start m) inside layout b (bytes-part (start m) (end m) s bs) f in
         let there = part-length s (start m) (end m) (omega arith) (header-in s m e .1) in
         let size : length (bodyBytes b) ≡ m .size = omega (arith, ap length (g .0)) in

@@ -8,18 +8,18 @@ use lib.ListN.{length, getD, take, drop, length-drop}
 use borrow.Author.Tests.{lt-ltb, le-ltb, ne-eqb}
 use Rattle.zvt_rules.specs.declared.Fault.{Fault}
 use Rattle.zvt_rules.specs.Reading.{Reading, got, refused, no, unless, andThen}
-use Rattle.zvt_rules.specs.Objects.{longTag, topBit, nested, formSize, secondTag, tagSize, Len, oneByte, twoBytes, lenOf}
+use Rattle.zvt_rules.specs.Objects.{longTag, topBit, nested, formSize, secondTag, tagSize, Len, oneByteLen, twoByteLen, lenOf}
 use Rattle.zvt_rules.specs.Objects.{Head, headWith, headOf}
 use Rattle.zvt_rules.specs.Shortest.{formFor}
 use Rattle.zvt.specs.declared.objects.TagRead.the-variants.{Size, Refused as tag-refused}
-use Rattle.zvt_rules.proofs.Readings.{then-on, then-stop}
-use Rattle.zvt_rules.proofs.ObjectSteps.{tail, tag-in, len-in}
+use Rattle.zvt_rules.proofs.Readings.{then-on, then-stop, unless-then}
+use Rattle.zvt_rules.proofs.ObjectReading.{tail, tag-in, len-in}
 use Rattle.zvt.specs.declared.objects.LenRead.{LenRead}
 use Rattle.zvt.specs.declared.objects.LenRead.the-variants.{Len as len-read, Refused as len-refused}
 use Rattle.zvt.specs.declared.objects.Bounds.{Bounds}
 use Rattle.zvt.specs.declared.objects.BoundsRead.{BoundsRead}
 use Rattle.zvt.specs.declared.objects.BoundsRead.the-variants.{Bounds as bounds-read, Refused as bounds-refused}
-use Rattle.zvt.specs.Objects.{asTag, asLen, asBounds, tagAnswer, lenAnswer, boundsIn, within, boundsOf, headAnswer, tallyOf}
+use Rattle.zvt.specs.ObjectSteps.{asTag, asLen, asBounds, tagAnswer, lenAnswer, boundsIn, within, boundsOf, headAnswer, tallyOf}
 
 -- ---- the tag
 pub tag-none : (at : ℕ) (s : List ℕ) → length s ≡ 0 → tagAnswer at s ≡ tag-refused (no 1 at)
@@ -68,27 +68,27 @@ len-bare at (b ∷ s) h l = rw (lt-ltb b 0x80 l)
 
 pub len-cut-one : (at : ℕ) (s : List ℕ) → 0 < length s → length s < 2 → getD s 0 0 ≡ 0x81
     → lenAnswer at s ≡ len-refused (no 1 (at + length s))
-unfolding lenAnswer asLen lenOf oneByte
+unfolding lenAnswer asLen lenOf oneByteLen
 len-cut-one at [] h l e = absurd (omega arith)
 len-cut-one at (b ∷ []) h l e = rw e
 len-cut-one at (b ∷ (v ∷ s)) h l e = absurd (omega arith)
 
 pub len-one : (at : ℕ) (s : List ℕ) → 1 < length s → getD s 0 0 ≡ 0x81 → lenAnswer at s ≡ len-read 2 (getD s 1 0)
-unfolding lenAnswer asLen lenOf oneByte formSize
+unfolding lenAnswer asLen lenOf oneByteLen formSize
 len-one at [] h e = absurd (omega arith)
 len-one at (b ∷ []) h e = absurd (omega arith)
 len-one at (b ∷ (v ∷ s)) h e = rw e
 
 pub len-cut-two : (at : ℕ) (s : List ℕ) → 0 < length s → length s < 3 → getD s 0 0 ≡ 0x82
     → lenAnswer at s ≡ len-refused (no 1 (at + length s))
-unfolding lenAnswer asLen lenOf twoBytes
+unfolding lenAnswer asLen lenOf twoByteLen
 len-cut-two at [] h l e = absurd (omega arith)
 len-cut-two at (b ∷ []) h l e = rw e
 len-cut-two at (b ∷ (v ∷ [])) h l e = rw e (cut-at (at + 1 + 1) (at + 2) (omega arith))
 len-cut-two at (b ∷ (v ∷ (w ∷ s))) h l e = absurd (omega arith)
 
 pub len-two : (at : ℕ) (s : List ℕ) → 2 < length s → getD s 0 0 ≡ 0x82 → lenAnswer at s ≡ len-read 3 (getD s 1 0 * 256 + getD s 2 0)
-unfolding lenAnswer asLen lenOf twoBytes formSize
+unfolding lenAnswer asLen lenOf twoByteLen formSize
 len-two at [] h e = absurd (omega arith)
 len-two at (b ∷ []) h e = absurd (omega arith)
 len-two at (b ∷ (v ∷ [])) h e = absurd (omega arith)
@@ -144,11 +144,6 @@ tag-within at k s e = tag-in at s k (tag-got _ k e)
 pub head-no-tag : (at : ℕ) (s : List ℕ) (r : Fault) → tagAnswer at s ≡ tag-refused r → headAnswer at s ≡ bounds-refused r
 unfolding headAnswer asBounds headOf tagAnswer
 head-no-tag at s r e = ap asBounds (then-stop _ r (then-stop _ r (tag-stopped _ r e)))
-
-pub unless-then : {A B : Type 0} (t : Bool) (r : Fault) (x : Reading A) (f : A → Reading B) → andThen (unless t r x) f ≡ unless t r (andThen x f)
-unfolding unless andThen
-unless-then true r x f = refl
-unless-then false r x f = refl
 
 with-bounds : (at k : ℕ) (s : List ℕ) (l : Len)
     → asBounds (andThen (headWith at s k l) λ h. got (boundsOf s h))

@@ -14,43 +14,35 @@ use Rattle.zvt_rules.specs.declared.Layout.{Layout}
 use Rattle.zvt_rules.specs.declared.Layout.the-variants.{Plain, List as FieldList, Secured}
 use Rattle.zvt_rules.specs.Reading.{Reading, got, refused, pick, part, among}
 use Rattle.zvt_rules.specs.Fields.{Field, listOf}
-use Rattle.zvt_rules.specs.Message.{headerSize, layoutOf, Body, bytes, listed, Message as MessageTree, readOf}
+use Rattle.zvt_rules.specs.Message.{headerSize, layoutOf, Body, bytes, listed, Message, readOf}
 use Rattle.zvt_rules.specs.Writing.{listBytes, bodyBytes, lengthBytes, messageBytes}
-use Rattle.zvt_rules.specs.Grammar.{Bytes, FieldsOk, LayoutOk, LengthOk, MessageOk}
-use Rattle.zvt_rules.proofs.ObjectSteps.{tail}
+use Rattle.zvt_rules.specs.Grammar.{Bytes, FieldsOk, LayoutOk, MessageOk}
+use Rattle.zvt_rules.proofs.ObjectReading.{tail}
 use Rattle.zvt_rules.proofs.FieldBytes.{list-complete}
+use Rattle.zvt_rules.proofs.FieldReading.{header-most}
 use Rattle.zvt_rules.proofs.MessageBytes.{read-sound, message-size}
+use Rattle.zvt_rules.proofs.MessageShort.{fields-ok, length-bound}
 use Rattle.zvt_rules.specs.declared.Refusal.{Refusal}
-use Rattle.zvt.specs.declared.Message.{Message}
-use Rattle.zvt.specs.declared.ReadAnswer.the-variants.{Accepted, Refused}
-use Rattle.zvt.specs.declared.Listed.{Listed}
-use Rattle.zvt.specs.declared.ListPlace.{ListPlace}
-use Rattle.zvt.specs.declared.ListPlace.the-variants.{Nowhere, Between}
-use Rattle.zvt.specs.Answers.{messageAnswer, asReadAnswer, readAnswer}
-use Rattle.zvt.specs.List.{listedFrom, listedBody, listedMessage, listFields, fieldsBetween, listedIn, ListIn, bodyPlace, messagePlace, listPlace, placeOfStatus, statusPlace, namedListed}
+use Rattle.zvt_rules.specs.declared.Outline.{Outline}
+use Rattle.zvt_rules.specs.declared.ReadAnswer.the-variants.{Accepted, Refused}
+use Rattle.zvt_rules.specs.declared.Listed.{Listed}
+use Rattle.zvt_rules.specs.declared.ListPlace.{ListPlace}
+use Rattle.zvt_rules.specs.declared.ListPlace.the-variants.{Nowhere, Between}
+use Rattle.zvt_rules.specs.Answers.{outlineOf, asReadAnswer, readAnswer}
+use Rattle.zvt_rules.specs.Listed.{listedFrom, listedBody, listedMessage, namedListed, bodyPlace, messagePlace, listPlace}
+use Rattle.zvt.specs.ListSteps.{listFields, fieldsBetween, listedIn, ListIn, placeOfStatus, statusPlace}
 use Rattle.zvt_rules.specs.Values.{isStatus, bodyFields, statusFields}
-use Rattle.zvt.specs.Name.{NameAt, own, nameIn, nameOf, nameAt}
-use Rattle.zvt.specs.Writing.{ListReads}
+use Rattle.zvt_rules.specs.Name.{own, NameAt, nameIn, nameOf, nameAt}
+use Rattle.zvt.specs.WritingSteps.{ListReads}
 
 -- ---- the list of a message that is read
-pub fields-ok : (l : Layout) (password : List ℕ) (fs : List Field) → LayoutOk l (listed password fs) → FieldsOk fs
-unfolding LayoutOk
-fields-ok Plain password fs ok = absurd ok
-fields-ok FieldList password fs ok = ok .1
-fields-ok Secured password fs ok = ok .2
-
 -- it stands behind header and password
 behind : (long : Bool) (c i v : ℕ) (w : List ℕ) (k : ℕ) → drop (headerSize long + k) (c ∷ (i ∷ (lengthBytes long v ++ w))) ≡ drop k w
 unfolding lengthBytes
 behind false c i v w k = sym (drop-drop k 3 (c ∷ (i ∷ (v ∷ w))))
 behind true c i v w k = sym (drop-drop k 5 _)
 
-body-short : (long : Bool) (v : ℕ) → LengthOk long v → v ≤ 4096
-unfolding LengthOk
-body-short false v ok = omega arith
-body-short true v ok = ok
-
-module _ (s : List ℕ) (m : MessageTree) (b : Bytes s) (e : readOf s ≡ got m) where
+module _ (s : List ℕ) (m : Message) (b : Bytes s) (e : readOf s ≡ got m) where
   in-message : (password : List ℕ) (fs : List Field) → m .body ≡ listed password fs
       → ListIn (headerSize (m .long) + length password) (length s) s × (fs ≡ fieldsBetween (headerSize (m .long) + length password) (length s) s)
   unfolding messageBytes bodyBytes MessageOk FieldsOk ListReads fieldsBetween listFields
@@ -58,7 +50,7 @@ module _ (s : List ℕ) (m : MessageTree) (b : Bytes s) (e : readOf s ≡ got m)
       let k = read-sound s m b e in
       let a = headerSize (m .long) + length password in
       let ok = fields-ok (layoutOf (m .class) (m .instruction)) password fs (rw q at (k .1 .0)) in
-      let short = body-short (m .long) (length (bodyBytes (m .body))) (k .1 .1) in
+      let short = length-bound (m .long) (length (bodyBytes (m .body))) (k .1 .1) in
       let size : length (bodyBytes (m .body)) ≡ length password + length (listBytes fs) = rw q (length-append password (listBytes fs)) in
       let long = ap length (sym (k .0)) ∙ message-size m in
       let w : part a (length s) s ≡ listBytes fs =
@@ -85,7 +77,7 @@ module _ (s : List ℕ) (m : MessageTree) (b : Bytes s) (e : readOf s ≡ got m)
           rw (a, z) (k .0, k .1, ap (listedFrom (at + length password)) (k .1))
 
 -- no list, no fields
-unplaced : (m : MessageTree) → messagePlace (got m) ≡ Nowhere → (bodyFields (m .body) ≡ []) × (listedMessage (got m) ≡ [])
+unplaced : (m : Message) → messagePlace (got m) ≡ Nowhere → (bodyFields (m .body) ≡ []) × (listedMessage (got m) ≡ [])
 unfolding messagePlace bodyPlace bodyFields listedMessage listedBody
 unplaced m h = go (m .body) h
   where
@@ -108,7 +100,7 @@ body-place at end FieldList (listed password fs) ok = rw (ok .0, add-zero at)
 body-place at end Secured (bytes w) ok = absurd ok
 body-place at end Secured (listed password fs) ok = rw (ok .0)
 
-layout-place : (s : List ℕ) (m : MessageTree) → Bytes s → readOf s ≡ got m
+layout-place : (s : List ℕ) (m : Message) → Bytes s → readOf s ≡ got m
     → placeBy (headerSize (m .long)) (length s) (layoutOf (m .class) (m .instruction)) ≡ messagePlace (got m)
 unfolding messagePlace MessageOk
 layout-place s m b e =
@@ -116,11 +108,11 @@ layout-place s m b e =
     rw (← (k .0)) (body-place (headerSize (m .long)) (length (messageBytes m)) (layoutOf (m .class) (m .instruction)) (m .body) (k .1 .0))
 
 -- ---- the message behind the reader's answer
-pub accepted : (s : List ℕ) (x : Message) → readAnswer s ≡ Accepted x → (m : MessageTree) × (readOf s ≡ got m) × (messageAnswer m ≡ x)
+pub accepted : (s : List ℕ) (x : Outline) → readAnswer s ≡ Accepted x → (m : Message) × (readOf s ≡ got m) × (outlineOf m ≡ x)
 unfolding readAnswer asReadAnswer
 accepted s x h = go (readOf s) refl h
   where
-    go : (y : Reading MessageTree) → readOf s ≡ y → asReadAnswer y ≡ Accepted x → (m : MessageTree) × (readOf s ≡ got m) × (messageAnswer m ≡ x)
+    go : (y : Reading Message) → readOf s ≡ y → asReadAnswer y ≡ Accepted x → (m : Message) × (readOf s ≡ got m) × (outlineOf m ≡ x)
     go (got m) q g = (m, q, cc)
     go (refused f) q g = absurd (let z : _≡_ {A = ℕ} 0 1 = cc in omega arith)
 
@@ -128,7 +120,7 @@ pub not-accepted : (s : List ℕ) (r : Refusal) → readAnswer s ≡ Refused r �
 unfolding readAnswer asReadAnswer
 not-accepted s r h = go (readOf s) refl h
   where
-    go : (y : Reading MessageTree) → readOf s ≡ y → asReadAnswer y ≡ Refused r → (f : Fault) × (readOf s ≡ refused f)
+    go : (y : Reading Message) → readOf s ≡ y → asReadAnswer y ≡ Refused r → (f : Fault) × (readOf s ≡ refused f)
     go (got m) q g = absurd (let z : _≡_ {A = ℕ} 0 1 = cc in omega arith)
     go (refused f) q g = (f, q)
 
@@ -142,40 +134,36 @@ module _ (s : List ℕ) (r : Refusal) (e : readAnswer s ≡ Refused r) where
   no-status = rw (not-accepted s r e .1)
 
 -- bytes that were read as that message
-abbrev pub Was : List ℕ → Message → Type 0
+abbrev pub Was : List ℕ → Outline → Type 0
 Was s x = Bytes s × (readAnswer s ≡ Accepted x)
 
-module _ (s : List ℕ) (x : Message) (w : Was s x) where
+module _ (s : List ℕ) (x : Outline) (w : Was s x) where
   pub start-small : x .start ≤ 5
-  unfolding messageAnswer
-  start-small = rw (← (accepted s x (w .1) .2)) (small (accepted s x (w .1) .0 .long))
-    where
-      small : (long : Bool) → headerSize long ≤ 5
-      small false = omega arith
-      small true = omega arith
+  unfolding outlineOf
+  start-small = rw (← (accepted s x (w .1) .2)) (header-most (accepted s x (w .1) .0 .long))
 
   pub place-is : (l : Layout) → layoutOf (x .class) (x .instruction) ≡ l → placeBy (x .start) (length s) l ≡ listPlace s
-  unfolding listPlace messageAnswer
+  unfolding listPlace outlineOf
   place-is l h =
       let k = accepted s x (w .1) in
       rw (← h, ← (k .2), k .1) (layout-place s (k .0) (w .0) (k .1))
 
   pub other-class : (x .class ≡ 0x04 → ⊥) → Nowhere ≡ statusPlace s
-  unfolding statusPlace placeOfStatus messageAnswer
+  unfolding statusPlace placeOfStatus outlineOf
   other-class n =
       let k = accepted s x (w .1) in
       let c : eqb (k .0 .class) 0x04 ≡ false = rw (← (k .2)) at (ne-eqb (x .class) 0x04 n) in
       rw (k .1, c)
 
   pub other-instruction : (x .instruction ≡ 0x0F → ⊥) → Nowhere ≡ statusPlace s
-  unfolding statusPlace placeOfStatus messageAnswer
+  unfolding statusPlace placeOfStatus outlineOf
   other-instruction n =
       let k = accepted s x (w .1) in
       let c : eqb (k .0 .instruction) 0x0F ≡ false = rw (← (k .2)) at (ne-eqb (x .instruction) 0x0F n) in
       rw (k .1, c, and-false (eqb (k .0 .class) 0x04))
 
   pub status-is : x .class ≡ 0x04 → x .instruction ≡ 0x0F → Between (x .start) (length s) ≡ statusPlace s
-  unfolding listPlace statusPlace placeOfStatus placeBy messageAnswer layoutOf among
+  unfolding listPlace statusPlace placeOfStatus placeBy outlineOf layoutOf among
   status-is c i =
       let k = accepted s x (w .1) in
       let class : k .0 .class ≡ 0x04 = rw (← (k .2)) at c in
@@ -183,19 +171,20 @@ module _ (s : List ℕ) (x : Message) (w : Was s x) where
       place-is FieldList (rw (c, i)) ∙ rw (k .1, class, instruction)
 
 -- ---- what a place says of the message
-pub list-at : (s : List ℕ) (from end : ℕ) → Bytes s → listPlace s ≡ Between from end → ListIn from end s × (listedMessage (readOf s) ≡ listedIn from end s)
+pub list-at : (s : List ℕ) {r : ListPlace} {from end : ℕ} → Bytes s → r ≡ listPlace s → r ≡ Between from end
+    → ListIn from end s × (listedMessage (readOf s) ≡ listedIn from end s)
 unfolding listPlace messagePlace
-list-at s from end b h = go (readOf s) refl h
+list-at s {from = from} {end = end} b e h = go (readOf s) refl (sym e ∙ h)
   where
-    go : (y : Reading MessageTree) → readOf s ≡ y → messagePlace y ≡ Between from end → ListIn from end s × (listedMessage y ≡ listedIn from end s)
+    go : (y : Reading Message) → readOf s ≡ y → messagePlace y ≡ Between from end → ListIn from end s × (listedMessage y ≡ listedIn from end s)
     go (got m) q g = let k = placed s m b q from end g in (k .0, k .2)
     go (refused f) q g = absurd (let z : _≡_ {A = ℕ} 0 1 = cc in omega arith)
 
-pub list-nowhere : (s : List ℕ) → listPlace s ≡ Nowhere → listedMessage (readOf s) ≡ []
+pub list-nowhere : (s : List ℕ) {r : ListPlace} → r ≡ listPlace s → r ≡ Nowhere → listedMessage (readOf s) ≡ []
 unfolding listPlace listedMessage
-list-nowhere s h = go (readOf s) h
+list-nowhere s e h = go (readOf s) (sym e ∙ h)
   where
-    go : (y : Reading MessageTree) → messagePlace y ≡ Nowhere → listedMessage y ≡ []
+    go : (y : Reading Message) → messagePlace y ≡ Nowhere → listedMessage y ≡ []
     go (got m) g = unplaced m g .1
     go (refused f) g = refl
 
@@ -212,14 +201,14 @@ status-at s from end b h = let k = go (readOf s) refl h in record { reads = k .0
     P : List Field → NameAt → Type 0
     P fs n = ListIn from end s × (fs ≡ fieldsBetween from end s) × (n ≡ nameIn s (namedListed 0x8B (listedIn from end s)))
 
-    by : (m : MessageTree) → readOf s ≡ got m → (t : Bool) → pick t (messagePlace (got m)) Nowhere ≡ Between from end
+    by : (m : Message) → readOf s ≡ got m → (t : Bool) → pick t (messagePlace (got m)) Nowhere ≡ Between from end
         → P (pick t (bodyFields (m .body)) []) (pick t (nameIn s (namedListed 0x8B (listedMessage (got m)))) own)
     by m q true g =
         let k = placed s m b q from end g in
         (k .0, k .1, ap (λ (ls : List Listed). nameIn s (namedListed 0x8B ls)) (k .2))
     by m q false g = absurd (let z : _≡_ {A = ℕ} 0 1 = cc in omega arith)
 
-    go : (y : Reading MessageTree) → readOf s ≡ y → placeOfStatus y ≡ Between from end → P (statusFields y) (nameOf s y)
+    go : (y : Reading Message) → readOf s ≡ y → placeOfStatus y ≡ Between from end → P (statusFields y) (nameOf s y)
     go (got m) q g = by m q (isStatus m) g
     go (refused f) q g = absurd (let z : _≡_ {A = ℕ} 0 1 = cc in omega arith)
 
@@ -227,11 +216,11 @@ pub status-nowhere : (s : List ℕ) → statusPlace s ≡ Nowhere → (statusFie
 unfolding statusPlace placeOfStatus statusFields nameAt nameOf nameIn namedListed
 status-nowhere s h = go (readOf s) h
   where
-    by : (m : MessageTree) (t : Bool) → pick t (messagePlace (got m)) Nowhere ≡ Nowhere
+    by : (m : Message) (t : Bool) → pick t (messagePlace (got m)) Nowhere ≡ Nowhere
         → (pick t (bodyFields (m .body)) [] ≡ []) × (pick t (nameIn s (namedListed 0x8B (listedMessage (got m)))) own ≡ own)
     by m true g = let k = unplaced m g in (k .0, ap (λ (ls : List Listed). nameIn s (namedListed 0x8B ls)) (k .1))
     by m false g = (refl, refl)
 
-    go : (y : Reading MessageTree) → placeOfStatus y ≡ Nowhere → (statusFields y ≡ []) × (nameOf s y ≡ own)
+    go : (y : Reading Message) → placeOfStatus y ≡ Nowhere → (statusFields y ≡ []) × (nameOf s y ≡ own)
     go (got m) g = by m (isStatus m) g
     go (refused f) g = (refl, refl)

@@ -14,8 +14,9 @@ use Rattle.zvt_rules.specs.Objects.{Obj, Objs, more, OneRead, RunRead, insideOf
 use Rattle.zvt_rules.specs.Writing.{objBytes, runBytes}
 use Rattle.zvt_rules.specs.Shortest.{formFor, shortObj, shortRun}
 use Rattle.zvt_rules.specs.Grammar.{Bytes, FormOk, ObjOk, RunOk}
-use Rattle.zvt_rules.proofs.Readings.{then-on, then-stop, pick-true, pick-false}
-use Rattle.zvt_rules.proofs.ObjectSteps.{tail, part-length, head-got, head-in, branchOf, leafOf, one-in, run-none, run-step}
+use Rattle.zvt_rules.proofs.Tests.{pick-true, pick-false}
+use Rattle.zvt_rules.proofs.Readings.{then-on, then-stop}
+use Rattle.zvt_rules.proofs.ObjectReading.{tail, part-length, head-got, head-in, branchOf, leafOf, one-in, run-none, run-step}
 use Rattle.zvt_rules.proofs.Lengths.{object-size, len-sound, form-shorter}
 use Rattle.zvt_rules.proofs.ObjectShort.{obj-shorter, run-shorter}
 use Rattle.zvt_rules.proofs.ObjectBytes.{bytes-drop, bytes-part, run-sound, one-sound}
@@ -25,8 +26,7 @@ use Rattle.zvt.specs.declared.objects.BoundsRead.the-variants.{Bounds as
 use Rattle.zvt.specs.declared.objects.Tally.{Tally}
 use Rattle.zvt.specs.declared.objects.PartRead.{PartRead}
 use Rattle.zvt.specs.declared.objects.PartRead.the-variants.{Part, Refused as part-refused}
-use Rattle.zvt.specs.Objects.{asBounds, asPart, boundsOf, headAnswer, spareObj, spareRun}
-use Rattle.zvt.specs.Objects.{tallyOf, oneTally, runTally, oneAnswer, runAnswer}
+use Rattle.zvt.specs.ObjectSteps.{asBounds, asPart, boundsOf, headAnswer, spareObj, spareRun, tallyOf, oneTally, runTally, oneAnswer, runAnswer}
 
 -- ---- an answer goes back to what was read
 pub part-got : {A : Type 0} (f : A → Tally) (x : Reading A) (P : Tally → Type 0) → ((a : A) → x ≡ got a → P (f a))

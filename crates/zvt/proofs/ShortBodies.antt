@@ -15,10 +15,10 @@ use Rattle.zvt_rules.specs.Shortest.{shortBody}
 use Rattle.zvt_rules.specs.Grammar.{Bytes}
 use Rattle.zvt_rules.proofs.Readings.{got-same, unless-got, then-got}
 use Rattle.zvt_rules.proofs.ObjectBytes.{bytes-drop}
-use Rattle.zvt_rules.proofs.FieldSteps.{undecimal-got}
+use Rattle.zvt_rules.proofs.FieldReading.{undecimal-got}
 use Rattle.zvt_rules.proofs.MessageBytes.{body-sound}
 use Rattle.zvt_rules.proofs.MessageShort.{body-shorter}
-use Rattle.zvt.specs.Writing.{ListReads, shortListOf, BodyReads, bodyWritten, shortBodyOf}
+use Rattle.zvt.specs.WritingSteps.{ListReads, shortListOf, BodyReads, bodyWritten, shortBodyOf}
 use Rattle.zvt.proofs.ShortLists.{list-written, list-alone}
 
 -- what is written of a body that is read

@@ -1,5 +1,5 @@
 -- A list that is read: its first field and the rest, and what its shortest writing is. Assumes nothing.
-use mathlib.Core.Path.{_≡_, refl, sym, ap, ap₂, _∙_, subst}
+use mathlib.Core.Path.{_≡_, refl, sym, ap, ap₂, _∙_}
 use mathlib.Core.Bool.{Bool, true, false, _||_}
 use mathlib.Core.List.{List, [], _∷_, _++_}
 use Prim.Native.Nat.{ℕ, _+_, _<_, _≤_}
@@ -19,15 +19,15 @@ use Rattle.zvt_rules.specs.Shortest.{shortField, shortList}
 use Rattle.zvt_rules.specs.Grammar.{Bytes, ListOk}
 use Rattle.zvt_rules.proofs.Readings.{got-same, got-not-refused, then-got, then-on}
 use Rattle.zvt_rules.proofs.ObjectBytes.{bytes-drop, bytes-part, run-sound}
-use Rattle.zvt_rules.proofs.FieldSteps.{plain-got, container-got, field-got, list-none, list-step}
+use Rattle.zvt_rules.proofs.FieldReading.{plain-got, container-got, field-got, list-none, list-step}
 use Rattle.zvt_rules.proofs.FieldBytes.{FieldSound, field-sound, list-sound, list-complete}
 use Rattle.zvt_rules.specs.Values.{fieldValue}
 use Rattle.zvt.specs.declared.objects.Bounds.{Bounds}
 use Rattle.zvt.specs.declared.objects.BoundsRead.the-variants.{Bounds as bounds-read, Refused as bounds-refused}
-use Rattle.zvt.specs.Objects.{asBounds, boundsIn}
-use Rattle.zvt.specs.Fields.{boundsBy, fieldBounds}
-use Rattle.zvt.specs.Writing.{headBytes, valueBytes, RunReads, shortFieldOf, ListReads, listWritten, shortListOf}
-use Rattle.zvt.proofs.ShortRuns.{Alone, run-alone}
+use Rattle.zvt.specs.ObjectSteps.{asBounds, boundsIn}
+use Rattle.zvt.specs.FieldSteps.{boundsBy, fieldBounds}
+use Rattle.zvt.specs.WritingSteps.{headBytes, valueBytes, RunReads, shortFieldOf, ListReads, listWritten, shortListOf}
+use Rattle.zvt.proofs.ShortRuns.{Alone, run-alone, bounds-are, bounds-never}
 
 -- ---- a list that is read is read alone too: after no ids, after no objects, at no place
 Fewer : List ℕ → List ℕ → Type 0
@@ -213,12 +213,7 @@ field-to-put s bs r l =
     )
 
 pub field-is : (s : List ℕ) (b : Bounds) → Bytes s → ListReads s → 0 < length s → fieldBounds 0 s ≡ bounds-read b → FieldToPut s b
-field-is s b bs r l e =
-    let f = field-to-put s bs r l in
-    let same : f .0 ≡ b = cc in
-    subst (FieldToPut s) same (f .2)
+field-is s b bs r l = bounds-are _ (field-to-put s bs r l) b
 
 pub field-never : (s : List ℕ) (r : Fault) → Bytes s → ListReads s → 0 < length s → fieldBounds 0 s ≡ bounds-refused r → ⊥
-field-never s r bs reads l e =
-    let f = field-to-put s bs reads l in
-    let z : _≡_ {A = ℕ} 0 1 = cc in omega arith
+field-never s r bs reads l = bounds-never _ (field-to-put s bs reads l) r

@@ -8,27 +8,27 @@ use lib.Seq.{length-take-le}
 use borrow.Author.Tests.{lt-ltb, le-ltb}
 use Rattle.zvt_rules.specs.declared.Fault.{Fault}
 use Rattle.zvt_rules.specs.Reading.{Reading, got, refused, noHeader, unless, part}
-use Rattle.zvt_rules.specs.Message.{Header as MessageHeader, start, end, layoutOf, Body, bodyOf, messageOf, wholeHeader, readOf}
+use Rattle.zvt_rules.specs.Message.{Heading, start, end, layoutOf, Body, bodyOf, messageOf, wholeHeader, readOf}
 use Rattle.zvt_rules.specs.Writing.{bodyBytes, messageBytes}
 use Rattle.zvt_rules.specs.Shortest.{shortBody, shortMessage, write, shorten}
 use Rattle.zvt_rules.specs.Grammar.{Bytes}
 use Rattle.zvt_rules.proofs.Readings.{then-on, then-stop}
-use Rattle.zvt_rules.proofs.ObjectSteps.{part-length}
+use Rattle.zvt_rules.proofs.ObjectReading.{part-length}
 use Rattle.zvt_rules.proofs.ObjectBytes.{bytes-part}
-use Rattle.zvt_rules.proofs.FieldSteps.{header-in}
+use Rattle.zvt_rules.proofs.FieldReading.{header-in}
 use Rattle.zvt_rules.proofs.MessageBytes.{body-sound, body-complete}
 use Rattle.zvt_rules.proofs.MessageShort.{body-shorter}
-use Rattle.zvt.specs.declared.Header.{Header}
+use Rattle.zvt_rules.specs.declared.Header.{Header}
 use Rattle.zvt.specs.declared.objects.Tally.{Tally}
 use Rattle.zvt.specs.declared.objects.PartRead.the-variants.{Part, Refused as part-refused}
 use Rattle.zvt.specs.declared.headers.HeaderRead.the-variants.{Header as header-read, Refused as header-refused}
-use Rattle.zvt.specs.declared.ShortenAnswer.{ShortenAnswer}
-use Rattle.zvt.specs.declared.ShortenAnswer.the-variants.{Written, Refused}
-use Rattle.zvt.specs.Header.{headerIn, wholeAnswer}
-use Rattle.zvt.specs.Body.{spareBody, bodyTally, bodyAnswer, bodyIn}
-use Rattle.zvt.specs.Answers.{refusalOf}
-use Rattle.zvt.specs.Writing.{back, front, Put, BodyReads, headerBytes, headerLayout, bodyPart, shortMessageOf}
-use Rattle.zvt.specs.Writing.{shortened, asShortenAnswer, shortenAnswer, lent, shortenLeaves}
+use Rattle.zvt_rules.specs.declared.ShortenAnswer.{ShortenAnswer}
+use Rattle.zvt_rules.specs.declared.ShortenAnswer.the-variants.{Written, Refused}
+use Rattle.zvt_rules.specs.Answers.{refusalOf, headerIn, shortened, asShortenAnswer, shortenAnswer, shortenLeaves}
+use Rattle.zvt.specs.HeaderSteps.{wholeAnswer}
+use Rattle.zvt.specs.BodySteps.{spareBody, bodyTally, bodyAnswer, bodyIn}
+use Rattle.zvt.specs.WritingSteps.{back, Put, BodyReads, headerBytes, headerLayout, bodyPart, shortMessageOf}
+use Rattle.zvt_rules.specs.Buffers.{front, writtenLeaves}
 use Rattle.zvt.proofs.RunLaws.{part-got}
 use Rattle.zvt.proofs.HeaderLaws.{whole-got, whole-stopped, whole-first}
 use Rattle.zvt.proofs.MessageLaws.{message-stopped}
@@ -39,12 +39,12 @@ abbrev pub Ends : ShortenAnswer → List ℕ → List ℕ → List ℕ → Type 
 Ends r s out exit = (r ≡ shortenAnswer (length out) s) × (exit ≡ shortenLeaves s out)
 
 ends-refused : (s out : List ℕ) (f : Fault) → shortened (length out) s ≡ refused f → Ends (Refused (record { number = f .number })) s out out
-unfolding shortenAnswer asShortenAnswer shortenLeaves lent refusalOf
-ends-refused s out f e = (ap asShortenAnswer (sym e), ap (λ (x : Reading (List ℕ)). lent x out) (sym e))
+unfolding shortenAnswer asShortenAnswer shortenLeaves writtenLeaves refusalOf
+ends-refused s out f e = (ap asShortenAnswer (sym e), ap (λ (x : Reading (List ℕ)). writtenLeaves x out) (sym e))
 
 ends-written : (s out w : List ℕ) → shortened (length out) s ≡ got w → Ends (Written (length w)) s out (front w out)
-unfolding shortenAnswer asShortenAnswer shortenLeaves lent
-ends-written s out w e = (ap asShortenAnswer (sym e), ap (λ (x : Reading (List ℕ)). lent x out) (sym e))
+unfolding shortenAnswer asShortenAnswer shortenLeaves writtenLeaves
+ends-written s out w e = (ap asShortenAnswer (sym e), ap (λ (x : Reading (List ℕ)). writtenLeaves x out) (sym e))
 
 -- ---- what is no message
 not-read : (s out : List ℕ) (f : Fault) → readOf s ≡ refused f → Ends (Refused (record { number = f .number })) s out out
@@ -69,10 +69,10 @@ pub record Short (s : List ℕ) (h : Header) (t : Tally) : Type 0 where
   pub spare : t .spare ≤ h .length
   pub size : length (headerBytes 0 0 (h .length - t .spare)) + (h .length - t .spare) ≡ length (shortMessageOf h s)
 
-abbrev inside : List ℕ → MessageHeader → List ℕ
+abbrev inside : List ℕ → Heading → List ℕ
 inside s m = part (start m) (end m) s
 
-module _ (s : List ℕ) (m : MessageHeader) (e : wholeHeader s ≡ got m) (bs : Bytes s) (fits : end m ≤ length s) where
+module _ (s : List ℕ) (m : Heading) (e : wholeHeader s ≡ got m) (bs : Bytes s) (fits : end m ≤ length s) where
   body-short : (b : Body) → bodyOf (start m) (inside s m) (layoutOf (m .class) (m .instruction)) ≡ got b
       → Short s (headerIn m) (bodyTally (inside s m) b)
   unfolding headerIn headerLayout bodyPart BodyReads shortMessageOf bodyTally spareBody headerBytes shorten readOf messageOf write messageBytes shortMessage
@@ -122,7 +122,7 @@ module _ (s : List ℕ) (h : Header) (t : Tally) (q : Short s h t) (out : List �
     message-room = omega (arith, takes, lent-out)
 
     pub written-out : {r : ℕ} {y : List ℕ} → Put (shortMessageOf h s) (take n out) r y → Ends (Written n) s out (y ++ drop n out)
-    unfolding shortened unless back front
+    unfolding shortened unless back
     written-out {r} {y} p =
         let w = shortMessageOf h s in
         let none : length (take n out) - length w ≡ 0 = omega (arith, takes, lent-out) in

@@ -13,13 +13,14 @@ use Rattle.zvt_rules.specs.Writing.{lenBytes, sized, objBytes, runBytes}
 use Rattle.zvt_rules.specs.Shortest.{formFor, shortObj, shortRun}
 use Rattle.zvt_rules.specs.Grammar.{Bytes, ObjOk, RunOk}
 use Rattle.zvt_rules.proofs.Readings.{then-on}
-use Rattle.zvt_rules.proofs.ObjectSteps.{Inside, head-in, one-got, run-none, run-got}
+use Rattle.zvt_rules.proofs.ObjectReading.{Inside, head-in, one-got, run-none, run-got}
 use Rattle.zvt_rules.proofs.ObjectBytes.{bytes-drop, bytes-part, one-sound, run-sound, run-complete}
 use Rattle.zvt_rules.proofs.ObjectShort.{run-shorter}
 use Rattle.zvt.specs.declared.objects.Bounds.{Bounds}
+use Rattle.zvt.specs.declared.objects.BoundsRead.{BoundsRead}
 use Rattle.zvt.specs.declared.objects.BoundsRead.the-variants.{Bounds as bounds-read, Refused as bounds-refused}
-use Rattle.zvt.specs.Objects.{asBounds, boundsOf, headAnswer}
-use Rattle.zvt.specs.Writing.{headBytes, valueBytes, RunReads, runWritten, shortRunOf}
+use Rattle.zvt.specs.ObjectSteps.{asBounds, boundsOf, headAnswer}
+use Rattle.zvt.specs.WritingSteps.{headBytes, valueBytes, RunReads, runWritten, shortRunOf}
 
 -- ---- a run that is read is read alone too: with more levels left, after no objects, at no place
 mutual
@@ -123,16 +124,18 @@ run-fits s b r =
     omega (arith, ap length (written s (r .0) (r .1)), ap length (f .0), run-shorter (r .0 .objs) 4 (f .1))
 
 -- ---- as the writer finds it
+-- bounds that are found are those that are there, and they are never refused
+pub bounds-are : {P : Bounds → Type 0} (x : BoundsRead) → (b : Bounds) × (x ≡ bounds-read b) × P b → (b : Bounds) → x ≡ bounds-read b → P b
+bounds-are x f b e = let same : f .0 ≡ b = cc in rw same at (f .2)
+
+pub bounds-never : {P : Bounds → Type 0} (x : BoundsRead) → (b : Bounds) × (x ≡ bounds-read b) × P b → (r : Fault) → x ≡ bounds-refused r → ⊥
+bounds-never x f r e = let z : _≡_ {A = ℕ} 0 1 = cc in omega arith
+
 pub object-in : (s : List ℕ) (b : Bounds) → Bytes s → RunReads s → 0 < length s → headAnswer 0 s ≡ bounds-read b → FirstObject s b
-object-in s b bs r l e =
-    let f = first-object s bs r l in
-    let same : f .0 ≡ b = cc in
-    subst (FirstObject s) same (f .2)
+object-in s b bs r l = bounds-are _ (first-object s bs r l) b
 
 pub object-never : (s : List ℕ) (r : Fault) → Bytes s → RunReads s → 0 < length s → headAnswer 0 s ≡ bounds-refused r → ⊥
-object-never s r bs reads l e =
-    let f = first-object s bs reads l in
-    let z : _≡_ {A = ℕ} 0 1 = cc in omega arith
+object-never s r bs reads l = bounds-never _ (first-object s bs reads l) r
 
 pub object-run : (s : List ℕ) (b : Bounds) → b .nested ≡ true
     → valueBytes (take (b .tag) s) (shortRunOf (part (b .from) (b .to) s)) ≡ objectOf b s

@@ -2,23 +2,18 @@
 use mathlib.Core.Path.{_≡_, refl, sym, ap, _∙_}
 use mathlib.Core.Bool.{Bool, true, false, _&&_, _||_, and-eq-true-iff}
 use mathlib.Core.List.{List, [], _∷_}
-use mathlib.Core.Logic.{inl, inr, ⊎-elim}
-use Prim.Native.Nat.{ℕ, zero, suc, _+_, _<_, _≤_}
-use native.Mathlib.Nat.{eq-or-lt-of-le}
-use native.Mathlib.Omega.{arith}
+use mathlib.Core.Logic.{inl, inr}
+use Prim.Native.Nat.{ℕ, _+_, _<_, _≤_}
 use lib.Dec.{eqb}
 use borrow.Author.Tests.{eqb-true}
 use mir.Val.{hasKey}
 use types.Run.{OneOf, hit}
+use Rattle.zvt_rules.proofs.Tests.{by-test, allFrom, at-from}
 
--- a test holds of every number of a list, and of n numbers from a on
+-- a test holds of every number of a list
 unfoldable pub allIn : (ℕ → Bool) → List ℕ → Bool
 allIn p [] = true
 allIn p (k ∷ ks) = p k && allIn p ks
-
-unfoldable pub allFrom : (ℕ → Bool) → ℕ → ℕ → Bool
-allFrom p a zero = true
-allFrom p a (suc n) = p a && allFrom p (suc a) n
 
 pub at-key : (p : ℕ → Bool) (ks : List ℕ) → allIn p ks ≡ true → (x : ℕ) → OneOf ks x → p x ≡ true
 unfolding allIn
@@ -26,13 +21,6 @@ at-key p [] t x h = absurd h
 at-key p (k ∷ []) t x h = rw h (and-eq-true-iff (p k) true .0 t .0)
 at-key p (k ∷ (j ∷ ks)) t x (inl h) = rw h (and-eq-true-iff (p k) (allIn p (j ∷ ks)) .0 t .0)
 at-key p (k ∷ (j ∷ ks)) t x (inr h) = at-key p (j ∷ ks) (and-eq-true-iff (p k) (allIn p (j ∷ ks)) .0 t .1) x h
-
-pub at-from : (p : ℕ → Bool) (a n : ℕ) → allFrom p a n ≡ true → (x : ℕ) → a ≤ x → x < a + n → p x ≡ true
-unfolding allFrom
-at-from p a zero t x l h = absurd (omega arith)
-at-from p a (suc n) t x l h =
-    let k = and-eq-true-iff (p a) (allFrom p (suc a) n) .0 t in
-    ⊎-elim (λ e. rw e at (k .0)) (λ m. at-from p (suc a) n (k .1) x m (omega arith)) (eq-or-lt-of-le l)
 
 -- none of the numbers of a `match`'s arms, the last arm's first
 abbrev pub NoneOf : List (List ℕ) → ℕ → Type 0
@@ -46,11 +34,7 @@ anyOf (ks ∷ kss) x = hasKey ks x || anyOf kss x
 pub not-any : (kss : List (List ℕ)) (x : ℕ) → NoneOf kss x → anyOf kss x ≡ false
 unfolding anyOf
 not-any [] x n = refl
-not-any (ks ∷ kss) x n = go (hasKey ks x) refl (not-any kss x (n .0))
-  where
-    go : (t : Bool) → hasKey ks x ≡ t → anyOf kss x ≡ false → (t || anyOf kss x) ≡ false
-    go true e i = absurd (n .1 (hit ks x (rw e tt)))
-    go false e i = i
+not-any (ks ∷ kss) x n = by-test (hasKey ks x) (λ e. absurd (n .1 (hit ks x (rw e tt)))) (λ e. rw e (not-any kss x (n .0)))
 
 -- what each number has; what it has goes by a number too, and back
 pub record Table (A : Type 0) : Type 0 where

@@ -14,19 +14,20 @@ use Rattle.zvt_rules.specs.Reading.{pick, part, among}
 use Rattle.zvt_rules.specs.Digits.{numberOf}
 use Rattle.zvt_rules.specs.Fields.{formatOf, holdsDigits, Field, plain, container, fieldId}
 use Rattle.zvt_rules.specs.Grammar.{Bytes, Decimals, SizeOk, FieldOk, ListOk}
-use Rattle.zvt_rules.proofs.Readings.{pick-test}
-use Rattle.zvt_rules.proofs.ObjectSteps.{part-length}
+use Rattle.zvt_rules.proofs.Tests.{pick-test}
+use Rattle.zvt_rules.proofs.ObjectReading.{part-length}
 use Rattle.zvt_rules.proofs.ObjectBytes.{bytes-part}
 use Rattle.zvt_rules.proofs.FieldBytes.{list-sound}
 use Rattle.zvt_rules.proofs.DigitLaws.{number-fits}
 use Rattle.zvt.specs.declared.values.NumberFound.the-variants.{Missing as no-number, Number}
-use Rattle.zvt.specs.Numbers.{numberFound}
-use Rattle.zvt.specs.declared.Listed.{Listed}
-use Rattle.zvt.specs.declared.FieldAnswer.{FieldAnswer}
-use Rattle.zvt.specs.declared.FieldAnswer.the-variants.{Field as listed-field, End}
-use Rattle.zvt.specs.List.{namedListed, listFields, fieldsBetween, listedIn, ListIn}
+use Rattle.zvt.specs.NumberSteps.{numberFound}
+use Rattle.zvt_rules.specs.declared.Listed.{Listed}
+use Rattle.zvt_rules.specs.declared.FieldAnswer.{FieldAnswer}
+use Rattle.zvt_rules.specs.declared.FieldAnswer.the-variants.{Field as listed-field, End}
+use Rattle.zvt_rules.specs.Listed.{namedListed}
+use Rattle.zvt.specs.ListSteps.{listFields, fieldsBetween, listedIn, ListIn}
 use Rattle.zvt_rules.specs.Values.{fieldValue, Found, missing, found, valueIn}
-use Rattle.zvt.specs.Writing.{ListReads}
+use Rattle.zvt.specs.WritingSteps.{ListReads}
 use Rattle.zvt.proofs.ListedLaws.{no-fields, list-empty, first-in}
 
 -- ---- what is found by places is what is found by fields

@@ -1,6 +1,4 @@
 // The body of a message: plain bytes, a field list, or a field list after a password.
-use crate::Header;
-use crate::Message;
 use crate::fields::Decimals;
 use crate::fields::all_decimal;
 use crate::fields::read_list;
@@ -8,12 +6,14 @@ use crate::format::layout_of;
 use crate::objects::PartRead;
 use crate::objects::Tally;
 use zvt_rules::Fault;
+use zvt_rules::Header;
 use zvt_rules::Layout;
+use zvt_rules::Outline;
 use zvt_rules::Place;
 ghost use mathlib.Core.Path.{_≡_};
 ghost use Prim.Native.Nat.{_+_, _≤_};
 ghost use lib.ListN.{length};
-ghost use Rattle.zvt.specs.Body.{securedAnswer, bodyAnswer, bodyIn, described};
+ghost use Rattle.zvt.specs.BodySteps.{securedAnswer, bodyAnswer, bodyIn, described};
 
 // A password, then a list.
 pub(crate) fn read_secured(s: &[u8], at: usize) -> PartRead
@@ -67,7 +67,7 @@ pub(crate) fn body_in(s: &[u8], h: Header) -> PartRead
 }
 
 // A message by its header and the tally of its body.
-pub(crate) fn message_of(h: Header, t: Tally) -> Message
+pub(crate) fn outline_of(h: Header, t: Tally) -> Outline
     ensures { λ r. ⌜ r ≡ described h t ⌝ }
 {
     let mut shortest = false;
@@ -79,7 +79,7 @@ pub(crate) fn message_of(h: Header, t: Tally) -> Message
             shortest = true;
         }
     }
-    Message {
+    Outline {
         class: h.class,
         instruction: h.instruction,
         start: h.start,

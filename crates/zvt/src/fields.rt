@@ -1,5 +1,4 @@
 // Fields: one id byte, then the value; a list of them.
-use crate::Message;
 use crate::format::format_of;
 use crate::format::holds_digits;
 use crate::objects::Bounds;
@@ -13,12 +12,13 @@ use crate::objects::read_run;
 use crate::objects::tally_of;
 use zvt_rules::Fault;
 use zvt_rules::Format;
+use zvt_rules::Outline;
 use zvt_rules::Place;
 ghost use mathlib.Core.Path.{_≡_};
 ghost use Prim.Native.Nat.{_+_, _<_, _≤_};
 ghost use lib.ListN.{length, getD};
 ghost use Rattle.zvt_rules.specs.Fields.{formatOf};
-ghost use Rattle.zvt.specs.Fields.{digitsAnswer, decimalsAnswer, fieldBounds, plainAnswer, fieldAnswer, listAnswer};
+ghost use Rattle.zvt.specs.FieldSteps.{digitsAnswer, decimalsAnswer, fieldBounds, plainAnswer, fieldPart, listAnswer};
 
 // A length in digits.
 pub(crate) enum DigitsRead {
@@ -126,7 +126,7 @@ pub(crate) fn read_plain(s: &[u8], at: usize, b: Bounds, n: u8) -> PartRead
 // The field that s begins with, after n objects; twice says that its id stood before.
 pub(crate) fn read_field(s: &[u8], at: usize, n: u8, twice: bool) -> PartRead
     requires { ⌜ (at + length (now s) ≤ 4101) × (0 < length (now s)) ⌝ }
-    ensures { λ r. ⌜ r ≡ fieldAnswer twice n at (now (s .entry)) ⌝ }
+    ensures { λ r. ⌜ r ≡ fieldPart twice n at (now (s .entry)) ⌝ }
 {
     let format = format_of(s[0]);
     if let Format::Unknown = format {
@@ -149,7 +149,7 @@ pub(crate) fn read_field(s: &[u8], at: usize, n: u8, twice: bool) -> PartRead
             }
             let from = b.from;
             let to = b.to;
-            match read_run(&s[from..to], at + from, Message::LEVELS, n) {
+            match read_run(&s[from..to], at + from, Outline::LEVELS, n) {
                 PartRead::Refused(f) => PartRead::Refused(f),
                 PartRead::Part(r) => PartRead::Part(tally_of(b, r.objects, r.spare)),
             }

@@ -1,10 +1,10 @@
 // The header of a message: class byte, instruction byte, length.
-use crate::Header;
-use crate::Message;
 use zvt_rules::Fault;
+use zvt_rules::Header;
+use zvt_rules::Outline;
 use zvt_rules::Place;
 ghost use mathlib.Core.Path.{_≡_};
-ghost use Rattle.zvt.specs.Header.{fitting, firstHeader, wholeAnswer};
+ghost use Rattle.zvt.specs.HeaderSteps.{fitting, firstHeader, wholeAnswer};
 
 pub(crate) enum HeaderRead {
     Header(Header),
@@ -15,7 +15,7 @@ pub(crate) enum HeaderRead {
 pub(crate) fn fitted(s: &[u8], h: Header) -> HeaderRead
     ensures { λ r. ⌜ r ≡ fitting h (now (s .entry)) ⌝ }
 {
-    if Message::MOST_BODY < h.length {
+    if Outline::MOST_BODY < h.length {
         return HeaderRead::Refused(Fault {
             number: 2,
             place: Place::Nowhere,

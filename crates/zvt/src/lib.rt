@@ -13,88 +13,25 @@ mod writing;
 
 use headers::HeaderRead;
 use objects::PartRead;
+use zvt_rules::FieldAnswer;
+use zvt_rules::FirstAnswer;
+use zvt_rules::HeaderAnswer;
 use zvt_rules::Layout;
+use zvt_rules::ListPlace;
+use zvt_rules::ReadAnswer;
 use zvt_rules::Refusal;
+use zvt_rules::ShortenAnswer;
 use zvt_rules::Status;
 use zvt_rules::ToldAmount;
 use zvt_rules::ToldCode;
 use zvt_rules::ToldReceipt;
 ghost use mathlib.Core.Path.{_≡_};
 ghost use lib.ListN.{length};
-ghost use Rattle.zvt.specs.Answers.{headerAnswer, readAnswer, firstAnswer};
+ghost use Rattle.zvt_rules.specs.Answers.{headerAnswer, readAnswer, firstAnswer, shortenAnswer, shortenLeaves};
 ghost use Rattle.zvt_rules.specs.Digits.{digitBytesOf};
-ghost use Rattle.zvt.specs.List.{fieldAnswer, listPlace, namedAnswer};
-ghost use Rattle.zvt.specs.Name.{nameAt, cardName, namePlace};
+ghost use Rattle.zvt_rules.specs.Listed.{fieldAnswer, namedAnswer, listPlace};
+ghost use Rattle.zvt_rules.specs.Name.{nameAt, cardName, namePlace};
 ghost use Rattle.zvt_rules.specs.Values.{statusOf};
-ghost use Rattle.zvt.specs.Writing.{shortenAnswer, shortenLeaves};
-
-// The pair of class and instruction, where the body starts and how long it is.
-pub struct Header {
-    pub class: u8,
-    pub instruction: u8,
-    pub start: usize,
-    pub length: usize,
-}
-
-// An accepted message: beside its header the number of its data objects, and whether every length in it was shortest.
-pub struct Message {
-    pub class: u8,
-    pub instruction: u8,
-    pub start: usize,
-    pub length: usize,
-    pub objects: u8,
-    pub shortest: bool,
-}
-
-impl Message {
-    pub const MOST_BODY: usize = 4096;
-
-    // Inner ones counted.
-    pub const MOST_OBJECTS: u8 = 64;
-
-    // Objects directly in a container have depth 1.
-    pub const LEVELS: u8 = 4;
-}
-
-pub enum HeaderAnswer {
-    Header(Header),
-    Refused(Refusal),
-}
-
-pub enum ReadAnswer {
-    Accepted(Message),
-    Refused(Refusal),
-}
-
-// The first message, and where the next begins.
-pub enum FirstAnswer {
-    Accepted(Message, usize),
-    Refused(Refusal),
-}
-
-// How many bytes were written.
-pub enum ShortenAnswer {
-    Written(usize),
-    Refused(Refusal),
-}
-
-// A field of a list: its id, and where its value lies in the message, from and to.
-pub struct Listed {
-    pub id: u8,
-    pub from: usize,
-    pub to: usize,
-}
-
-pub enum FieldAnswer {
-    End,
-    Field(Listed),
-}
-
-// Where a message's list lies, from and to, if it has one.
-pub enum ListPlace {
-    Nowhere,
-    Between(usize, usize),
-}
 
 // The header of the message that s is.
 pub fn read_header(s: &[u8]) -> HeaderAnswer
@@ -114,7 +51,7 @@ pub fn read(s: &[u8]) -> ReadAnswer
         HeaderRead::Refused(f) => ReadAnswer::Refused(Refusal { number: f.number }),
         HeaderRead::Header(h) => match body::body_in(s, h) {
             PartRead::Refused(f) => ReadAnswer::Refused(Refusal { number: f.number }),
-            PartRead::Part(t) => ReadAnswer::Accepted(body::message_of(h, t)),
+            PartRead::Part(t) => ReadAnswer::Accepted(body::outline_of(h, t)),
         },
     }
 }
@@ -129,7 +66,7 @@ pub fn read_first(s: &[u8]) -> FirstAnswer
             PartRead::Refused(f) => FirstAnswer::Refused(Refusal { number: f.number }),
             PartRead::Part(t) => {
                 let next = h.start + h.length;
-                FirstAnswer::Accepted(body::message_of(h, t), next)
+                FirstAnswer::Accepted(body::outline_of(h, t), next)
             }
         },
     }

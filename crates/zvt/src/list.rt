@@ -1,13 +1,14 @@
 // The fields of an accepted message's list, one at a time and by their id.
-use crate::FieldAnswer;
-use crate::ListPlace;
-use crate::Listed;
-use crate::ReadAnswer;
 use crate::fields::field_bounds;
 use crate::format::format_of;
 use crate::objects::BoundsRead;
+use zvt_rules::FieldAnswer;
+use zvt_rules::ListPlace;
+use zvt_rules::Listed;
+use zvt_rules::ReadAnswer;
 ghost use mathlib.Core.Path.{_≡_};
-ghost use Rattle.zvt.specs.List.{ListIn, statusPlace, firstListed, nthListed, namedListed, listedIn};
+ghost use Rattle.zvt.specs.ListSteps.{ListIn, StandsAt, statusPlace, listedIn};
+ghost use Rattle.zvt_rules.specs.Listed.{nthListed, namedListed};
 
 // Where the list of a status information lies.
 pub(crate) fn status_place(s: &[u8]) -> ListPlace
@@ -30,7 +31,7 @@ pub(crate) fn status_place(s: &[u8]) -> ListPlace
 // The field at place at of a list that goes up to end.
 pub(crate) fn field_from(s: &[u8], at: usize, end: usize) -> FieldAnswer
     requires { ⌜ ListIn at end (now s) ⌝ }
-    ensures { λ r. ⌜ r ≡ firstListed (listedIn at end (now (s .entry))) ⌝ }
+    ensures { λ r. ⌜ StandsAt at end (now (s .entry)) r ⌝ }
 {
     if at == end {
         return FieldAnswer::End;

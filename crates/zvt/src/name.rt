@@ -1,7 +1,7 @@
 // The card name for a receipt.
 ghost use mathlib.Core.Path.{_≡_};
 ghost use lib.ListN.{length};
-ghost use Rattle.zvt.specs.Name.{upToZero};
+ghost use Rattle.zvt_rules.specs.Name.{upToZero};
 
 // How many bytes stand before the first zero byte.
 pub(crate) fn name_size(s: &[u8]) -> usize

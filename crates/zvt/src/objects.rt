@@ -1,13 +1,13 @@
 // Data objects: a run of objects, each tag, length, value; the value of some is again a run.
-use crate::Message;
 use zvt_rules::Fault;
+use zvt_rules::Outline;
 use zvt_rules::Place;
 ghost use mathlib.Core.Path.{_≡_};
 ghost use Prim.Native.Nat.{_+_, _-_, _≤_};
 ghost use lib.ListN.{length};
 ghost use Rattle.zvt_rules.specs.Objects.{formSize};
 ghost use Rattle.zvt_rules.specs.Shortest.{formFor};
-ghost use Rattle.zvt.specs.Objects.{tagAnswer, lenAnswer, within, headAnswer, tallyOf, oneAnswer, runAnswer};
+ghost use Rattle.zvt.specs.ObjectSteps.{tagAnswer, lenAnswer, within, headAnswer, tallyOf, oneAnswer, runAnswer};
 
 // How many bytes a tag takes.
 pub(crate) enum TagRead {
@@ -229,7 +229,7 @@ pub(crate) fn read_one(s: &[u8], at: usize, left: u8, n: u8) -> PartRead
     requires { ⌜ at + length (now s) ≤ 4101 ⌝ }
     ensures { λ r. ⌜ r ≡ oneAnswer left n at (now (s .entry)) ⌝ }
 {
-    if Message::MOST_OBJECTS <= n {
+    if Outline::MOST_OBJECTS <= n {
         return PartRead::Refused(Fault {
             number: 10,
             place: Place::At(at),

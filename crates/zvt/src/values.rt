@@ -1,13 +1,13 @@
 // What a status information tells the desk.
-use crate::FieldAnswer;
 use crate::digits::number;
 use crate::list::named;
+use zvt_rules::FieldAnswer;
 use zvt_rules::ToldAmount;
 use zvt_rules::ToldCode;
 use zvt_rules::ToldReceipt;
 ghost use mathlib.Core.Path.{_≡_};
-ghost use Rattle.zvt.specs.List.{ListIn, fieldsBetween};
-ghost use Rattle.zvt.specs.Numbers.{numberFound, Few};
+ghost use Rattle.zvt.specs.ListSteps.{ListIn, fieldsBetween};
+ghost use Rattle.zvt.specs.NumberSteps.{numberFound, Few};
 ghost use Rattle.zvt_rules.specs.Values.{valueIn, codeIn, amountIn, receiptIn};
 
 pub(crate) fn code_in(s: &[u8], from: usize, end: usize) -> ToldCode

@@ -1,12 +1,12 @@
 // The shortest writing of a message. It is put down from its end to its start, so that each length is known when its turn comes:
 // inner ones first.
-use crate::Header;
 use crate::fields::field_bounds;
 use crate::format::format_of;
 use crate::format::layout_of;
 use crate::objects::Bounds;
 use crate::objects::BoundsRead;
 use crate::objects::head_of;
+use zvt_rules::Header;
 use zvt_rules::Layout;
 ghost use mathlib.Core.Path.{_≡_};
 ghost use mathlib.Core.Bool.{true};
@@ -15,7 +15,7 @@ ghost use lib.ListN.{length};
 ghost use Rattle.zvt_rules.specs.Reading.{part};
 ghost use Rattle.zvt_rules.specs.Writing.{lenBytes};
 ghost use Rattle.zvt_rules.specs.Shortest.{formFor};
-ghost use Rattle.zvt.specs.Writing.{Put, headBytes, valueBytes, RunReads, shortRunOf, shortFieldOf, ListReads, shortListOf, BodyReads, shortBodyOf, headerBytes, bodyPart, headerLayout, shortMessageOf};
+ghost use Rattle.zvt.specs.WritingSteps.{Put, headBytes, valueBytes, RunReads, shortRunOf, shortFieldOf, ListReads, shortListOf, BodyReads, shortBodyOf, headerBytes, bodyPart, headerLayout, shortMessageOf};
 
 // Puts v at the end of out. Here and below, the answer is how many bytes of out are left before what was put.
 pub(crate) fn put(v: &[u8], out: &mut [u8]) -> usize

@@ -1,6 +1,6 @@
 -- Decimal numbers in bytes: what is written reads back, and how large it can be. Assumes nothing.
 use mathlib.Core.Path.{_≡_, refl, sym, ap, _∙_}
-use mathlib.Core.Bool.{true, and-eq-true-iff}
+use mathlib.Core.Bool.{true}
 use mathlib.Core.List.{List, [], _∷_, _++_, append-assoc}
 use Prim.Native.Nat.{ℕ, zero, suc, _+_, _*_, _/_, _%_, _^_, _<_, _≤_}
 use native.Mathlib.Numerals.{add-one}
@@ -8,11 +8,11 @@ use native.Mathlib.Nat.{pow-succ', one-le-pow, pow-le-pow-right, div-add-mod', m
 use native.Mathlib.Omega.{arith}
 use lib.ListN.{length, getD, drop, set, length-append, drop-of-length-le}
 use lib.Seq.{drop-cons, drop-set-lt, getD-set-same, lt-length-set}
-use lib.Dec.{leb}
-use borrow.Author.Tests.{le-leb, leb-true}
+use borrow.Author.Tests.{le-leb}
 use Rattle.zvt_rules.specs.Fields.{decimal}
 use Rattle.zvt_rules.specs.Grammar.{Decimals}
-use Rattle.zvt_rules.specs.Digits.{twoDigits, digitBytesOf, numberFrom, numberOf}
+use Rattle.zvt_rules.specs.Digits.{twoDigits, digitBytesOf, decimalFrom, numberOf}
+use Rattle.zvt_rules.proofs.Tests.{leb-test, and-test}
 
 pub digits-size : (k n : ℕ) → length (digitBytesOf k n) ≡ k
 unfolding digitBytesOf
@@ -28,8 +28,8 @@ digits-put out i v h =
     rw (append-assoc, drop-cons (set out i b) i 0 (lt-length-set out i b h), getD-set-same out i b 0 h, drop-set-lt (suc i) out i b (omega arith))
 
 -- ---- read back
-number-last : (v : ℕ) (s : List ℕ) (b : ℕ) → numberFrom v (s ++ (b ∷ [])) ≡ numberFrom v s * 100 + (b / 16 * 10 + b % 16)
-unfolding numberFrom
+number-last : (v : ℕ) (s : List ℕ) (b : ℕ) → decimalFrom v (s ++ (b ∷ [])) ≡ decimalFrom v s * 100 + (b / 16 * 10 + b % 16)
+unfolding decimalFrom
 number-last v [] b = refl
 number-last v (a ∷ s) b = number-last (v * 100 + (a / 16 * 10 + a % 16)) s b
 
@@ -42,7 +42,7 @@ last-digits n p h =
     sym (ap (λ (x : ℕ). x % (100 * p)) whole ∙ add-mul-mod-self-left last (100 * p) (m / p) ∙ mod-eq-of-lt below)
 
 pub number-back : (k n : ℕ) → numberOf (digitBytesOf k n) ≡ n % 100 ^ k
-unfolding digitBytesOf numberOf numberFrom
+unfolding digitBytesOf numberOf decimalFrom
 number-back zero n = sym (mod-one n)
 number-back (suc k) n =
     let two : twoDigits (n % 100) / 16 * 10 + twoDigits (n % 100) % 16 ≡ n % 100 = omega arith in
@@ -66,13 +66,11 @@ unfolding digitBytesOf Decimals
 digits-decimal zero n = tt
 digits-decimal (suc k) n = decimals-last (digitBytesOf k (n / 100)) (twoDigits (n % 100)) (digits-decimal k (n / 100)) (decimal-two (n % 100) (omega arith))
 
-number-from : (v : ℕ) (s : List ℕ) → Decimals s → numberFrom v s < (v + 1) * 100 ^ length s
-unfolding numberFrom Decimals
+number-from : (v : ℕ) (s : List ℕ) → Decimals s → decimalFrom v s < (v + 1) * 100 ^ length s
+unfolding decimalFrom Decimals
 number-from v [] h = omega arith
 number-from v (b ∷ s) h =
-    let d = and-eq-true-iff (leb (b / 16) 9) (leb (b % 16) 9) .0 (h .0) in
-    let high = leb-true (b / 16) 9 (d .0) in
-    let low = leb-true (b % 16) 9 (d .1) in
+    let d = and-test (leb-test (b / 16) 9) (leb-test (b % 16) 9) .0 (h .0) in
     let two = b / 16 * 10 + b % 16 in
     let more : v * 100 + two + 1 ≤ (v + 1) * 100 = omega arith in
     rw pow-succ' (omega (arith, number-from (v * 100 + two) s (h .1), mul-le-mul-right (100 ^ length s) more))
@@ -86,12 +84,12 @@ number-fits k s n d l e = rw (e, ← l) (number-below s d)
 
 -- ---- one byte after the other: the first i bytes gave v
 pub number-step : (s : List ℕ) (i v : ℕ) → i < length s
-    → numberFrom v (drop i s) ≡ numberFrom (v * 100 + (getD s i 0 / 16 * 10 + getD s i 0 % 16)) (drop (i + 1) s)
-unfolding numberFrom
+    → decimalFrom v (drop i s) ≡ decimalFrom (v * 100 + (getD s i 0 / 16 * 10 + getD s i 0 % 16)) (drop (i + 1) s)
+unfolding decimalFrom
 number-step s i v h = rw (drop-cons s i 0, add-one i)
 
-pub number-end : (s : List ℕ) (i v : ℕ) → length s ≤ i → numberFrom v (drop i s) ≡ v
-unfolding numberFrom
+pub number-end : (s : List ℕ) (i v : ℕ) → length s ≤ i → decimalFrom v (drop i s) ≡ v
+unfolding decimalFrom
 number-end s i v h = rw (drop-of-length-le s h)
 
 -- how large v can be then, digits or not

@@ -1,10 +1,9 @@
 -- What a field and a list are read from: the bytes that are read are those that are written, and no others. Assumes nothing.
 use mathlib.Core.Path.{_≡_, refl, sym, ap, _∙_}
-use mathlib.Core.Bool.{Bool, true, false, not, _&&_, and-eq-true-iff}
-use mathlib.Core.Logic.{⊎-elim}
+use mathlib.Core.Bool.{Bool, true, false, not}
 use mathlib.Core.List.{List, [], _∷_, _++_, append-assoc}
 use Prim.Native.Nat.{ℕ, zero, suc, _+_, _-_, _*_, _/_, _%_, _^_, _<_, _≤_}
-use native.Mathlib.Nat.{pow-succ', eq-or-lt-of-le}
+use native.Mathlib.Nat.{pow-succ'}
 use native.Mathlib.Omega.{arith}
 use lib.ListN.{length, getD, take, drop, length-append, length-drop, take-append-drop}
 use lib.Seq.{take-suc, getD-at, take-add, drop-at, take-append-seam, drop-append-seam}
@@ -17,9 +16,10 @@ use Rattle.zvt_rules.specs.Objects.{Form, formSize, lenOf, Objs, countOb
 use Rattle.zvt_rules.specs.Fields.{formatOf, unknown, lengthDigit, digitsOf, unlessUndecimal, holdsDigits, digitsIn, Field, plain, container, fieldId, countField, FieldRead, valueOf, plainOf, containerOf, fieldBy, fieldOf, countFields, ListRead, listOf}
 use Rattle.zvt_rules.specs.Writing.{lenBytes, sized, runBytes, digitBytes, lengthIn, fieldBytes, listBytes}
 use Rattle.zvt_rules.specs.Grammar.{Bytes, RunOk, Decimals, FormOk, SizeOk, FieldOk, ListOk}
-use Rattle.zvt_rules.proofs.Readings.{got-same, got-not-refused, unless-got, unless-on, then-got, then-on, pick-test}
-use Rattle.zvt_rules.proofs.FieldSteps.{digit-in, digits-last, digits-in, plain-got, container-got, field-got, field-in, list-none, list-step}
-use Rattle.zvt_rules.proofs.ObjectSteps.{part-length}
+use Rattle.zvt_rules.proofs.Readings.{got-same, got-not-refused, unless-got, unless-on, then-got, then-on}
+use Rattle.zvt_rules.proofs.Tests.{pick-test, allFrom, at-from}
+use Rattle.zvt_rules.proofs.FieldReading.{digit-in, digits-last, digits-in, plain-got, container-got, field-got, field-in, list-none, list-step}
+use Rattle.zvt_rules.proofs.ObjectReading.{part-length}
 use Rattle.zvt_rules.proofs.Lengths.{lenBytes-size, len-sound, len-written}
 use Rattle.zvt_rules.proofs.ObjectBytes.{bytes-drop, bytes-part, run-sound, run-complete}
 
@@ -165,20 +165,9 @@ only (Fixed k) id = true
 only (Digits d) id = true
 only Container id = eqb id 0x06
 
-every : ℕ → (ℕ → Bool) → Bool
-every zero p = true
-every (suc n) p = p n && every n p
-
-every-holds : (n : ℕ) (p : ℕ → Bool) → every n p ≡ true → (i : ℕ) → i < n → p i ≡ true
-unfolding every
-every-holds zero p e i h = absurd (omega arith)
-every-holds (suc n) p e i h =
-    let k = and-eq-true-iff (p n) (every n p) .0 e in
-    ⊎-elim (λ q. rw q (k .0)) (λ l. every-holds n p (k .1) i l) (eq-or-lt-of-le (omega arith))
-
 container-id : (id : ℕ) → id < 256 → formatOf id ≡ Container → id ≡ 0x06
-unfolding only every formatOf among
-container-id id h e = eqb-true id 0x06 (rw e at (every-holds 256 (λ i. only (formatOf i) i) refl id h))
+unfolding only allFrom formatOf among
+container-id id h e = eqb-true id 0x06 (rw e at (at-from (λ i. only (formatOf i) i) 0 256 refl id (omega arith) h))
 
 container-sound : (id n at : ℕ) (t : List ℕ) (o : FieldRead) → Bytes (id ∷ t) → id ≡ 0x06 → containerOf n at (id ∷ t) ≡ got o
     → FieldSound n (id ∷ t) o

@@ -8,11 +8,12 @@ use lib.ListN.{length, take, length-append}
 use lib.Dec.{ltb, eqb}
 use borrow.Author.Tests.{ltb-true, ltb-false, eqb-true, leb-true, lt-ltb, le-leb}
 use Rattle.zvt_rules.specs.Reading.{Reading, got}
-use Rattle.zvt_rules.specs.Objects.{Form, bare, one, two, formSize, Len, oneByte, twoBytes, lenOf}
+use Rattle.zvt_rules.specs.Objects.{Form, bare, one, two, formSize, Len, oneByteLen, twoByteLen, lenOf}
 use Rattle.zvt_rules.specs.Writing.{lenBytes, sized}
 use Rattle.zvt_rules.specs.Shortest.{formFor, isShortest}
 use Rattle.zvt_rules.specs.Grammar.{Bytes, FormOk}
-use Rattle.zvt_rules.proofs.Readings.{got-same, got-not-refused, pick-test}
+use Rattle.zvt_rules.proofs.Tests.{pick-test}
+use Rattle.zvt_rules.proofs.Readings.{got-same, got-not-refused}
 
 -- ---- what is written is read, and what is read was written
 pub lenBytes-size : (form : Form) (v : ℕ) → length (lenBytes form v) ≡ formSize form
@@ -31,7 +32,7 @@ object-size tag form value = omega (arith, length-append tag (sized form value),
 
 pub len-written : (at : ℕ) (form : Form) (v : ℕ) (t : List ℕ) → FormOk form v
     → lenOf at (lenBytes form v ++ t) ≡ got (record { form = form; value = v })
-unfolding lenOf lenBytes oneByte twoBytes FormOk
+unfolding lenOf lenBytes oneByteLen twoByteLen FormOk
 len-written at bare v t ok = rw (lt-ltb v 0x80 ok)
 len-written at one v t ok = refl
 len-written at two v t ok = ap (λ (x : ℕ). got (record { form = two; value = x })) (omega arith)
@@ -39,13 +40,13 @@ len-written at two v t ok = ap (λ (x : ℕ). got (record { form = two; value = 
 abbrev Written : List ℕ → Len → Type 0
 Written s l = (lenBytes (l .form) (l .value) ≡ take (formSize (l .form)) s) × FormOk (l .form) (l .value)
 
-one-byte-sound : (at : ℕ) (s : List ℕ) (l : Len) → Bytes s → oneByte at s ≡ got l → Written (0x81 ∷ s) l
-unfolding oneByte lenBytes formSize FormOk Bytes
+one-byte-sound : (at : ℕ) (s : List ℕ) (l : Len) → Bytes s → oneByteLen at s ≡ got l → Written (0x81 ∷ s) l
+unfolding oneByteLen lenBytes formSize FormOk Bytes
 one-byte-sound at [] l b e = absurd (got-not-refused (sym e))
 one-byte-sound at (v ∷ s) l b e = subst (Written (0x81 ∷ (v ∷ s))) (got-same e) (refl, b 0)
 
-two-bytes-sound : (at : ℕ) (s : List ℕ) (l : Len) → Bytes s → twoBytes at s ≡ got l → Written (0x82 ∷ s) l
-unfolding twoBytes lenBytes formSize FormOk Bytes
+two-bytes-sound : (at : ℕ) (s : List ℕ) (l : Len) → Bytes s → twoByteLen at s ≡ got l → Written (0x82 ∷ s) l
+unfolding twoByteLen lenBytes formSize FormOk Bytes
 two-bytes-sound at [] l b e = absurd (got-not-refused (sym e))
 two-bytes-sound at (h ∷ []) l b e = absurd (got-not-refused (sym e))
 two-bytes-sound at (h ∷ (c ∷ s)) l b e =

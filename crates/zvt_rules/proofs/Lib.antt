@@ -1,10 +1,11 @@
 -- The laws of the definitions, by subject.
 pub mod Readings
-pub mod ObjectSteps
+pub mod Tests
+pub mod ObjectReading
 pub mod Lengths
 pub mod ObjectShort
 pub mod ObjectBytes
-pub mod FieldSteps
+pub mod FieldReading
 pub mod FieldBytes
 pub mod FieldShort
 pub mod MessageBytes

@@ -13,13 +13,14 @@ use Rattle.zvt_rules.specs.declared.Layout.{Layout}
 use Rattle.zvt_rules.specs.declared.Layout.the-variants.{Plain, List as FieldList, Secured}
 use Rattle.zvt_rules.specs.Reading.{Reading, got, part}
 use Rattle.zvt_rules.specs.Fields.{Field, countFields, ListRead, listOf}
-use Rattle.zvt_rules.specs.Message.{BodyLength, longLength, lengthOf, Header, headerSize, start, end, headerWith, headerOf, layoutOf, Body, bytes, listed, securedOf, bodyOf, Message, messageOf, firstOf, wholeHeader, readOf, countBody, countOf}
+use Rattle.zvt_rules.specs.Message.{BodyLength, longLength, lengthOf, Heading, headerSize, start, end, headerWith, headerOf, layoutOf, Body, bytes, listed, securedOf, bodyOf, Message, messageOf, firstOf, wholeHeader, readOf, countBody, countOf}
 use Rattle.zvt_rules.specs.Writing.{listBytes, bodyBytes, lengthBytes, messageBytes}
 use Rattle.zvt_rules.specs.Grammar.{Bytes, FieldsOk, LayoutOk, LengthOk, MessageOk}
-use Rattle.zvt_rules.proofs.Readings.{got-same, got-not-refused, unless-got, unless-on, then-got, then-on, pick-test}
-use Rattle.zvt_rules.proofs.ObjectSteps.{part-length}
+use Rattle.zvt_rules.proofs.Tests.{pick-test}
+use Rattle.zvt_rules.proofs.Readings.{got-same, got-not-refused, unless-got, unless-on, then-got, then-on}
+use Rattle.zvt_rules.proofs.ObjectReading.{part-length}
 use Rattle.zvt_rules.proofs.ObjectBytes.{bytes-drop, bytes-part}
-use Rattle.zvt_rules.proofs.FieldSteps.{undecimal-got, with-in, header-in}
+use Rattle.zvt_rules.proofs.FieldReading.{undecimal-got, with-in, header-in}
 use Rattle.zvt_rules.proofs.FieldBytes.{decimals-read, list-sound, list-complete}
 
 -- ---- the length of a body
@@ -63,7 +64,7 @@ unfolding LengthOk
 length-ok false v h l = h refl
 length-ok true v h l = l
 
-header-sound : (s : List ℕ) (h : Header) → Bytes s → headerOf s ≡ got h
+header-sound : (s : List ℕ) (h : Heading) → Bytes s → headerOf s ≡ got h
     → (h .class ∷ (h .instruction ∷ (lengthBytes (h .long) (h .size) ++ part (start h) (end h) s)) ≡ take (end h) s) × LengthOk (h .long) (h .size)
 unfolding headerOf
 header-sound [] h b e = absurd (got-not-refused (sym e))
@@ -74,7 +75,7 @@ header-sound (c ∷ (i ∷ t)) h b e =
     let l = length-sound t (k .0) (bytes-drop 2 (c ∷ (i ∷ t)) b) (k .1) in
     rw (w .2) (rw (l .0) (sym (cut (k .0 .long) c i t (k .0 .value))), length-ok (k .0 .long) (k .0 .value) (l .1) (w .0))
 
-abbrev headerFor : Message → Header
+abbrev headerFor : Message → Heading
 headerFor m = record { class = m .class; instruction = m .instruction; long = m .long; size = length (bodyBytes (m .body)) }
 
 with-on : (c i : ℕ) (s : List ℕ) (l : BodyLength) → l .value ≤ 4096 → headerSize (l .long) + l .value ≤ length s
@@ -145,7 +146,7 @@ body-complete at Secured (listed password fs) ok =
     (decimals-read at password _ (ok .1) ∙ then-on _ _ (fields-complete (at + 3) fs (ok .2)))
 
 -- ---- a message
-message-sound : (s : List ℕ) (h : Header) (m : Message) → Bytes s → headerOf s ≡ got h → messageOf s h ≡ got m
+message-sound : (s : List ℕ) (h : Heading) (m : Message) → Bytes s → headerOf s ≡ got h → messageOf s h ≡ got m
     → (messageBytes m ≡ take (end h) s) × MessageOk m
 unfolding messageOf messageBytes MessageOk
 message-sound s h m b e g =

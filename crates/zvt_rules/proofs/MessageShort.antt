@@ -17,7 +17,9 @@ use Rattle.zvt_rules.specs.Message.{headerSize, layoutOf, Body, bytes, l
 use Rattle.zvt_rules.specs.Writing.{listBytes, bodyBytes, messageBytes}
 use Rattle.zvt_rules.specs.Shortest.{shortList, shortBody, shortMessage, isShortBody, isShort, write, shorten, SameBody, SameValues}
 use Rattle.zvt_rules.specs.Grammar.{Bytes, ListOk, FieldsOk, LayoutOk, LengthOk, MessageOk}
-use Rattle.zvt_rules.proofs.Readings.{got-same, then-got, then-on, pick-test}
+use Rattle.zvt_rules.proofs.Readings.{got-same, then-got, then-on}
+use Rattle.zvt_rules.proofs.Tests.{by-test}
+use Rattle.zvt_rules.proofs.FieldReading.{header-most}
 use Rattle.zvt_rules.proofs.FieldShort.{list-shorter, list-short-ok, list-count, list-same, list-short, list-kept, list-strict}
 use Rattle.zvt_rules.proofs.MessageBytes.{message-size, read-sound, read-complete}
 
@@ -34,11 +36,15 @@ body-short-ok FieldList (listed password fs) ok = (ok .0, fields-short-ok fs (ok
 body-short-ok Secured (listed password fs) ok = (ok .0, ok .1, fields-short-ok fs (ok .2))
 
 -- the fields of a body are a list
+pub fields-ok : (l : Layout) (password : List ℕ) (fs : List Field) → LayoutOk l (listed password fs) → FieldsOk fs
+unfolding LayoutOk
+fields-ok Plain password fs ok = absurd ok
+fields-ok FieldList password fs ok = ok .1
+fields-ok Secured password fs ok = ok .2
+
 fields : (l : Layout) (password : List ℕ) (fs : List Field) → LayoutOk l (listed password fs) → ListOk [] fs
-unfolding LayoutOk FieldsOk
-fields Plain password fs ok = absurd ok
-fields FieldList password fs ok = ok .1 .0
-fields Secured password fs ok = ok .2 .0
+unfolding FieldsOk
+fields l password fs ok = fields-ok l password fs ok .0
 
 pub body-shorter : (l : Layout) (b : Body) → LayoutOk l b → length (bodyBytes (shortBody b)) ≤ length (bodyBytes b)
 unfolding bodyBytes shortBody
@@ -80,23 +86,19 @@ pub body-exactly : (l : Layout) (b : Body) → LayoutOk l b
 body-exactly l b ok = (body-strict l b ok, λ e. ap (λ (x : Body). length (bodyBytes x)) (body-kept l b ok e))
 
 -- ---- the shortest form of a body's length
-length-bound : (long : Bool) (v : ℕ) → LengthOk long v → v ≤ 4096
+pub length-bound : (long : Bool) (v : ℕ) → LengthOk long v → v ≤ 4096
 unfolding LengthOk
 length-bound false v ok = omega arith
 length-bound true v ok = ok
 
 shortest-ok : (v : ℕ) → v ≤ 4096 → LengthOk (leb 255 v) v
 unfolding LengthOk
-shortest-ok v h = go (leb 255 v) refl
-  where
-    go : (t : Bool) → leb 255 v ≡ t → LengthOk t v
-    go true e = h
-    go false e = leb-false 255 v e
+shortest-ok v h = by-test (leb 255 v) (λ e. rw e h) (λ e. rw e (leb-false 255 v e))
 
 header-shorter : (long : Bool) (v w : ℕ) → LengthOk long v → w ≤ v → headerSize (leb 255 w) ≤ headerSize long
 unfolding LengthOk
 header-shorter false v w ok h = rw (lt-leb 255 w (omega arith)) (omega arith)
-header-shorter true v w ok h = pick-test (λ n. n ≤ 5) (leb 255 w) (λ _. omega arith) (λ _. omega arith)
+header-shorter true v w ok h = header-most (leb 255 w)
 
 long-kept : (long : Bool) (v : ℕ) → LengthOk long v → (not long || leb 255 v) ≡ true → leb 255 v ≡ long
 unfolding LengthOk

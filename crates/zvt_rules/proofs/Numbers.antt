@@ -1,28 +1,21 @@
 -- A reading is refused with one of document 01's numbers 1 to 10. Assumes nothing.
 use mathlib.Core.Path.{_≡_, refl}
-use mathlib.Core.Bool.{Bool, true, false, _&&_, and-eq-true-iff}
-use mathlib.Core.Logic.{_↔_}
+use mathlib.Core.Bool.{Bool, true, false, _&&_}
 use mathlib.Core.List.{List, [], _∷_}
 use Prim.Native.Nat.{ℕ, zero, suc, _+_, _≤_}
 use lib.ListN.{getD, drop}
 use lib.Dec.{leb, ltb, eqb}
-use borrow.Author.Tests.{leb-true, le-leb}
 use Rattle.zvt_rules.specs.declared.Fault.{Fault}
 use Rattle.zvt_rules.specs.declared.Format.{Format}
 use Rattle.zvt_rules.specs.declared.Format.the-variants.{Unknown, Fixed, Digits, Container}
 use Rattle.zvt_rules.specs.declared.Layout.{Layout}
 use Rattle.zvt_rules.specs.declared.Layout.the-variants.{Plain, List as FieldList, Secured}
 use Rattle.zvt_rules.specs.Reading.{Reading, got, refused, pick, unless, andThen}
-use Rattle.zvt_rules.specs.Objects.{longTag, nested, secondTag, tagSize, oneByte, twoBytes, lenOf, Head, headWith, headOf, RunReader, insideOf, oneBy, runBy, runOf}
+use Rattle.zvt_rules.specs.Objects.{longTag, nested, secondTag, tagSize, oneByteLen, twoByteLen, lenOf, Head, headWith, headOf, RunReader, insideOf, oneBy, runBy, runOf}
 use Rattle.zvt_rules.specs.Fields.{digitsOf, unlessUndecimal, holdsDigits, digitsIn, valueOf, plainOf, containerOf, fieldBy, fieldOf, listBy, listOf}
 use Rattle.zvt_rules.specs.Message.{longLength, lengthOf, headerWith, headerOf, securedOf, bodyOf, messageOf, wholeHeader, readOf}
-use Rattle.zvt_rules.proofs.Readings.{got-not-refused, pick-test}
-
-pub between : (n top : ℕ) → (leb 1 n && leb n top ≡ true) ↔ ((1 ≤ n) × (n ≤ top))
-between n top = (
-  λ h. let k = and-eq-true-iff (leb 1 n) (leb n top) .0 h in (leb-true 1 n (k .0), leb-true n top (k .1)),
-  λ k. rw (le-leb 1 n (k .0), le-leb n top (k .1)),
-)
+use Rattle.zvt_rules.proofs.Readings.{got-not-refused}
+use Rattle.zvt_rules.proofs.Tests.{pick-test, between}
 
 abbrev Low : Fault → Type 0
 Low f = leb 1 (f .number) && leb (f .number) 10 ≡ true
@@ -55,13 +48,13 @@ unfolding tagSize
 tag-small at [] = no _ refl
 tag-small at (b ∷ s) = small-pick (longTag b) (second-small (at + 1) s) (is 1)
 
-one-small : (at : ℕ) (s : List ℕ) → Small (oneByte at s)
-unfolding oneByte
+one-small : (at : ℕ) (s : List ℕ) → Small (oneByteLen at s)
+unfolding oneByteLen
 one-small at [] = no _ refl
 one-small at (v ∷ s) = is _
 
-two-small : (at : ℕ) (s : List ℕ) → Small (twoBytes at s)
-unfolding twoBytes
+two-small : (at : ℕ) (s : List ℕ) → Small (twoByteLen at s)
+unfolding twoByteLen
 two-small at [] = no _ refl
 two-small at (h ∷ []) = no _ refl
 two-small at (h ∷ (l ∷ s)) = is _

@@ -15,8 +15,9 @@ use Rattle.zvt_rules.specs.Objects.{headOf, Obj, leaf, branch, Objs, non
 use Rattle.zvt_rules.specs.Objects.{countObj, countObjs}
 use Rattle.zvt_rules.specs.Writing.{lenBytes, sized, objBytes, runBytes}
 use Rattle.zvt_rules.specs.Grammar.{Bytes, TagOk, FormOk, ObjOk, RunOk}
-use Rattle.zvt_rules.proofs.Readings.{got-same, got-not-refused, unless-got, then-on, pick-test, pick-true, pick-false}
-use Rattle.zvt_rules.proofs.ObjectSteps.{part-length, head-got, head-in, one-got, one-in, run-none, run-step, run-got}
+use Rattle.zvt_rules.proofs.Tests.{pick-test, pick-true, pick-false}
+use Rattle.zvt_rules.proofs.Readings.{got-same, got-not-refused, unless-got, then-on}
+use Rattle.zvt_rules.proofs.ObjectReading.{part-length, head-got, head-in, one-got, one-in, run-none, run-step, run-got}
 use Rattle.zvt_rules.proofs.Lengths.{lenBytes-size, object-size, len-written, len-sound}
 
 -- ---- bytes

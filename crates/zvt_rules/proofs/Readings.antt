@@ -4,7 +4,7 @@ use mathlib.Core.Bool.{Bool, true, false}
 use Prim.Native.Nat.{ℕ}
 use native.Mathlib.Omega.{arith}
 use Rattle.zvt_rules.specs.declared.Fault.{Fault}
-use Rattle.zvt_rules.specs.Reading.{Reading, got, refused, pick, unless, andThen}
+use Rattle.zvt_rules.specs.Reading.{Reading, got, refused, unless, andThen}
 
 -- what was read is one thing
 pub got-same : {A : Type 0} {a b : A} → _≡_ {A = Reading A} (got a) (got b) → a ≡ b
@@ -46,14 +46,8 @@ unfolding andThen
 then-alike (got a) f g h = h a refl
 then-alike (refused r) f g h = refl
 
--- a choice, by its test
-pub pick-true : {A : Type 0} {t : Bool} (x y : A) → t ≡ true → pick t x y ≡ x
-pick-true x y e = rw e
-
-pub pick-false : {A : Type 0} {t : Bool} (x y : A) → t ≡ false → pick t x y ≡ y
-pick-false x y e = rw e
-
--- what holds of both sides of a choice, each with its test, holds of the choice
-pub pick-test : {A : Type 0} (P : A → Type 0) (t : Bool) {x y : A} → (t ≡ true → P x) → (t ≡ false → P y) → P (pick t x y)
-pick-test P true p q = p refl
-pick-test P false p q = q refl
+-- a test before goes on before
+pub unless-then : {A B : Type 0} (t : Bool) (r : Fault) (x : Reading A) (f : A → Reading B) → andThen (unless t r x) f ≡ unless t r (andThen x f)
+unfolding unless andThen
+unless-then true r x f = refl
+unless-then false r x f = refl

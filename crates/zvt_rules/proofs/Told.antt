@@ -14,7 +14,7 @@ use Rattle.zvt_rules.specs.Message.{Body, bytes, listed, Message, readOf
 use Rattle.zvt_rules.specs.Grammar.{Bytes, SizeOk, FieldOk, ListOk, FieldsOk, LayoutOk, MessageOk}
 use Rattle.zvt_rules.specs.Values.{fieldValue, Found, missing, found, valueIn, bodyFields}
 use Rattle.zvt_rules.specs.Digits.{numberOf}
-use Rattle.zvt_rules.proofs.Readings.{pick-test}
+use Rattle.zvt_rules.proofs.Tests.{pick-test}
 use Rattle.zvt_rules.proofs.DigitLaws.{number-below}
 use Rattle.zvt_rules.proofs.MessageBytes.{read-sound}
 

@@ -12,9 +12,9 @@ digitBytesOf zero n = []
 digitBytesOf (suc k) n = digitBytesOf k (n / 100) ++ (twoDigits (n % 100) ∷ [])
 
 -- the number that digits are, behind those that gave v
-unfoldable pub numberFrom : ℕ → List ℕ → ℕ
-numberFrom v [] = v
-numberFrom v (b ∷ s) = numberFrom (v * 100 + (b / 16 * 10 + b % 16)) s
+unfoldable pub decimalFrom : ℕ → List ℕ → ℕ
+decimalFrom v [] = v
+decimalFrom v (b ∷ s) = decimalFrom (v * 100 + (b / 16 * 10 + b % 16)) s
 
 unfoldable pub numberOf : List ℕ → ℕ
-numberOf s = numberFrom 0 s
+numberOf s = decimalFrom 0 s

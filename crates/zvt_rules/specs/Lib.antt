@@ -1,5 +1,6 @@
 -- What document 01 says of a message. A reader has to believe these files; they are in the order in which one needs the other.
 pub mod Reading
+pub mod Buffers
 pub mod Objects
 pub mod Fields
 pub mod Message
@@ -8,3 +9,6 @@ pub mod Shortest
 pub mod Grammar
 pub mod Digits
 pub mod Values
+pub mod Answers
+pub mod Listed
+pub mod Name

@@ -25,7 +25,8 @@ unfoldable pub lengthOf : List ℕ → Reading BodyLength
 lengthOf [] = refused (noHeader 1)
 lengthOf (b ∷ s) = pick (eqb b 0xFF) (longLength s) (got (record { long = false; value = b }))
 
-pub record Header : Type 0 where
+-- a header as it was sent: its pair, how its length was written, and the length of its body
+pub record Heading : Type 0 where
   pub class : ℕ
   pub instruction : ℕ
   pub long : Bool
@@ -35,21 +36,21 @@ pub record Header : Type 0 where
 abbrev pub headerSize : Bool → ℕ
 headerSize long = pick long 5 3
 
-abbrev pub start : Header → ℕ
+abbrev pub start : Heading → ℕ
 start h = headerSize (h .long)
 
-abbrev pub end : Header → ℕ
+abbrev pub end : Heading → ℕ
 end h = start h + h .size
 
 -- "2, 1 for a body cut short"
-unfoldable pub headerWith : ℕ → ℕ → List ℕ → BodyLength → Reading Header
+unfoldable pub headerWith : ℕ → ℕ → List ℕ → BodyLength → Reading Heading
 headerWith class instruction s l =
     unless (ltb 4096 (l .value)) (noHeader 2)
     (unless (ltb (length s) (headerSize (l .long) + l .value)) (noHeader 1)
     (got (record { class = class; instruction = instruction; long = l .long; size = l .value })))
 
 -- "A header: 1 for a missing header byte, 2, 1 for a body cut short"
-unfoldable pub headerOf : List ℕ → Reading Header
+unfoldable pub headerOf : List ℕ → Reading Heading
 headerOf [] = refused (noHeader 1)
 headerOf (c ∷ []) = refused (noHeader 1)
 headerOf (c ∷ (i ∷ s)) = andThen (lengthOf s) λ l. headerWith c i (c ∷ (i ∷ s)) l
@@ -83,7 +84,7 @@ pub record Message : Type 0 where
   pub long : Bool
   pub body : Body
 
-unfoldable pub messageOf : List ℕ → Header → Reading Message
+unfoldable pub messageOf : List ℕ → Heading → Reading Message
 messageOf s h =
     andThen (bodyOf (start h) (part (start h) (end h) s) (layoutOf (h .class) (h .instruction))) λ b.
     got (record { class = h .class; instruction = h .instruction; long = h .long; body = b })
@@ -93,7 +94,7 @@ unfoldable pub firstOf : List ℕ → Reading Message
 firstOf s = andThen (headerOf s) λ h. messageOf s h
 
 -- ".., 3": a header behind whose body nothing is left over
-unfoldable pub wholeHeader : List ℕ → Reading Header
+unfoldable pub wholeHeader : List ℕ → Reading Heading
 wholeHeader s = andThen (headerOf s) λ h. unless (ltb (end h) (length s)) (noHeader 3) (got h)
 
 -- the message that s is

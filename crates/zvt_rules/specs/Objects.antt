@@ -42,21 +42,21 @@ pub record Len : Type 0 where
   pub form : Form
   pub value : ℕ
 
-unfoldable pub oneByte : ℕ → List ℕ → Reading Len
-oneByte at [] = refused (no 1 at)
-oneByte at (v ∷ s) = got (record { form = one; value = v })
+unfoldable pub oneByteLen : ℕ → List ℕ → Reading Len
+oneByteLen at [] = refused (no 1 at)
+oneByteLen at (v ∷ s) = got (record { form = one; value = v })
 
-unfoldable pub twoBytes : ℕ → List ℕ → Reading Len
-twoBytes at [] = refused (no 1 at)
-twoBytes at (h ∷ []) = refused (no 1 (at + 1))
-twoBytes at (h ∷ (l ∷ s)) = got (record { form = two; value = h * 256 + l })
+unfoldable pub twoByteLen : ℕ → List ℕ → Reading Len
+twoByteLen at [] = refused (no 1 at)
+twoByteLen at (h ∷ []) = refused (no 1 (at + 1))
+twoByteLen at (h ∷ (l ∷ s)) = got (record { form = two; value = h * 256 + l })
 
 -- "length 1 or 4", "lengths byte by byte"; 4 is "a first length byte 80, 83 to FF"
 unfoldable pub lenOf : ℕ → List ℕ → Reading Len
 lenOf at [] = refused (no 1 at)
 lenOf at (b ∷ s) =
     pick (ltb b 0x80) (got (record { form = bare; value = b }))
-    (pick (eqb b 0x81) (oneByte (at + 1) s) (pick (eqb b 0x82) (twoBytes (at + 1) s) (refused (no 4 at))))
+    (pick (eqb b 0x81) (oneByteLen (at + 1) s) (pick (eqb b 0x82) (twoByteLen (at + 1) s) (refused (no 4 at))))
 
 -- how many bytes the tag takes, how the length is written, and how many bytes the value takes
 pub record Head : Type 0 where

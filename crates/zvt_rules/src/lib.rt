@@ -55,3 +55,71 @@ pub struct Status {
     pub amount: ToldAmount,
     pub receipt: ToldReceipt,
 }
+
+// The pair of class and instruction, where the body starts and how long it is.
+pub struct Header {
+    pub class: u8,
+    pub instruction: u8,
+    pub start: usize,
+    pub length: usize,
+}
+
+// An accepted message in outline: beside its header the number of its data objects, and whether every length in it was shortest.
+pub struct Outline {
+    pub class: u8,
+    pub instruction: u8,
+    pub start: usize,
+    pub length: usize,
+    pub objects: u8,
+    pub shortest: bool,
+}
+
+impl Outline {
+    pub const MOST_BODY: usize = 4096;
+
+    // Inner ones counted.
+    pub const MOST_OBJECTS: u8 = 64;
+
+    // Objects directly in a container have depth 1.
+    pub const LEVELS: u8 = 4;
+}
+
+pub enum HeaderAnswer {
+    Header(Header),
+    Refused(Refusal),
+}
+
+pub enum ReadAnswer {
+    Accepted(Outline),
+    Refused(Refusal),
+}
+
+// The first message, and where the next begins.
+pub enum FirstAnswer {
+    Accepted(Outline, usize),
+    Refused(Refusal),
+}
+
+// How many bytes were written.
+pub enum ShortenAnswer {
+    Written(usize),
+    Refused(Refusal),
+}
+
+// A field of a list: its id, and where its value lies in the message, from and to.
+pub struct Listed {
+    pub id: u8,
+    pub from: usize,
+    pub to: usize,
+}
+
+pub enum FieldAnswer {
+    End,
+    Field(Listed),
+}
+
+// Where a message's list lies, from and to, if it has one.
+pub enum ListPlace {
+    Nowhere,
+    Between(usize, usize),
+}

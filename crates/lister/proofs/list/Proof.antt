@@ -1,4 +1,5 @@
--- `lister::list`: safe, and each turn lists a message. Assumes nothing.
+-- `lister::list`: safe, and each turn lists a message. The invariant: `at` lies within the input, and the count, once it is not
+-- zero, with the bytes that are left is at most 65,536; the measure is what is left of the input. Assumes nothing.
 use Prim.Native.Nat.{_+_, _≤_, _-_}
 use mathlib.Core.Logic.{_⊎_, inl, inr, ⊎-elim}
 use Rattle.listing.specs.Lines.{Bounded}
@@ -15,36 +16,9 @@ Inv-loop s out₀ at₀ count₀ out at count = (at ≤ length s) × ((count ≡
 abbrev μ-loop : tie.MeasureT-loop
 μ-loop s out₀ at₀ count₀ out at count = length s - at
 
-slice-aggregate-out : tie.Need-slice-aggregate-out Inv-loop μ-loop
-slice-aggregate-out c = search needs
-
-loop-holds : tie.Need-loop-holds Inv-loop μ-loop
-loop-holds c = (omega arith, inl refl)
-
-sub-next-line : tie.Need-sub-next-line Inv-loop μ-loop
-sub-next-line c = search needs
-
-part-next-line-start : tie.Need-part-next-line-start Inv-loop μ-loop
-part-next-line-start c = search needs
-
-part-next-line-end : tie.Need-part-next-line-end Inv-loop μ-loop
-part-next-line-end c = search needs
-
-next-line-requires : tie.Need-next-line-requires Inv-loop μ-loop
-next-line-requires c κs = search needs
-
-enum-known-size : tie.Need-enum-known-size Inv-loop μ-loop
-enum-known-size c = search needs
-
 print-requires : tie.Need-print-requires Inv-loop μ-loop
 unfolding Bounded
 print-requires c κs = rw (c .before .size .given .1) at (c .before .before .before .before .before .next-line .ensures .1)
-
-returns : tie.Need-returns Inv-loop μ-loop
-returns c = search needs
-
-enum-known-size-2 : tie.Need-enum-known-size-2 Inv-loop μ-loop
-enum-known-size-2 c = search needs
 
 print-requires-2 : tie.Need-print-requires-2 Inv-loop μ-loop
 unfolding Bounded
@@ -86,21 +60,6 @@ loop-again c =
 pub list-spec : {M : Type 1} → statement M
 list-spec =
     tie.close
-    (tie.spec
-    Inv-loop
-    μ-loop
-    slice-aggregate-out
-    loop-holds
-    sub-next-line
-    part-next-line-start
-    part-next-line-end
-    next-line-requires
-    enum-known-size
-    print-requires
-    returns
-    enum-known-size-2
-    print-requires-2
-    add-at
-    add-count
-    loop-less
-    loop-again)
+    (tie.spec Inv-loop μ-loop (λ c. search needs) (λ c. (omega arith, inl refl)) (λ c. search needs) (λ c. search needs)
+    (λ c. search needs) (λ c κs. search needs) (λ c. search needs) print-requires (λ c. search needs)
+    (λ c. search needs) print-requires-2 add-at add-count loop-less loop-again)

@@ -7,9 +7,6 @@ use borrow.Author.Needs.{needs}
 use Rattle.lister.proofs.print.Statement.{statement}
 use Rattle.lister.proofs.print.Tie as tie
 
-add-requires : tie.Need-add-requires
-add-requires c κs = search needs
-
 slice-reshare-prefix-write-all : tie.Need-slice-reshare-prefix-write-all
 slice-reshare-prefix-write-all c =
     let end = c .before .before in
@@ -22,22 +19,8 @@ slice-aggregate-write-all c =
     let a = end .before .before .before .args in
     sym (length-take-le _ _ (written-in _ (a .size) (a .out .now) _ _ (end .add .ensures) (omega arith)))
 
-write-all-requires : tie.Need-write-all-requires
-write-all-requires c κs = search needs
-
-same-length : tie.Need-same-length
-same-length c = search needs
-
-returns : tie.Need-returns
-returns c = search needs
-
 pub print-spec : {M : Type 1} → statement M
 print-spec =
     tie.close
-    (tie.spec
-    add-requires
-    slice-reshare-prefix-write-all
-    slice-aggregate-write-all
-    write-all-requires
-    same-length
-    returns)
+    (tie.spec (λ c κs. search needs) slice-reshare-prefix-write-all slice-aggregate-write-all (λ c κs. search needs)
+    (λ c. search needs) (λ c. search needs))

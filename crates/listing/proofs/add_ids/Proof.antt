@@ -5,7 +5,7 @@ use lib.ListN.{length, drop}
 use native.Mathlib.Omega.{arith}
 use borrow.Author.Needs.{needs}
 use Rattle.zvt_rules.specs.Message.{readOf}
-use Rattle.zvt.specs.List.{listedMessage, fieldAnswer}
+use Rattle.zvt_rules.specs.Listed.{listedMessage, fieldAnswer}
 use Rattle.zvt.proofs.Slices.{bytes-known}
 use Rattle.listing.specs.Text.{Text, text, write}
 use Rattle.listing.specs.Lines.{listedText}
@@ -22,39 +22,12 @@ Inv-loop s at out₀ to₀ k₀ out to k =
 abbrev μ-loop : tie.MeasureT-loop
 μ-loop s at out₀ to₀ k₀ out to k = length s - k
 
-loop-holds : tie.Need-loop-holds Inv-loop μ-loop
-loop-holds c = (refl, refl)
-
-field-at-requires : tie.Need-field-at-requires Inv-loop μ-loop
-field-at-requires c κs = search needs
-
-enum-told : tie.Need-enum-told Inv-loop μ-loop
-enum-told c = search needs
-
-same-length : tie.Need-same-length Inv-loop μ-loop
-same-length c = search needs
-
 returns : tie.Need-returns Inv-loop μ-loop
 unfolding fieldAnswer
 returns c =
     let field = c .before .before in
     let turn = field .before .before in
     sym (ids-end (turn .loop .k) _ _ (sym (field .field-at .ensures) ∙ c .enum-told .given .1)) ∙ turn .loop .inv .1
-
-enum-known-f : tie.Need-enum-known-f Inv-loop μ-loop
-enum-known-f c = search needs
-
-add-requires : tie.Need-add-requires Inv-loop μ-loop
-add-requires c κs = search needs
-
-add-hex-requires : tie.Need-add-hex-requires Inv-loop μ-loop
-add-hex-requires c κs = search needs
-
-add-k : tie.Need-add-k Inv-loop μ-loop
-add-k c = search needs
-
-loop-less : tie.Need-loop-less Inv-loop μ-loop
-loop-less c = search needs
 
 loop-again : tie.Need-loop-again Inv-loop μ-loop
 unfolding fieldAnswer
@@ -71,9 +44,6 @@ loop-again c =
       cc (blank .add .ensures, digits .add-hex .ensures, step),
     )
 
-same-length-2 : tie.Need-same-length-2 Inv-loop μ-loop
-same-length-2 c = search needs
-
 returns-2 : tie.Need-returns-2 Inv-loop μ-loop
 returns-2 c =
     let turn = c .before in
@@ -83,19 +53,6 @@ returns-2 c =
 pub add-ids-spec : {M : Type 1} → statement M
 add-ids-spec =
     tie.close
-    (tie.spec
-    Inv-loop
-    μ-loop
-    loop-holds
-    field-at-requires
-    enum-told
-    same-length
-    returns
-    enum-known-f
-    add-requires
-    add-hex-requires
-    add-k
-    loop-less
-    loop-again
-    same-length-2
-    returns-2)
+    (tie.spec Inv-loop μ-loop (λ c. (refl, refl)) (λ c κs. search needs) (λ c. search needs) (λ c. search needs) returns
+    (λ c. search needs) (λ c κs. search needs) (λ c κs. search needs) (λ c. search needs) (λ c. search needs) loop-again
+    (λ c. search needs) returns-2)

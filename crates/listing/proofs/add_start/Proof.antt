@@ -5,21 +5,6 @@ use borrow.Author.Needs.{needs}
 use Rattle.listing.proofs.add_start.Statement.{statement}
 use Rattle.listing.proofs.add_start.Tie as tie
 
-add-decimal-requires : tie.Need-add-decimal-requires
-add-decimal-requires c κs = search needs
-
-add-requires : tie.Need-add-requires
-add-requires c κs = search needs
-
-add-hex-requires : tie.Need-add-hex-requires
-add-hex-requires c κs = search needs
-
-add-hex-requires-2 : tie.Need-add-hex-requires-2
-add-hex-requires-2 c κs = search needs
-
-same-length : tie.Need-same-length
-same-length c = search needs
-
 returns : tie.Need-returns
 unfolding startText
 returns c =
@@ -33,10 +18,5 @@ returns c =
 pub add-start-spec : {M : Type 1} → statement M
 add-start-spec =
     tie.close
-    (tie.spec
-    add-decimal-requires
-    add-requires
-    add-hex-requires
-    add-hex-requires-2
-    same-length
-    returns)
+    (tie.spec (λ c κs. search needs) (λ c κs. search needs) (λ c κs. search needs) (λ c κs. search needs)
+    (λ c. search needs) returns)

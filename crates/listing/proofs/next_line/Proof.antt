@@ -9,41 +9,17 @@ use borrow.Author.Needs.{needs}
 use Rattle.listing.proofs.next_line.Statement.{statement}
 use Rattle.listing.proofs.next_line.Tie as tie
 
-refused-line-requires : tie.Need-refused-line-requires
-refused-line-requires c κs = search needs
-
-same-length : tie.Need-same-length
-same-length c = search needs
-
 returns : tie.Need-returns
 returns c =
     let line = c .before .before in
     let s = line .before .before .before .before in
     shown-so _ _ _ _ _ (s .shared-slice-known .given) (shown-last _ _ _ _ _ (next-over _ _ (omega arith)) (line .refused-line .ensures))
 
-ok-line-requires : tie.Need-ok-line-requires
-ok-line-requires c κs = search needs
-
-same-length-2 : tie.Need-same-length-2
-same-length-2 c = search needs
-
 returns-2 : tie.Need-returns-2
 returns-2 c =
     let line = c .before .before in
     let s = line .before .before .before .before .before in
     shown-so _ _ _ _ _ (s .shared-slice-known .given) (shown-last _ _ _ _ _ (next-none _ _ (omega arith)) (line .ok-line .ensures))
-
-read-first-requires : tie.Need-read-first-requires
-read-first-requires c κs = search needs
-
-enum-known-f : tie.Need-enum-known-f
-enum-known-f c = search needs
-
-refused-line-requires-2 : tie.Need-refused-line-requires-2
-refused-line-requires-2 c κs = search needs
-
-enum-known-m : tie.Need-enum-known-m
-enum-known-m c = search needs
 
 slice-aggregate-message-line : tie.Need-slice-aggregate-message-line
 slice-aggregate-message-line c =
@@ -52,15 +28,6 @@ slice-aggregate-message-line c =
     let s = first .before .before .before .before in
     let message = sym (first .read-first .ensures) ∙ told .m .given .1 in
     sym (length-take-le _ _ (next-within _ (bytes-known _ (s .shared-slice-known .given)) _ _ message))
-
-add-message-line : tie.Need-add-message-line
-add-message-line c = search needs
-
-message-line-requires : tie.Need-message-line-requires
-message-line-requires c κs = search needs
-
-same-length-3 : tie.Need-same-length-3
-same-length-3 c = search needs
 
 returns-3 : tie.Need-returns-3
 returns-3 c =
@@ -71,9 +38,6 @@ returns-3 c =
     let refusal = sym (first .read-first .ensures) ∙ told .f .given .1 in
     shown-so _ _ _ _ _ (s .shared-slice-known .given)
     (shown-last _ _ _ _ _ (next-refused _ _ (omega arith) (λ k. omega arith) _ refusal) (line .refused-line2 .ensures))
-
-same-length-4 : tie.Need-same-length-4
-same-length-4 c = search needs
 
 returns-4 : tie.Need-returns-4
 returns-4 c =
@@ -89,21 +53,6 @@ returns-4 c =
 pub next-line-spec : {M : Type 1} → statement M
 next-line-spec =
     tie.close
-    (tie.spec
-    refused-line-requires
-    same-length
-    returns
-    ok-line-requires
-    same-length-2
-    returns-2
-    read-first-requires
-    enum-known-f
-    refused-line-requires-2
-    enum-known-m
-    slice-aggregate-message-line
-    add-message-line
-    message-line-requires
-    same-length-3
-    returns-3
-    same-length-4
-    returns-4)
+    (tie.spec (λ c κs. search needs) (λ c. search needs) returns (λ c κs. search needs) (λ c. search needs) returns-2
+    (λ c κs. search needs) (λ c. search needs) (λ c κs. search needs) (λ c. search needs) slice-aggregate-message-line
+    (λ c. search needs) (λ c κs. search needs) (λ c. search needs) returns-3 (λ c. search needs) returns-4)

@@ -3,8 +3,9 @@ use mathlib.Core.Path.{_≡_, sym, _∙_}
 use native.Mathlib.Omega.{arith}
 use borrow.Author.Needs.{needs}
 use Rattle.zvt_rules.specs.Grammar.{Bytes}
-use Rattle.zvt.specs.declared.FieldAnswer.the-variants.{Field as listed-field}
-use Rattle.zvt.specs.List.{namedListed, listedIn}
+use Rattle.zvt_rules.specs.declared.FieldAnswer.the-variants.{Field as listed-field}
+use Rattle.zvt_rules.specs.Listed.{namedListed}
+use Rattle.zvt.specs.ListSteps.{listedIn}
 use Rattle.zvt.proofs.Slices.{bytes-known}
 use Rattle.zvt.proofs.PlaceLaws.{StatusIn, status-at, status-nowhere}
 use Rattle.zvt.proofs.ValueLaws.{Here, is-here}
@@ -35,36 +36,6 @@ found c = sym (c .before .before .named .ensures) ∙ c .f .given .1
 here : (c : tie.After-f) → let g = placed c .from .given .0 in Here 0x8B (g .0) (g .1 .0) (args (placed c) .args .s .now) (c .f .given .0 .0)
 here c = let p = placed c in is-here 0x8B _ _ _ (bytes p) (status p .reads) _ (λ e. omega arith) (found c)
 
-status-place-requires : tie.Need-status-place-requires
-status-place-requires c κs = search needs
-
-enum-told : tie.Need-enum-told
-enum-told c = search needs
-
-enum-known-from : tie.Need-enum-known-from
-enum-known-from c = search needs
-
-named-requires : tie.Need-named-requires
-named-requires c κs = status (c .before) .reads
-
-enum-told-2 : tie.Need-enum-told-2
-enum-told-2 c = search needs
-
-enum-known-f : tie.Need-enum-known-f
-enum-known-f c = search needs
-
-sub-name-size : tie.Need-sub-name-size
-sub-name-size c = here (c .before) .order
-
-part-name-size-start : tie.Need-part-name-size-start
-part-name-size-start c = let h = here (c .before) in omega (arith, h .order, h .inside)
-
-part-name-size-end : tie.Need-part-name-size-end
-part-name-size-end c = let h = here (c .before) in omega (arith, h .order, h .inside)
-
-name-size-requires : tie.Need-name-size-requires
-name-size-requires c κs = search needs
-
 returns : tie.Need-returns
 returns c =
     let g = c .before .before .before .before in
@@ -75,12 +46,6 @@ add-to c =
     let g = c .before .before .before .before in
     let h = here g in
     omega (arith, h .inside, name-inside _ _ _ (status (placed g)) _ (found g) _ (c .before .name-size .ensures) (h .order) (h .inside))
-
-sub-result : tie.Need-sub-result
-sub-result c = search needs
-
-part-result-start : tie.Need-part-result-start
-part-result-start c = search needs
 
 part-result-end : tie.Need-part-result-end
 part-result-end c =
@@ -103,22 +68,7 @@ returns-4 c =
 pub card-name-spec : {M : Type 1} → statement M
 card-name-spec =
     tie.close
-    (tie.spec
-    status-place-requires
-    enum-told
-    enum-known-from
-    named-requires
-    enum-told-2
-    enum-known-f
-    sub-name-size
-    part-name-size-start
-    part-name-size-end
-    name-size-requires
-    returns
-    add-to
-    sub-result
-    part-result-start
-    part-result-end
-    returns-2
-    returns-3
-    returns-4)
+    (tie.spec (λ c κs. search needs) (λ c. search needs) (λ c. search needs) (λ c κs. status (c .before) .reads)
+    (λ c. search needs) (λ c. search needs) (λ c. here (c .before) .order)
+    (λ c. let h = here (c .before) in omega arith) (λ c. let h = here (c .before) in omega arith) (λ c κs. search needs)
+    returns add-to (λ c. search needs) (λ c. search needs) part-result-end returns-2 returns-3 returns-4)

@@ -1,44 +1,30 @@
 -- `zvt::field_named` meets its contract. Assumes nothing.
-use mathlib.Core.Path.{_≡_, sym, ap, _∙_}
+use mathlib.Core.Path.{sym, ap, _∙_}
 use borrow.Author.Needs.{needs}
-use Rattle.zvt_rules.specs.Message.{readOf}
-use Rattle.zvt.specs.List.{ListIn, listedIn, listedMessage, namedListed, namedAnswer}
+use Rattle.zvt_rules.specs.Listed.{namedListed, namedAnswer}
 use Rattle.zvt.proofs.Slices.{bytes-known}
 use Rattle.zvt.proofs.PlaceLaws.{list-at, list-nowhere}
 use Rattle.zvt.proofs.field_named.Statement.{statement}
 use Rattle.zvt.proofs.field_named.Tie as tie
 
--- where the list lies
-abbrev start : tie.After-from → tie.After-shared-slice-known
-start c = c .before .before .before
-
-list : (c : tie.After-from)
-    → let s = start c .before .args .s .now in
-    let g = c .from .given .0 in
-    ListIn (g .0) (g .1 .0) s × (listedMessage (readOf s) ≡ listedIn (g .0) (g .1 .0) s)
-list c = list-at _ _ _ (bytes-known _ (start c .shared-slice-known .given)) (sym (c .before .before .list-place .ensures) ∙ c .from .given .1)
-
-list-place-requires : tie.Need-list-place-requires
-list-place-requires c κs = search needs
-
-enum-told : tie.Need-enum-told
-enum-told c = search needs
-
-enum-known-from : tie.Need-enum-known-from
-enum-known-from c = search needs
-
 named-requires : tie.Need-named-requires
-named-requires c κs = list (c .before) .0
+named-requires c κs =
+    let p = c .before .before .before in
+    list-at _ (bytes-known _ (p .before .shared-slice-known .given)) (p .list-place .ensures) (c .before .from .given .1) .0
 
 returns : tie.Need-returns
 unfolding namedAnswer namedListed
-returns c = sym (ap (namedListed _) (list-nowhere _ (sym (c .before .before .list-place .ensures) ∙ c .enum-told .given .1)))
+returns c = sym (ap (namedListed _) (list-nowhere _ (c .before .before .list-place .ensures) (c .enum-told .given .1)))
 
 returns-2 : tie.Need-returns-2
 unfolding namedAnswer
-returns-2 c = c .named .ensures ∙ ap (namedListed _) (sym (list (c .before .before) .1))
+returns-2 c =
+    let p = c .before .before .before .before in
+    let l = list-at _ (bytes-known _ (p .before .shared-slice-known .given)) (p .list-place .ensures) (c .before .before .from .given .1) in
+    c .named .ensures ∙ ap (namedListed _) (sym (l .1))
 
 pub field-named-spec : {M : Type 1} → statement M
 field-named-spec =
     tie.close
-    (tie.spec list-place-requires enum-told enum-known-from named-requires returns returns-2)
+    (tie.spec (λ c κs. search needs) (λ c. search needs) (λ c. search needs) named-requires returns
+    returns-2)

@@ -1,33 +1,15 @@
 -- `zvt::read` meets its contract. Assumes nothing.
 use mathlib.Core.Path.{sym, ap, _∙_}
 use borrow.Author.Needs.{needs}
-use Rattle.zvt.specs.declared.ReadAnswer.the-variants.{Accepted}
+use Rattle.zvt_rules.specs.declared.ReadAnswer.the-variants.{Accepted}
 use Rattle.zvt.proofs.HeaderLaws.{whole-within}
 use Rattle.zvt.proofs.Slices.{bytes-known}
 use Rattle.zvt.proofs.MessageLaws.{read-no-header, read-no-body, read-accepted}
 use Rattle.zvt.proofs.read.Statement.{statement}
 use Rattle.zvt.proofs.read.Tie as tie
 
-whole-header-requires : tie.Need-whole-header-requires
-whole-header-requires c κs = search needs
-
-enum-known-f : tie.Need-enum-known-f
-enum-known-f c = search needs
-
-enum-known-h : tie.Need-enum-known-h
-enum-known-h c = search needs
-
 body-in-requires : tie.Need-body-in-requires
 body-in-requires c κs = whole-within _ _ (sym (c .before .before .before .whole-header .ensures) ∙ c .before .h .given .1)
-
-enum-known-f-2 : tie.Need-enum-known-f-2
-enum-known-f-2 c = search needs
-
-enum-known-t : tie.Need-enum-known-t
-enum-known-t c = search needs
-
-message-of-requires : tie.Need-message-of-requires
-message-of-requires c κs = search needs
 
 returns : tie.Need-returns
 returns c = sym (read-no-header _ _ (sym (c .before .before .before .whole-header .ensures) ∙ c .before .f .given .1))
@@ -44,7 +26,7 @@ returns-3 c =
     let body = c .before .before .before .before in
     let header = body .before .before .before .before in
     let start = header .before in
-    ap Accepted (c .message-of .ensures)
+    ap Accepted (c .outline-of .ensures)
     ∙ sym (read-accepted _ _ (sym (header .whole-header .ensures) ∙ body .before .before .h .given .1)
     (bytes-known (start .before .args .s .now) (start .shared-slice-known .given)) _
     (sym (body .body-in .ensures) ∙ c .before .before .t .given .1))
@@ -52,14 +34,5 @@ returns-3 c =
 pub read-spec : {M : Type 1} → statement M
 read-spec =
     tie.close
-    (tie.spec
-    whole-header-requires
-    enum-known-f
-    enum-known-h
-    body-in-requires
-    enum-known-f-2
-    enum-known-t
-    message-of-requires
-    returns
-    returns-2
-    returns-3)
+    (tie.spec (λ c κs. search needs) (λ c. search needs) (λ c. search needs) body-in-requires (λ c. search needs)
+    (λ c. search needs) (λ c κs. search needs) returns returns-2 returns-3)

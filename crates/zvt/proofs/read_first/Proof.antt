@@ -8,23 +8,8 @@ use Rattle.zvt.proofs.MessageLaws.{first-no-header, first-no-body, firs
 use Rattle.zvt.proofs.read_first.Statement.{statement}
 use Rattle.zvt.proofs.read_first.Tie as tie
 
-header-of-requires : tie.Need-header-of-requires
-header-of-requires c κs = search needs
-
-enum-known-f : tie.Need-enum-known-f
-enum-known-f c = search needs
-
-enum-known-h : tie.Need-enum-known-h
-enum-known-h c = search needs
-
 body-in-requires : tie.Need-body-in-requires
 body-in-requires c κs = first-within _ _ (sym (c .before .before .before .header-of .ensures) ∙ c .before .h .given .1)
-
-enum-known-f-2 : tie.Need-enum-known-f-2
-enum-known-f-2 c = search needs
-
-enum-known-t : tie.Need-enum-known-t
-enum-known-t c = search needs
 
 add-next : tie.Need-add-next
 add-next c =
@@ -32,9 +17,6 @@ add-next c =
     let header = body .before .before .before .before in
     let w = first-within _ _ (sym (header .header-of .ensures) ∙ body .before .before .h .given .1) in
     omega (arith, w .0, w .1)
-
-message-of-requires : tie.Need-message-of-requires
-message-of-requires c κs = search needs
 
 returns : tie.Need-returns
 returns c = sym (first-no-header _ _ (sym (c .before .before .before .header-of .ensures) ∙ c .before .f .given .1))
@@ -51,7 +33,7 @@ returns-3 c =
     let body = c .before .before .before .before .before in
     let header = body .before .before .before .before in
     let start = header .before in
-    rw (c .message-of .ensures)
+    rw (c .outline-of .ensures)
     (sym (first-taken _ _ (sym (header .header-of .ensures) ∙ body .before .before .h .given .1)
     (bytes-known (start .before .args .s .now) (start .shared-slice-known .given)) _
     (sym (body .body-in .ensures) ∙ c .before .before .before .t .given .1)))
@@ -59,15 +41,5 @@ returns-3 c =
 pub read-first-spec : {M : Type 1} → statement M
 read-first-spec =
     tie.close
-    (tie.spec
-    header-of-requires
-    enum-known-f
-    enum-known-h
-    body-in-requires
-    enum-known-f-2
-    enum-known-t
-    add-next
-    message-of-requires
-    returns
-    returns-2
-    returns-3)
+    (tie.spec (λ c κs. search needs) (λ c. search needs) (λ c. search needs) body-in-requires (λ c. search needs)
+    (λ c. search needs) add-next (λ c κs. search needs) returns returns-2 returns-3)

@@ -5,15 +5,6 @@ use Rattle.zvt.proofs.HeaderLaws.{answer-refused, answer-header}
 use Rattle.zvt.proofs.read_header.Statement.{statement}
 use Rattle.zvt.proofs.read_header.Tie as tie
 
-whole-header-requires : tie.Need-whole-header-requires
-whole-header-requires c κs = search needs
-
-enum-known-f : tie.Need-enum-known-f
-enum-known-f c = search needs
-
-enum-known-h : tie.Need-enum-known-h
-enum-known-h c = search needs
-
 returns : tie.Need-returns
 returns c = sym (answer-refused _ _ (sym (c .before .before .before .whole-header .ensures) ∙ c .before .f .given .1))
 
@@ -21,4 +12,4 @@ returns-2 : tie.Need-returns-2
 returns-2 c = sym (answer-header _ _ (sym (c .before .before .before .whole-header .ensures) ∙ c .before .h .given .1))
 
 pub read-header-spec : {M : Type 1} → statement M
-read-header-spec = tie.close (tie.spec whole-header-requires enum-known-f enum-known-h returns returns-2)
+read-header-spec = tie.close (tie.spec (λ c κs. search needs) (λ c. search needs) (λ c. search needs) returns returns-2)

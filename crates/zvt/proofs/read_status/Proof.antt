@@ -14,24 +14,6 @@ start c = c .before .before .before
 status : (c : tie.After-from) → let g = c .from .given .0 in StatusIn (g .0) (g .1 .0) (start c .before .args .s .now)
 status c = status-at _ _ _ (bytes-known _ (start c .shared-slice-known .given)) (sym (c .before .before .status-place .ensures) ∙ c .from .given .1)
 
-status-place-requires : tie.Need-status-place-requires
-status-place-requires c κs = search needs
-
-enum-told : tie.Need-enum-told
-enum-told c = search needs
-
-enum-known-from : tie.Need-enum-known-from
-enum-known-from c = search needs
-
-code-in-requires : tie.Need-code-in-requires
-code-in-requires c κs = status (c .before) .reads
-
-amount-in-requires : tie.Need-amount-in-requires
-amount-in-requires c κs = status (c .before .before) .reads
-
-receipt-in-requires : tie.Need-receipt-in-requires
-receipt-in-requires c κs = status (c .before .before .before) .reads
-
 returns : tie.Need-returns
 unfolding statusOf statusIn codeIn codeOf amountIn amountOf receiptIn receiptOf valueIn
 returns c = sym (ap statusIn (status-nowhere _ (sym (c .before .before .status-place .ensures) ∙ c .enum-told .given .1) .0))
@@ -43,12 +25,5 @@ returns-2 c = rw (c .before .before .code-in .ensures, c .before .amount-in .ens
 pub read-status-spec : {M : Type 1} → statement M
 read-status-spec =
     tie.close
-    (tie.spec
-    status-place-requires
-    enum-told
-    enum-known-from
-    code-in-requires
-    amount-in-requires
-    receipt-in-requires
-    returns
-    returns-2)
+    (tie.spec (λ c κs. search needs) (λ c. search needs) (λ c. search needs) (λ c κs. status (c .before) .reads)
+    (λ c κs. status (c .before .before) .reads) (λ c κs. status (c .before .before .before) .reads) returns returns-2)

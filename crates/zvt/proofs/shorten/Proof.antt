@@ -5,10 +5,10 @@ use mathlib.Core.List.{List}
 use Prim.Native.Nat.{ℕ}
 use native.Mathlib.Omega.{arith}
 use borrow.Author.Needs.{needs}
-use Rattle.zvt.specs.declared.Header.{Header}
+use Rattle.zvt_rules.specs.declared.Header.{Header}
 use Rattle.zvt.specs.declared.objects.Tally.{Tally}
 use Rattle.zvt.specs.declared.headers.HeaderRead.the-variants.{Header as header-read}
-use Rattle.zvt.specs.Header.{wholeAnswer}
+use Rattle.zvt.specs.HeaderSteps.{wholeAnswer}
 use Rattle.zvt.proofs.HeaderLaws.{whole-within}
 use Rattle.zvt.proofs.Slices.{bytes-known}
 use Rattle.zvt.proofs.ShortMessages.{no-header, no-body, Short, short-found, no-room, lent-out, message-room, written-out}
@@ -47,35 +47,11 @@ read c =
     short-found _ _ (headed i) (bytes-known (bytes i) (i .before .before .before .before .before .shared-slice-known .given)) _
     (sym (c .before .before .before .before .before .body-in .ensures) ∙ c .before .before .before .t .given .1)
 
-whole-header-requires : tie.Need-whole-header-requires
-whole-header-requires c κs = search needs
-
-enum-known-f : tie.Need-enum-known-f
-enum-known-f c = search needs
-
-enum-known-h : tie.Need-enum-known-h
-enum-known-h c = search needs
-
-body-in-requires : tie.Need-body-in-requires
-body-in-requires c κs = whole-within _ _ (headed c)
-
-enum-known-f-2 : tie.Need-enum-known-f-2
-enum-known-f-2 c = search needs
-
-enum-known-t : tie.Need-enum-known-t
-enum-known-t c = search needs
-
-sub-message-size : tie.Need-sub-message-size
-sub-message-size c = read c .spare
-
 message-size-requires : tie.Need-message-size-requires
 message-size-requires c κs = omega (arith, whole-within _ _ (headed (at-header c)) .1)
 
 returns : tie.Need-returns
 returns c = no-room _ _ _ (read (c .before .before)) _ _ (c .before .message-size .ensures) (c .if1 .taken)
-
-slice-relend-prefix-put-message : tie.Need-slice-relend-prefix-put-message
-slice-relend-prefix-put-message c = search needs
 
 slice-aggregate-put-message : tie.Need-slice-aggregate-put-message
 slice-aggregate-put-message c =
@@ -98,9 +74,6 @@ returns-3 : tie.Need-returns-3
 returns-3 c =
     no-body _ _ (headed (c .before .before .before .before)) _ _ (sym (c .before .before .before .body-in .ensures) ∙ c .before .f2 .given .1)
 
-same-length : tie.Need-same-length
-same-length c = search needs
-
 returns-4 : tie.Need-returns-4
 returns-4 c =
     let sized = c .before .before .before .before .before in
@@ -110,20 +83,6 @@ returns-4 c =
 pub shorten-spec : {M : Type 1} → statement M
 shorten-spec =
     tie.close
-    (tie.spec
-    whole-header-requires
-    enum-known-f
-    enum-known-h
-    body-in-requires
-    enum-known-f-2
-    enum-known-t
-    sub-message-size
-    message-size-requires
-    returns
-    slice-relend-prefix-put-message
-    slice-aggregate-put-message
-    put-message-requires
-    returns-2
-    returns-3
-    same-length
-    returns-4)
+    (tie.spec (λ c κs. search needs) (λ c. search needs) (λ c. search needs) (λ c κs. whole-within _ _ (headed c))
+    (λ c. search needs) (λ c. search needs) (λ c. read c .spare) message-size-requires returns (λ c. search needs)
+    slice-aggregate-put-message put-message-requires returns-2 returns-3 (λ c. search needs) returns-4)

@@ -2,8 +2,8 @@
 use mathlib.Core.Bool.{false}
 use Rattle.desk_rules.specs.Kinds.{isIdle}
 use mathlib.Core.Path.{_≡_, sym, _∙_}
-use Rattle.zvt.specs.declared.HeaderAnswer.the-variants.{Header}
-use Rattle.zvt.specs.Answers.{headerAnswer}
+use Rattle.zvt_rules.specs.declared.HeaderAnswer.the-variants.{Header}
+use Rattle.zvt_rules.specs.Answers.{headerAnswer}
 use Rattle.desk_rules.specs.Course.{heard}
 use Rattle.desk.proofs.HearLaws.{heard-refused, heard-running, heard-waiting}
 use borrow.Author.Needs.{needs}

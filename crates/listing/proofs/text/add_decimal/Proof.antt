@@ -8,21 +8,6 @@ use borrow.Author.Needs.{needs}
 use Rattle.listing.proofs.text.add_decimal.Statement.{statement}
 use Rattle.listing.proofs.text.add_decimal.Tie as tie
 
-decimal-requires : tie.Need-decimal-requires
-decimal-requires c κs = search needs
-
-array-share-prefix-digits : tie.Need-array-share-prefix-digits
-array-share-prefix-digits c = search needs
-
-slice-aggregate-add-all : tie.Need-slice-aggregate-add-all
-slice-aggregate-add-all c = search needs
-
-add-all-requires : tie.Need-add-all-requires
-add-all-requires c κs = search needs
-
-same-length : tie.Need-same-length
-same-length c = search needs
-
 returns : tie.Need-returns
 returns c =
     let all = c .before .before in
@@ -34,10 +19,5 @@ returns c =
 pub add-decimal-spec : {M : Type 1} → statement M
 add-decimal-spec =
     tie.close
-    (tie.spec
-    decimal-requires
-    array-share-prefix-digits
-    slice-aggregate-add-all
-    add-all-requires
-    same-length
+    (tie.spec (λ c κs. search needs) (λ c. search needs) (λ c. search needs) (λ c κs. search needs) (λ c. search needs)
     returns)

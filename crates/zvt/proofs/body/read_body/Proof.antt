@@ -6,21 +6,6 @@ use Rattle.zvt.proofs.BodyLaws.{plain-body, list-body, secured-body}
 use Rattle.zvt.proofs.body.read_body.Statement.{statement}
 use Rattle.zvt.proofs.body.read_body.Tie as tie
 
-enum-told : tie.Need-enum-told
-enum-told c = search needs
-
-enum-told-2 : tie.Need-enum-told-2
-enum-told-2 c = search needs
-
-read-list-requires : tie.Need-read-list-requires
-read-list-requires c κs = search needs
-
-enum-told-3 : tie.Need-enum-told-3
-enum-told-3 c = search needs
-
-read-secured-requires : tie.Need-read-secured-requires
-read-secured-requires c κs = search needs
-
 returns : tie.Need-returns
 returns c = rw (c .enum-told .given .1) (sym (plain-body _ _))
 
@@ -36,12 +21,5 @@ returns-3 c = rw (c .before .enum-told3 .given .1) (c .read-secured .ensures ∙
 pub read-body-spec : {M : Type 1} → statement M
 read-body-spec =
     tie.close
-    (tie.spec
-    enum-told
-    enum-told-2
-    read-list-requires
-    enum-told-3
-    read-secured-requires
-    returns
-    returns-2
-    returns-3)
+    (tie.spec (λ c. search needs) (λ c. search needs) (λ c κs. search needs) (λ c. search needs) (λ c κs. search needs)
+    returns returns-2 returns-3)

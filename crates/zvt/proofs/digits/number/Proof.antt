@@ -1,16 +1,16 @@
--- `zvt::digits::number` meets its contract. The loop's invariant: what is left, read behind v, gives the number, and v is small enough.
--- Assumes nothing.
+-- `zvt::digits::number` meets its contract. The invariant: what is left, read behind v, gives the number, and v is small
+-- enough; the measure is what is left. Assumes nothing.
 use mathlib.Core.Path.{_≡_, refl, sym, _∙_}
 use Prim.Native.Nat.{_-_, _≤_}
 use native.Mathlib.Omega.{arith}
 use lib.ListN.{length, drop, getD}
-use Rattle.zvt_rules.specs.Digits.{numberFrom, numberOf}
+use Rattle.zvt_rules.specs.Digits.{decimalFrom, numberOf}
 use Rattle.zvt_rules.proofs.DigitLaws.{number-step, number-end, Small, small-step, small-six}
 use Rattle.zvt.proofs.digits.number.Statement.{statement}
 use Rattle.zvt.proofs.digits.number.Tie as tie
 
 abbrev Inv-loop : tie.InvT-loop
-Inv-loop s v₀ i₀ v i = (i ≤ length s) × (numberFrom v (drop i s) ≡ numberOf s) × Small i v
+Inv-loop s v₀ i₀ v i = (i ≤ length s) × (decimalFrom v (drop i s) ≡ numberOf s) × Small i v
 
 abbrev μ-loop : tie.MeasureT-loop
 μ-loop s v₀ i₀ v i = length s - i
@@ -18,9 +18,6 @@ abbrev μ-loop : tie.MeasureT-loop
 loop-holds : tie.Need-loop-holds Inv-loop μ-loop
 unfolding numberOf
 loop-holds c = (omega arith, refl, omega arith)
-
-shared-slice-read-b : tie.Need-shared-slice-read-b Inv-loop μ-loop
-shared-slice-read-b c = omega arith
 
 cast-b : tie.Need-cast-b Inv-loop μ-loop
 cast-b c = omega (arith, c .shared-slice-known .given (c .before .before .loop .i))
@@ -37,12 +34,6 @@ add-v c = let l = c .before .before .loop in omega (arith, c .shared-slice-known
 add-v-2 : tie.Need-add-v-2 Inv-loop μ-loop
 add-v-2 c = let l = c .before .before .loop in omega (arith, c .shared-slice-known .given (l .i), small-six (l .i) (l .v) (omega arith) (l .inv .2))
 
-add-i : tie.Need-add-i Inv-loop μ-loop
-add-i c = omega arith
-
-loop-less : tie.Need-loop-less Inv-loop μ-loop
-loop-less c = omega arith
-
 loop-again : tie.Need-loop-again Inv-loop μ-loop
 loop-again c =
     let l = c .before .before .loop in
@@ -55,17 +46,5 @@ returns c = let l = c .before .loop in let s = c .before .before .args .s .now i
 pub number-spec : {M : Type 1} → statement M
 number-spec =
     tie.close
-    (tie.spec
-    Inv-loop
-    μ-loop
-    loop-holds
-    shared-slice-read-b
-    cast-b
-    mul-v
-    mul-v-2
-    add-v
-    add-v-2
-    add-i
-    loop-less
-    loop-again
-    returns)
+    (tie.spec Inv-loop μ-loop loop-holds (λ c. omega arith) cast-b mul-v mul-v-2 add-v add-v-2 (λ c. omega arith)
+    (λ c. omega arith) loop-again returns)

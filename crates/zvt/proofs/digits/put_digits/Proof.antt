@@ -1,5 +1,5 @@
--- `zvt::digits::put_digits` meets its contract. The loop's invariant: the i bytes before those that stand are the digits of v.
--- The measure is i. Assumes nothing.
+-- `zvt::digits::put_digits` meets its contract. The invariant: the digits of v in i bytes, and the bytes that stand from the
+-- i-th on, are the digits of n; the measure is i. Assumes nothing.
 use mathlib.Core.Path.{_≡_, refl, sym, _∙_}
 use mathlib.Core.List.{_++_, append-nil}
 use Prim.Native.Nat.{suc, _-_, _<_, _≤_}
@@ -20,24 +20,6 @@ abbrev μ-loop : tie.MeasureT-loop
 loop-holds : tie.Need-loop-holds Inv-loop μ-loop
 loop-holds c = let s = c .args .out .now in (omega arith, refl, rw drop-length (append-nil (digitBytesOf (length s) (c .args .n))))
 
-sub-i : tie.Need-sub-i Inv-loop μ-loop
-sub-i c = omega arith
-
-mul-out : tie.Need-mul-out Inv-loop μ-loop
-mul-out c = omega arith
-
-add-out : tie.Need-add-out Inv-loop μ-loop
-add-out c = omega arith
-
-cast-out : tie.Need-cast-out Inv-loop μ-loop
-cast-out c = omega arith
-
-slice-write-out : tie.Need-slice-write-out Inv-loop μ-loop
-slice-write-out c = omega arith
-
-loop-less : tie.Need-loop-less Inv-loop μ-loop
-loop-less c = omega arith
-
 loop-again : tie.Need-loop-again Inv-loop μ-loop
 loop-again c =
     let l = c .before .loop in
@@ -46,9 +28,6 @@ loop-again c =
     let fits : i < length (l .out) = omega arith in
     (simp length-set (omega arith), simp length-set (l .inv .1), sym (digits-put (l .out) i (l .v) fits) ∙ rw (← e) (l .inv .2))
 
-same-length : tie.Need-same-length Inv-loop μ-loop
-same-length c = c .before .loop .inv .1
-
 returns : tie.Need-returns Inv-loop μ-loop
 unfolding digitBytesOf
 returns c = let l = c .before .loop in let e : l .i ≡ 0 = omega arith in rw e at (l .inv .2)
@@ -56,16 +35,5 @@ returns c = let l = c .before .loop in let e : l .i ≡ 0 = omega arith in rw e 
 pub put-digits-spec : {M : Type 1} → statement M
 put-digits-spec =
     tie.close
-    (tie.spec
-    Inv-loop
-    μ-loop
-    loop-holds
-    sub-i
-    mul-out
-    add-out
-    cast-out
-    slice-write-out
-    loop-less
-    loop-again
-    same-length
-    returns)
+    (tie.spec Inv-loop μ-loop loop-holds (λ c. omega arith) (λ c. omega arith) (λ c. omega arith) (λ c. omega arith)
+    (λ c. omega arith) (λ c. omega arith) loop-again (λ c. c .before .loop .inv .1) returns)

@@ -1,4 +1,5 @@
--- `zvt::fields::all_decimal` meets its contract. The loop's invariant: the bytes from i on answer as the whole does. Assumes nothing.
+-- `zvt::fields::all_decimal` meets its contract. The invariant: the bytes from i on answer as the whole does; the measure is
+-- what is left of them. Assumes nothing.
 use mathlib.Core.Path.{_≡_, sym, ap, _∙_}
 use mathlib.Core.Bool.{false}
 use mathlib.Core.Logic.{⊎-elim}
@@ -10,8 +11,8 @@ use lib.Bits.{bitAnd}
 use borrow.Author.Tests.{ltb-true, ltb-false}
 use Rattle.zvt_rules.specs.Reading.{got}
 use Rattle.zvt_rules.specs.Fields.{decimal, unlessUndecimal}
-use Rattle.zvt_rules.proofs.FieldSteps.{undecimal-end, undecimal-on, undecimal-stop}
-use Rattle.zvt.specs.Fields.{asDecimals, decimalsAnswer}
+use Rattle.zvt_rules.proofs.FieldReading.{undecimal-end, undecimal-on, undecimal-stop}
+use Rattle.zvt.specs.FieldSteps.{asDecimals, decimalsAnswer}
 use Rattle.zvt.proofs.Masks.{undecimal-high, undecimal-low, both-decimal}
 use Rattle.zvt.proofs.fields.all_decimal.Statement.{statement}
 use Rattle.zvt.proofs.fields.all_decimal.Tie as tie
@@ -26,15 +27,6 @@ loop-holds : tie.Need-loop-holds Inv-loop μ-loop
 unfolding decimalsAnswer
 loop-holds c = (omega arith, rw add-zero)
 
-shared-slice-read-if1 : tie.Need-shared-slice-read-if1 Inv-loop μ-loop
-shared-slice-read-if1 c = omega arith
-
-shared-slice-read-if2 : tie.Need-shared-slice-read-if2 Inv-loop μ-loop
-shared-slice-read-if2 c = omega arith
-
-add-place : tie.Need-add-place Inv-loop μ-loop
-add-place c = omega arith
-
 returns : tie.Need-returns Inv-loop μ-loop
 unfolding asDecimals
 returns c =
@@ -45,12 +37,6 @@ returns c =
     ⊎-elim (λ w. undecimal-high b byte (w .taken))
     (λ w. undecimal-low b byte (w .0 .left) (ltb-true 9 (bitAnd b 0x0F) (w .2 .taken))) (c .if1 .came) in
     sym (l .inv .1 ∙ ap asDecimals (undecimal-stop _ _ _ (l .i) (c .before .before .loop-test .taken) bad))
-
-add-i : tie.Need-add-i Inv-loop μ-loop
-add-i c = omega arith
-
-loop-less : tie.Need-loop-less Inv-loop μ-loop
-loop-less c = omega arith
 
 loop-again : tie.Need-loop-again Inv-loop μ-loop
 loop-again c =
@@ -69,15 +55,5 @@ returns-2 c =
 pub all-decimal-spec : {M : Type 1} → statement M
 all-decimal-spec =
     tie.close
-    (tie.spec
-    Inv-loop
-    μ-loop
-    loop-holds
-    shared-slice-read-if1
-    shared-slice-read-if2
-    add-place
-    returns
-    add-i
-    loop-less
-    loop-again
-    returns-2)
+    (tie.spec Inv-loop μ-loop loop-holds (λ c. omega arith) (λ c. omega arith) (λ c. omega arith) returns
+    (λ c. omega arith) (λ c. omega arith) loop-again returns-2)

@@ -1,5 +1,5 @@
--- `zvt::fields::digits_of` meets its contract. The loop's invariant: the digits from i on, behind those that gave v, answer as the
--- whole does. Assumes nothing.
+-- `zvt::fields::digits_of` meets its contract. The invariant: the digits from i on, behind those that gave v, answer as the
+-- whole does; the measure is the number of digits left. Assumes nothing.
 use mathlib.Core.Path.{_≡_, sym, ap, _∙_}
 use mathlib.Core.Bool.{true, false}
 use mathlib.Core.Logic.{_⊎_, inl, inr, ⊎-elim}
@@ -10,8 +10,8 @@ use native.Mathlib.Omega.{arith}
 use lib.ListN.{getD, drop}
 use borrow.Author.Tests.{le-leb, lt-leb, ltb-true, ltb-false}
 use Rattle.zvt_rules.specs.Fields.{lengthDigit, digitsOf}
-use Rattle.zvt_rules.proofs.FieldSteps.{digits-end, digits-cut, digits-on, digits-stop}
-use Rattle.zvt.specs.Fields.{asDigits, digitsAnswer}
+use Rattle.zvt_rules.proofs.FieldReading.{digits-end, digits-cut, digits-on, digits-stop}
+use Rattle.zvt.specs.FieldSteps.{asDigits, digitsAnswer}
 use Rattle.zvt.proofs.fields.digits_of.Statement.{statement}
 use Rattle.zvt.proofs.fields.digits_of.Tie as tie
 
@@ -35,17 +35,11 @@ loop-holds : tie.Need-loop-holds Inv-loop μ-loop
 unfolding digitsAnswer
 loop-holds c = (omega arith, omega arith, rw (sub-zero, add-zero))
 
-add-place : tie.Need-add-place Inv-loop μ-loop
-add-place c = omega arith
-
 returns : tie.Need-returns Inv-loop μ-loop
 unfolding asDigits
 returns c =
     let l = c .before .before .loop in
     sym (l .inv .2 ∙ ap asDigits (digits-cut _ (l .v) _ _ (l .i) (c .before .loop-test .taken) (c .if1 .taken)))
-
-shared-slice-read-b : tie.Need-shared-slice-read-b Inv-loop μ-loop
-shared-slice-read-b c = omega arith
 
 returns-2 : tie.Need-returns-2 Inv-loop μ-loop
 unfolding asDigits
@@ -54,9 +48,6 @@ returns-2 c =
     let no-digit : lengthDigit (getD (c .before .before .before .before .before .args .s .now) (l .i) 0) ≡ false =
     digit-not _ (⊎-elim (λ w. inl (w .taken)) (λ w. inr (omega (arith, ltb-true))) (c .if2 .came)) in
     sym (l .inv .2 ∙ ap asDigits (digits-stop _ (l .v) _ _ (l .i) (c .before .before .before .loop-test .taken) (c .before .before .if1 .left) no-digit))
-
-cast-digit : tie.Need-cast-digit Inv-loop μ-loop
-cast-digit c = omega (arith, ltb-false)
 
 mul-v : tie.Need-mul-v Inv-loop μ-loop
 mul-v c =
@@ -67,12 +58,6 @@ add-v : tie.Need-add-v Inv-loop μ-loop
 add-v c =
     let l = c .before .before .before .before .before .loop in
     omega (arith, ltb-false, below (l .i) (omega arith), l .inv .1)
-
-add-i : tie.Need-add-i Inv-loop μ-loop
-add-i c = omega arith
-
-loop-less : tie.Need-loop-less Inv-loop μ-loop
-loop-less c = omega arith
 
 loop-again : tie.Need-loop-again Inv-loop μ-loop
 loop-again c =
@@ -93,18 +78,5 @@ returns-3 c =
 pub digits-of-spec : {M : Type 1} → statement M
 digits-of-spec =
     tie.close
-    (tie.spec
-    Inv-loop
-    μ-loop
-    loop-holds
-    add-place
-    returns
-    shared-slice-read-b
-    returns-2
-    cast-digit
-    mul-v
-    add-v
-    add-i
-    loop-less
-    loop-again
-    returns-3)
+    (tie.spec Inv-loop μ-loop loop-holds (λ c. omega arith) returns (λ c. omega arith) returns-2
+    (λ c. omega (arith, ltb-false)) mul-v add-v (λ c. omega arith) (λ c. omega arith) loop-again returns-3)

@@ -45,76 +45,10 @@ behind-length c =
     let d = measured c in
     bounds-length _ _ (container-format d) (begun-06 d .pre .1) _ _ (sym (c .before .before .before .len-of .ensures) ∙ c .before .size .given .1)
 
-enum-told : tie.Need-enum-told
-enum-told c = search needs
-
-enum-known-format : tie.Need-enum-known-format
-enum-known-format c = search needs
-
-bounds-in-requires : tie.Need-bounds-in-requires
-bounds-in-requires c κs = search needs
-
-enum-known-format-2 : tie.Need-enum-known-format-2
-enum-known-format-2 c = search needs
-
-sub-digits-of : tie.Need-sub-digits-of
-sub-digits-of c = search needs
-
-part-digits-of-start : tie.Need-part-digits-of-start
-part-digits-of-start c = search needs
-
-part-digits-of-end : tie.Need-part-digits-of-end
-part-digits-of-end c = search needs
-
-add-digits-of : tie.Need-add-digits-of
-add-digits-of c = search needs
-
 digits-of-requires : tie.Need-digits-of-requires
 digits-of-requires c κs =
     let d = c .before .before in
     (omega arith, digits-few _ _ (omega (arith, d .before .before .shared-slice-known .given 0)) (digits-format d))
-
-enum-known-f : tie.Need-enum-known-f
-enum-known-f c = search needs
-
-enum-known-v : tie.Need-enum-known-v
-enum-known-v c = search needs
-
-add-bounds-in : tie.Need-add-bounds-in
-add-bounds-in c = let h = behind-digits c in omega arith
-
-bounds-in-requires-2 : tie.Need-bounds-in-requires-2
-bounds-in-requires-2 c κs = let h = behind-digits c in search needs
-
-enum-told-2 : tie.Need-enum-told-2
-enum-told-2 c = search needs
-
-sub-len-of : tie.Need-sub-len-of
-sub-len-of c = search needs
-
-part-len-of-start : tie.Need-part-len-of-start
-part-len-of-start c = search needs
-
-part-len-of-end : tie.Need-part-len-of-end
-part-len-of-end c = search needs
-
-add-len-of : tie.Need-add-len-of
-add-len-of c = search needs
-
-len-of-requires : tie.Need-len-of-requires
-len-of-requires c κs = search needs
-
-enum-known-f-2 : tie.Need-enum-known-f-2
-enum-known-f-2 c = search needs
-
-enum-known-size : tie.Need-enum-known-size
-enum-known-size c = search needs
-
-add-bounds-in-2 : tie.Need-add-bounds-in-2
-add-bounds-in-2 c = let h = behind-length c in omega arith
-
-bounds-in-requires-3 : tie.Need-bounds-in-requires-3
-bounds-in-requires-3 c κs = let h = behind-length c in search needs
 
 returns : tie.Need-returns
 returns c = sym (bounds-unknown _ _ (sym (c .before .before .before .pre .2) ∙ c .enum-told .given .1))
@@ -142,33 +76,9 @@ returns-6 c = c .bounds-in3 .ensures ∙ sym (behind-length (c .before) .1)
 pub field-bounds-spec : {M : Type 1} → statement M
 field-bounds-spec =
     tie.close
-    (tie.spec
-    enum-told
-    enum-known-format
-    bounds-in-requires
-    enum-known-format-2
-    sub-digits-of
-    part-digits-of-start
-    part-digits-of-end
-    add-digits-of
-    digits-of-requires
-    enum-known-f
-    enum-known-v
-    add-bounds-in
-    bounds-in-requires-2
-    enum-told-2
-    sub-len-of
-    part-len-of-start
-    part-len-of-end
-    add-len-of
-    len-of-requires
-    enum-known-f-2
-    enum-known-size
-    add-bounds-in-2
-    bounds-in-requires-3
-    returns
-    returns-2
-    returns-3
-    returns-4
-    returns-5
-    returns-6)
+    (tie.spec (λ c. search needs) (λ c. search needs) (λ c κs. search needs) (λ c. search needs) (λ c. search needs)
+    (λ c. search needs) (λ c. search needs) (λ c. search needs) digits-of-requires (λ c. search needs)
+    (λ c. search needs) (λ c. let h = behind-digits c in omega arith) (λ c κs. let h = behind-digits c in search needs)
+    (λ c. search needs) (λ c. search needs) (λ c. search needs) (λ c. search needs) (λ c. search needs)
+    (λ c κs. search needs) (λ c. search needs) (λ c. search needs) (λ c. let h = behind-length c in omega arith)
+    (λ c κs. let h = behind-length c in search needs) returns returns-2 returns-3 returns-4 returns-5 returns-6)

@@ -15,7 +15,7 @@ use Rattle.zvt_rules.proofs.Format.{the-type}
 use Rattle.zvt.specs.declared.objects.Bounds.{Bounds}
 use Rattle.zvt.specs.declared.objects.BoundsRead.the-variants.{Bounds as bounds-read}
 use Rattle.zvt.specs.declared.objects.PartRead.the-variants.{Part}
-use Rattle.zvt.specs.Fields.{fieldBounds}
+use Rattle.zvt.specs.FieldSteps.{fieldBounds}
 use Rattle.zvt.proofs.Slices.{bytes-known}
 use Rattle.zvt.proofs.Tables.{allIn, at-key}
 use Rattle.zvt.proofs.FieldReads.{Answered, field-unknown, field-twice, field-no-bounds, field-value, field-plain}
@@ -61,15 +61,6 @@ is-container c =
     (bytes-known _ (once d .before .before .before .before .shared-slice-known .given)) _
     (sym (c .before .before .before .read-run .ensures) ∙ c .before .r .given .1)
 
-shared-slice-read-format-of : tie.Need-shared-slice-read-format-of
-shared-slice-read-format-of c = search needs
-
-format-of-requires : tie.Need-format-of-requires
-format-of-requires c κs = search needs
-
-enum-told : tie.Need-enum-told
-enum-told c = search needs
-
 returns : tie.Need-returns
 returns c = sym (field-unknown _ _ _ _ (sym (c .before .before .format-of .ensures) ∙ c .enum-told .given .1))
 
@@ -79,46 +70,13 @@ returns-2 c =
     let other = at-key (λ k. not (eqb k 0)) (1 ∷ 2 ∷ 3 ∷ []) refl _ (c .before .match .keys2) in
     sym (field-twice _ _ _ _ (ap unknown (sym (c .before .before .format-of .ensures)) ∙ known _ other) (c .if1 .taken))
 
-field-bounds-requires : tie.Need-field-bounds-requires
-field-bounds-requires c κs = search needs
-
-enum-known-f : tie.Need-enum-known-f
-enum-known-f c = search needs
-
-enum-known-b : tie.Need-enum-known-b
-enum-known-b c = search needs
-
-read-plain-requires : tie.Need-read-plain-requires
-read-plain-requires c κs = let h = lies (c .before) in search needs
-
 returns-3 : tie.Need-returns-3
 returns-3 c =
     let d = c .before in
     c .read-plain .ensures ∙ sym (field-plain _ _ _ _ (once (d .before) .if1 .left) _ (found (d .before)) (not-true _ (d .if2 .taken)))
 
-sub-read-run : tie.Need-sub-read-run
-sub-read-run c = lies (c .before) .0
-
-part-read-run-start : tie.Need-part-read-run-start
-part-read-run-start c = lies (c .before) .0
-
-part-read-run-end : tie.Need-part-read-run-end
-part-read-run-end c = lies (c .before) .1
-
-add-read-run : tie.Need-add-read-run
-add-read-run c = let h = lies (c .before .before) in omega arith
-
 read-run-requires : tie.Need-read-run-requires
 read-run-requires c κs = let h = lies (c .before .before) in omega (arith, c .read-run-arg .given .2)
-
-enum-known-f-2 : tie.Need-enum-known-f-2
-enum-known-f-2 c = search needs
-
-enum-known-r : tie.Need-enum-known-r
-enum-known-r c = search needs
-
-tally-of-requires : tie.Need-tally-of-requires
-tally-of-requires c κs = is-container c .0
 
 returns-4 : tie.Need-returns-4
 returns-4 c =
@@ -136,25 +94,8 @@ returns-6 c = ap Part (c .tally-of .ensures) ∙ sym (is-container (c .before) .
 pub read-field-spec : {M : Type 1} → statement M
 read-field-spec =
     tie.close
-    (tie.spec
-    shared-slice-read-format-of
-    format-of-requires
-    enum-told
-    returns
-    returns-2
-    field-bounds-requires
-    enum-known-f
-    enum-known-b
-    read-plain-requires
-    returns-3
-    sub-read-run
-    part-read-run-start
-    part-read-run-end
-    add-read-run
-    read-run-requires
-    enum-known-f-2
-    enum-known-r
-    tally-of-requires
-    returns-4
-    returns-5
-    returns-6)
+    (tie.spec (λ c. search needs) (λ c κs. search needs) (λ c. search needs) returns returns-2 (λ c κs. search needs)
+    (λ c. search needs) (λ c. search needs) (λ c κs. let h = lies (c .before) in search needs) returns-3
+    (λ c. lies (c .before) .0) (λ c. lies (c .before) .0) (λ c. lies (c .before) .1)
+    (λ c. let h = lies (c .before .before) in omega arith) read-run-requires (λ c. search needs) (λ c. search needs)
+    (λ c κs. is-container c .0) returns-4 returns-5 returns-6)

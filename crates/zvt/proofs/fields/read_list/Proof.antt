@@ -1,12 +1,12 @@
--- `zvt::fields::read_list` meets its contract. The loop's invariant: the array marks the ids that came, and the bytes from i on,
--- with what is spared before, answer as the whole list does. Assumes nothing.
+-- `zvt::fields::read_list` meets its contract. The invariant: the array marks the ids that came, and the bytes from i on, with
+-- what is spared before, answer as the whole list does; the measure is what is left of the bytes. Assumes nothing.
 use mathlib.Core.Path.{_≡_, sym, _∙_}
 use mathlib.Core.List.{List, [], _∷_}
 use Prim.Native.Nat.{ℕ, _-_, _<_, _≤_}
 use native.Mathlib.Omega.{arith}
 use lib.ListN.{length, getD}
 use borrow.Author.Needs.{needs}
-use Rattle.zvt.specs.Fields.{listAnswer}
+use Rattle.zvt.specs.FieldSteps.{listAnswer}
 use Rattle.zvt.proofs.Slices.{bytes-known}
 use Rattle.zvt.proofs.ListLaws.{Marks, marks-none, marks-more, listFrom, GoesOn, list-begins, list-ends, list-stops, list-goes-on}
 use Rattle.zvt.proofs.fields.read_list.Statement.{statement}
@@ -43,32 +43,11 @@ goes c =
 loop-holds : tie.Need-loop-holds Inv-loop μ-loop
 loop-holds c = (omega arith, omega arith, [], marks-none, list-begins _ _)
 
-shared-slice-read-id : tie.Need-shared-slice-read-id Inv-loop μ-loop
-shared-slice-read-id c = search needs
-
 cast-id : tie.Need-cast-id Inv-loop μ-loop
 cast-id c = omega (arith, c .shared-slice-known2 .given (c .before .before .loop .i))
 
-sub-read-field : tie.Need-sub-read-field Inv-loop μ-loop
-sub-read-field c = search needs
-
-part-read-field-start : tie.Need-part-read-field-start Inv-loop μ-loop
-part-read-field-start c = search needs
-
-part-read-field-end : tie.Need-part-read-field-end Inv-loop μ-loop
-part-read-field-end c = search needs
-
-add-read-field : tie.Need-add-read-field Inv-loop μ-loop
-add-read-field c = search needs
-
-array-read-read-field : tie.Need-array-read-read-field Inv-loop μ-loop
-array-read-read-field c = id-byte c
-
 read-field-requires : tie.Need-read-field-requires Inv-loop μ-loop
 read-field-requires c κs = (omega arith, omega (arith, c .read-field-arg .given .2))
-
-enum-known-f : tie.Need-enum-known-f Inv-loop μ-loop
-enum-known-f c = search needs
 
 returns : tie.Need-returns Inv-loop μ-loop
 returns c =
@@ -78,21 +57,6 @@ returns c =
     ∙ list-stops (begun d .args .at) (begun d .args .s .now) (l .inv .2) (l .objects) (l .i) (l .spare) _ (l .inv .3 .1 _ (id-byte d))
     (d .before .before .loop-test .taken) _
     (sym (c .before .before .before .read-field .ensures) ∙ c .before .f .given .1))
-
-enum-known-t : tie.Need-enum-known-t Inv-loop μ-loop
-enum-known-t c = search needs
-
-array-write-seen : tie.Need-array-write-seen Inv-loop μ-loop
-array-write-seen c = id-byte (c .before .before .before .before)
-
-add-i : tie.Need-add-i Inv-loop μ-loop
-add-i c = let h = goes (c .before) in omega arith
-
-add-spare : tie.Need-add-spare Inv-loop μ-loop
-add-spare c = let h = goes (c .before .before) in omega arith
-
-loop-less : tie.Need-loop-less Inv-loop μ-loop
-loop-less c = let h = goes (c .before .before) in omega arith
 
 loop-again : tie.Need-loop-again Inv-loop μ-loop
 loop-again c =
@@ -114,24 +78,8 @@ returns-2 c =
 pub read-list-spec : {M : Type 1} → statement M
 read-list-spec =
     tie.close
-    (tie.spec
-    Inv-loop
-    μ-loop
-    loop-holds
-    shared-slice-read-id
-    cast-id
-    sub-read-field
-    part-read-field-start
-    part-read-field-end
-    add-read-field
-    array-read-read-field
-    read-field-requires
-    enum-known-f
-    returns
-    enum-known-t
-    array-write-seen
-    add-i
-    add-spare
-    loop-less
-    loop-again
-    returns-2)
+    (tie.spec Inv-loop μ-loop loop-holds (λ c. search needs) cast-id (λ c. search needs) (λ c. search needs)
+    (λ c. search needs) (λ c. search needs) (λ c. id-byte c) read-field-requires (λ c. search needs) returns
+    (λ c. search needs) (λ c. id-byte (c .before .before .before .before))
+    (λ c. let h = goes (c .before) in omega arith) (λ c. let h = goes (c .before .before) in omega arith)
+    (λ c. let h = goes (c .before .before) in omega arith) loop-again returns-2)

@@ -7,7 +7,8 @@ use native.Mathlib.Omega.{arith}
 use lib.Dec.{eqb}
 use Rattle.zvt_rules.specs.Reading.{among, pick}
 use Rattle.zvt_rules.specs.Fields.{holdsDigits}
-use Rattle.zvt.proofs.Tables.{allIn, allFrom, anyOf, Table, keyed, ranged}
+use Rattle.zvt_rules.proofs.Tests.{allFrom}
+use Rattle.zvt.proofs.Tables.{allIn, anyOf, Table, keyed, ranged}
 use Rattle.zvt.proofs.format.holds_digits.Statement.{statement}
 use Rattle.zvt.proofs.format.holds_digits.Tie as tie
 

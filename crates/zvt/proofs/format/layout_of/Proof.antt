@@ -10,8 +10,8 @@ use types.Run.{OneOf}
 use Rattle.zvt_rules.specs.declared.Layout.the-variants.{Plain, List as FieldList, Secured}
 use Rattle.zvt_rules.specs.Reading.{among}
 use Rattle.zvt_rules.specs.Message.{layoutOf}
-use Rattle.zvt_rules.proofs.Readings.{pick-true, pick-false}
-use Rattle.zvt.proofs.Tables.{allIn, allFrom, at-key, at-from, NoneOf, anyOf, not-any}
+use Rattle.zvt_rules.proofs.Tests.{pick-true, pick-false, allFrom, at-from}
+use Rattle.zvt.proofs.Tables.{allIn, at-key, NoneOf, anyOf, not-any}
 use Rattle.zvt.proofs.format.layout_of.Statement.{statement}
 use Rattle.zvt.proofs.format.layout_of.Tie as tie
 

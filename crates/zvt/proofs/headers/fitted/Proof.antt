@@ -11,9 +11,6 @@ use Rattle.zvt.proofs.headers.fitted.Tie as tie
 returns : tie.Need-returns
 returns c = sym (fit-over (c .before .before .args .h) (c .before .before .args .s .now) (c .if1 .taken))
 
-sub-if3 : tie.Need-sub-if3
-sub-if3 c = search needs
-
 returns-2 : tie.Need-returns-2
 returns-2 c =
     let start = c .before .before .before .before in
@@ -27,4 +24,4 @@ returns-3 c =
     (omega (arith, ltb-false)))
 
 pub fitted-spec : {M : Type 1} → statement M
-fitted-spec = tie.close (tie.spec returns sub-if3 returns-2 returns-3)
+fitted-spec = tie.close (tie.spec returns (λ c. search needs) returns-2 returns-3)

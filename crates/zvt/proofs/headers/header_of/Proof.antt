@@ -9,47 +9,11 @@ use Rattle.zvt.proofs.headers.header_of.Tie as tie
 returns : tie.Need-returns
 returns c = sym (header-none (c .before .before .args .s .now) (c .if1 .taken))
 
-shared-slice-read-class : tie.Need-shared-slice-read-class
-shared-slice-read-class c = search needs
-
-shared-slice-read-instruction : tie.Need-shared-slice-read-instruction
-shared-slice-read-instruction c = search needs
-
-shared-slice-read-b : tie.Need-shared-slice-read-b
-shared-slice-read-b c = search needs
-
-cast-length : tie.Need-cast-length
-cast-length c = omega (arith, c .before .shared-slice-known4 .given 2)
-
-fitted-requires : tie.Need-fitted-requires
-fitted-requires c κs = search needs
-
 returns-2 : tie.Need-returns-2
 returns-2 c = c .fitted .ensures ∙ sym (header-short _ (omega arith) (c .before .if2 .taken))
 
 returns-3 : tie.Need-returns-3
 returns-3 c = sym (header-cut _ (omega arith) (c .before .if2 .left) (c .if3 .taken))
-
-shared-slice-read-low : tie.Need-shared-slice-read-low
-shared-slice-read-low c = search needs
-
-cast-low : tie.Need-cast-low
-cast-low c = omega (arith, c .shared-slice-known5 .given 3)
-
-shared-slice-read-high : tie.Need-shared-slice-read-high
-shared-slice-read-high c = search needs
-
-cast-high : tie.Need-cast-high
-cast-high c = omega (arith, c .shared-slice-known6 .given 4)
-
-mul-length : tie.Need-mul-length
-mul-length c = omega (arith, c .shared-slice-known6 .given 4)
-
-add-length : tie.Need-add-length
-add-length c = omega (arith, c .shared-slice-known6 .given 3, c .shared-slice-known6 .given 4)
-
-fitted-requires-2 : tie.Need-fitted-requires-2
-fitted-requires-2 c κs = search needs
 
 returns-4 : tie.Need-returns-4
 returns-4 c = c .fitted2 .ensures ∙ sym (header-long _ (omega arith) (c .before .before .before .before .if2 .left))
@@ -57,20 +21,9 @@ returns-4 c = c .fitted2 .ensures ∙ sym (header-long _ (omega arith) (c .befor
 pub header-of-spec : {M : Type 1} → statement M
 header-of-spec =
     tie.close
-    (tie.spec
-    returns
-    shared-slice-read-class
-    shared-slice-read-instruction
-    shared-slice-read-b
-    cast-length
-    fitted-requires
-    returns-2
-    returns-3
-    shared-slice-read-low
-    cast-low
-    shared-slice-read-high
-    cast-high
-    mul-length
-    add-length
-    fitted-requires-2
+    (tie.spec returns (λ c. search needs) (λ c. search needs) (λ c. search needs)
+    (λ c. omega (arith, c .before .shared-slice-known4 .given 2)) (λ c κs. search needs) returns-2 returns-3
+    (λ c. search needs) (λ c. omega (arith, c .shared-slice-known5 .given 3)) (λ c. search needs)
+    (λ c. omega (arith, c .shared-slice-known6 .given 4)) (λ c. omega (arith, c .shared-slice-known6 .given 4))
+    (λ c. omega (arith, c .shared-slice-known6 .given 3, c .shared-slice-known6 .given 4)) (λ c κs. search needs)
     returns-4)

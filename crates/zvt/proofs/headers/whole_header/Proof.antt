@@ -6,15 +6,6 @@ use Rattle.zvt.proofs.HeaderLaws.{first-within, whole-none, whole-over,
 use Rattle.zvt.proofs.headers.whole_header.Statement.{statement}
 use Rattle.zvt.proofs.headers.whole_header.Tie as tie
 
-header-of-requires : tie.Need-header-of-requires
-header-of-requires c κs = search needs
-
-enum-known-f : tie.Need-enum-known-f
-enum-known-f c = search needs
-
-enum-known-h : tie.Need-enum-known-h
-enum-known-h c = search needs
-
 sub-if1 : tie.Need-sub-if1
 sub-if1 c =
     let called = c .before .before .before .before in
@@ -37,4 +28,4 @@ returns-3 c =
 pub whole-header-spec : {M : Type 1} → statement M
 whole-header-spec =
     tie.close
-    (tie.spec header-of-requires enum-known-f enum-known-h sub-if1 returns returns-2 returns-3)
+    (tie.spec (λ c κs. search needs) (λ c. search needs) (λ c. search needs) sub-if1 returns returns-2 returns-3)

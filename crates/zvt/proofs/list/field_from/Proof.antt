@@ -1,12 +1,11 @@
 -- `zvt::list::field_from` meets its contract: the list is read, so that its first field has bounds. Assumes nothing.
-use mathlib.Core.Path.{_≡_, sym, ap, _∙_}
+use mathlib.Core.Path.{sym, _∙_}
 use Prim.Native.Nat.{_+_, _<_, _≤_}
 use native.Mathlib.Omega.{arith}
 use lib.ListN.{getD}
 use borrow.Author.Needs.{needs}
-use Rattle.zvt_rules.proofs.ObjectSteps.{part-length}
-use Rattle.zvt.specs.declared.FieldAnswer.the-variants.{Field}
-use Rattle.zvt.specs.List.{firstListed, listedIn}
+use Rattle.zvt_rules.proofs.ObjectReading.{part-length}
+use Rattle.zvt.specs.ListSteps.{FieldHere, field, none}
 use Rattle.zvt.proofs.Slices.{bytes-known}
 use Rattle.zvt.proofs.ListedLaws.{part-first, list-empty, first-is, first-never}
 use Rattle.zvt.proofs.list.field_from.Statement.{statement}
@@ -20,29 +19,10 @@ found : (c : tie.After-b)
     → let a = asked c .before .before .before .before .before .before .args in
     let x = c .b .given .0 .0 in
     (x .from ≤ x .to) × (a .at + x .to ≤ a .end)
-    × (Field (record { id = getD (a .s .now) (a .at) 0; from = a .at + x .from; to = a .at + x .to }) ≡ firstListed (listedIn (a .at) (a .end) (a .s .now)))
+    × FieldHere (a .at) (a .end) (a .s .now) (record { id = getD (a .s .now) (a .at) 0; from = a .at + x .from; to = a .at + x .to })
 found c =
     let g = asked c .before .before .before .before in
     first-is _ _ _ (bytes-known _ (g .before .shared-slice-known .given)) (g .before .before .pre) (g .if1 .left) _ (sym (asked c .field-bounds .ensures) ∙ c .b .given .1)
-
-returns : tie.Need-returns
-unfolding firstListed
-returns c = sym (ap firstListed (list-empty _ _ _ (c .if1 .taken)))
-
-shared-slice-read-id : tie.Need-shared-slice-read-id
-shared-slice-read-id c = search needs
-
-sub-field-bounds : tie.Need-sub-field-bounds
-sub-field-bounds c = search needs
-
-part-field-bounds-start : tie.Need-part-field-bounds-start
-part-field-bounds-start c = search needs
-
-part-field-bounds-end : tie.Need-part-field-bounds-end
-part-field-bounds-end c = search needs
-
-format-of-requires : tie.Need-format-of-requires
-format-of-requires c κs = search needs
 
 field-bounds-requires : tie.Need-field-bounds-requires
 field-bounds-requires c κs =
@@ -53,18 +33,6 @@ field-bounds-requires c κs =
     let size = part-length (a .s .now) (a .at) (a .end) (l .order) (l .inside) in
     (omega (arith, size, l .short), omega (arith, size), rw (part-first (a .at) (a .end) (a .s .now) (l .order) (l .inside) less) (c .format-of .ensures))
 
-enum-told : tie.Need-enum-told
-enum-told c = search needs
-
-enum-known-b : tie.Need-enum-known-b
-enum-known-b c = search needs
-
-add-from : tie.Need-add-from
-add-from c = let k = found (c .before .before) in omega (arith, k .0, k .1)
-
-add-to : tie.Need-add-to
-add-to c = let k = found (c .before .before .before) in omega (arith, k .1)
-
 returns-2 : tie.Need-returns-2
 returns-2 c =
     let g = c .before .before .before .before .before .before in
@@ -72,23 +40,11 @@ returns-2 c =
     (first-never _ _ _ (bytes-known _ (g .before .shared-slice-known .given)) (g .before .before .pre) (g .if1 .left) _
     (sym (c .before .before .field-bounds .ensures) ∙ c .enum-told .given .1))
 
-returns-3 : tie.Need-returns-3
-returns-3 c = found (c .before .before .before) .2
-
 pub field-from-spec : {M : Type 1} → statement M
 field-from-spec =
     tie.close
-    (tie.spec
-    returns
-    shared-slice-read-id
-    sub-field-bounds
-    part-field-bounds-start
-    part-field-bounds-end
-    format-of-requires
-    field-bounds-requires
-    enum-told
-    enum-known-b
-    add-from
-    add-to
-    returns-2
-    returns-3)
+    (tie.spec (λ c. none (list-empty _ _ _ (c .if1 .taken))) (λ c. search needs) (λ c. search needs) (λ c. search needs)
+    (λ c. search needs) (λ c κs. search needs) field-bounds-requires (λ c. search needs) (λ c. search needs)
+    (λ c. let k = found (c .before .before) in omega arith)
+    (λ c. let k = found (c .before .before .before) in omega arith) returns-2
+    (λ c. field (found (c .before .before .before) .2)))

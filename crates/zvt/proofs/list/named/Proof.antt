@@ -1,12 +1,12 @@
--- `zvt::list::named` meets its contract. The loop's invariant: from `at` on stands a list, and no field before it has the id.
--- The measure is what is left of the list. Assumes nothing.
-use mathlib.Core.Path.{_≡_, refl, sym, ap, _∙_}
+-- `zvt::list::named` meets its contract. The invariant: from `at` on stands a list, and no field before it has the id; the
+-- measure is what is left of the list. Assumes nothing.
+use mathlib.Core.Path.{_≡_, refl, _∙_}
 use Prim.Native.Nat.{_-_}
 use native.Mathlib.Omega.{arith}
 use borrow.Author.Needs.{needs}
-use Rattle.zvt.specs.List.{ListIn, namedListed, listedIn}
-use Rattle.zvt.proofs.Slices.{bytes-known}
-use Rattle.zvt.proofs.ListedLaws.{Next, next-in, named-end, named-here, named-next}
+use Rattle.zvt.specs.ListSteps.{FieldHere, ListIn, listedIn}
+use Rattle.zvt_rules.specs.Listed.{namedListed}
+use Rattle.zvt.proofs.ListedLaws.{field-here, none-here, named-end, named-here, named-next}
 use Rattle.zvt.proofs.list.named.Statement.{statement}
 use Rattle.zvt.proofs.list.named.Tie as tie
 
@@ -17,59 +17,24 @@ abbrev μ-loop : tie.MeasureT-loop
 μ-loop s from end id at₀ at = end - at
 
 -- where the field that was found, and the list behind it, lie
-next : (c : tie.After-f Inv-loop μ-loop)
-    → let l = c .before .before .before in let a = l .before .before .args in Next (l .loop .at) (a .end) (a .s .now) (c .f .given .0 .0)
-next c =
-    let l = c .before .before .before in
-    next-in _ _ _ _ (bytes-known _ (l .before .shared-slice-known .given)) (l .loop .inv .0) (sym (c .before .before .field-from .ensures) ∙ c .f .given .1)
-
-loop-holds : tie.Need-loop-holds Inv-loop μ-loop
-loop-holds c = (c .before .pre, refl)
-
-field-from-requires : tie.Need-field-from-requires Inv-loop μ-loop
-field-from-requires c κs = c .loop .inv .0
-
-enum-told : tie.Need-enum-told Inv-loop μ-loop
-enum-told c = search needs
+here : (c : tie.After-f Inv-loop μ-loop)
+    → let l = c .before .before .before in let a = l .before .before .args in FieldHere (l .loop .at) (a .end) (a .s .now) (c .f .given .0 .0)
+here c = field-here (c .before .before .field-from .ensures) (c .f .given .1)
 
 returns : tie.Need-returns Inv-loop μ-loop
-returns c =
-    let g = c .before .before in
-    let l = g .before .loop in
-    sym (named-end _ _ (sym (g .field-from .ensures) ∙ c .enum-told .given .1)) ∙ l .inv .1
-
-enum-known-f : tie.Need-enum-known-f Inv-loop μ-loop
-enum-known-f c = search needs
+returns c = let g = c .before .before in named-end _ (none-here (g .field-from .ensures) (c .enum-told .given .1)) ∙ g .before .loop .inv .1
 
 returns-2 : tie.Need-returns-2 Inv-loop μ-loop
-returns-2 c =
-    let f = c .before .before .before in
-    let g = f .before .before .before in
-    sym (named-here _ _ _ (c .if1 .taken)) ∙ ap (namedListed _) (sym (next f .2)) ∙ g .loop .inv .1
+returns-2 c = let f = c .before .before .before in named-here (here f) _ (c .if1 .taken) ∙ f .before .before .before .loop .inv .1
 
 loop-less : tie.Need-loop-less Inv-loop μ-loop
-loop-less c =
-    let f = c .before .before .before in
-    let g = f .before .before .before in
-    omega (arith, next f .0, next f .1 .order)
+loop-less c = let h = here (c .before .before .before) in omega (arith, h .rest .order)
 
 loop-again : tie.Need-loop-again Inv-loop μ-loop
-loop-again c =
-    let f = c .before .before .before in
-    let g = f .before .before .before in
-    (next f .1, sym (named-next _ _ _ (c .if1 .left)) ∙ ap (namedListed _) (sym (next f .2)) ∙ g .loop .inv .1)
+loop-again c = let f = c .before .before .before in (here f .rest, named-next (here f) _ (c .if1 .left) ∙ f .before .before .before .loop .inv .1)
 
 pub named-spec : {M : Type 1} → statement M
 named-spec =
     tie.close
-    (tie.spec
-    Inv-loop
-    μ-loop
-    loop-holds
-    field-from-requires
-    enum-told
-    returns
-    enum-known-f
-    returns-2
-    loop-less
-    loop-again)
+    (tie.spec Inv-loop μ-loop (λ c. (c .before .pre, refl)) (λ c κs. c .loop .inv .0) (λ c. search needs) returns
+    (λ c. search needs) returns-2 loop-less loop-again)

@@ -9,15 +9,6 @@ use Rattle.zvt.proofs.list.status_place.Tie as tie
 got : (c : tie.After-m) → Was (c .before .before .before .before .args .s .now) (c .m .given .0 .0)
 got c = (bytes-known _ (c .before .before .before .shared-slice-known .given), sym (c .before .before .read .ensures) ∙ c .m .given .1)
 
-read-requires : tie.Need-read-requires
-read-requires c κs = search needs
-
-enum-told : tie.Need-enum-told
-enum-told c = search needs
-
-enum-known-m : tie.Need-enum-known-m
-enum-known-m c = search needs
-
 returns : tie.Need-returns
 returns c = let m = c .before .before .before in other-class _ _ (got m) (c .if1 .taken)
 
@@ -32,4 +23,5 @@ returns-4 c = let m = c .before .before .before .before .before in status-is _ _
 
 pub status-place-spec : {M : Type 1} → statement M
 status-place-spec =
-    tie.close (tie.spec read-requires enum-told enum-known-m returns returns-2 returns-3 returns-4)
+    tie.close
+    (tie.spec (λ c κs. search needs) (λ c. search needs) (λ c. search needs) returns returns-2 returns-3 returns-4)

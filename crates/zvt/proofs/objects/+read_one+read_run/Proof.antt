@@ -9,7 +9,7 @@ use borrow.Author.Tests.{not-true, not-false}
 use borrow.Fn.Kinds.{In}
 use borrow.Fn.PlainCycle.{Measures, is, falls, and}
 use Rattle.zvt_rules.specs.Grammar.{Bytes}
-use Rattle.zvt.specs.Objects.{headAnswer, oneAnswer}
+use Rattle.zvt.specs.ObjectSteps.{headAnswer, oneAnswer}
 use Rattle.zvt.specs.declared.objects.Bounds.{Bounds}
 use Rattle.zvt.specs.declared.objects.BoundsRead.the-variants.{Bounds as bounds-read}
 use Rattle.zvt.specs.declared.objects.PartRead.the-variants.{Part}
@@ -98,26 +98,8 @@ module _ (t : ℕ) where
       one-branch _ _ _ _ (e .before .if1 .left) (e .if2 .left) (one-bytes e) _ (found d) (not-false _ (inside c .if3 .left)) _
       (sym (c .before .before .before .read-run .ensures) ∙ c .before .r .given .1)
 
-  one-returns : read-one-lts.Need-returns one-claims one-at read-one.Post
-  one-returns c = sym (one-full _ _ _ _ (c .if1 .taken))
-
   one-returns-2 : read-one-lts.Need-returns-2 one-claims one-at read-one.Post
   one-returns-2 c = sym (one-deep _ _ _ _ (c .before .if1 .left) (c .if2 .taken))
-
-  one-add-count : read-one-lts.Need-add-count one-claims one-at read-one.Post
-  one-add-count c = search needs
-
-  one-head-of-requires : read-one-lts.Need-head-of-requires one-claims one-at read-one.Post
-  one-head-of-requires c κs = search needs
-
-  one-enum-known-f : read-one-lts.Need-enum-known-f one-claims one-at read-one.Post
-  one-enum-known-f c = search needs
-
-  one-enum-known-b : read-one-lts.Need-enum-known-b one-claims one-at read-one.Post
-  one-enum-known-b c = search needs
-
-  one-tally-of-requires : read-one-lts.Need-tally-of-requires one-claims one-at read-one.Post
-  one-tally-of-requires c κs = is-leaf c .0
 
   one-returns-3 : read-one-lts.Need-returns-3 one-claims one-at read-one.Post
   one-returns-3 c = ap Part (c .tally-of .ensures) ∙ sym (is-leaf (c .before) .1)
@@ -134,23 +116,11 @@ module _ (t : ℕ) where
   one-add-read-run : read-one-lts.Need-add-read-run one-claims one-at read-one.Post
   one-add-read-run c = let h = value-in _ _ _ (found (c .before .before .before)) in omega arith
 
-  one-sub-read-run-2 : read-one-lts.Need-sub-read-run-2 one-claims one-at read-one.Post
-  one-sub-read-run-2 c = let h = room (c .before .before .before) .if2 .left in omega arith
-
   one-read-run-requires : read-one-lts.Need-read-run-requires one-claims one-at read-one.Post
   one-read-run-requires c κs =
       let d = c .before .before .before in
       let h = value-in _ _ _ (found d) in
       (omega (arith, c .read-run-arg .given .2, begun (room d) .pre .0), omega arith)
-
-  one-enum-known-f-2 : read-one-lts.Need-enum-known-f-2 one-claims one-at read-one.Post
-  one-enum-known-f-2 c = search needs
-
-  one-enum-known-r : read-one-lts.Need-enum-known-r one-claims one-at read-one.Post
-  one-enum-known-r c = search needs
-
-  one-tally-of-requires-2 : read-one-lts.Need-tally-of-requires-2 one-claims one-at read-one.Post
-  one-tally-of-requires-2 c κs = is-branch c .0
 
   one-returns-4 : read-one-lts.Need-returns-4 one-claims one-at read-one.Post
   one-returns-4 c =
@@ -197,43 +167,13 @@ module _ (t : ℕ) where
       run-goes _ _ _ _ (omega arith) (run-bytes d) _ (first d) _
       (sym (c .before .before .before .before .before .read-run .ensures) ∙ c .before .before .before .r .given .1)
 
-  run-returns : read-run-lts.Need-returns run-claims run-at read-run.Post
-  run-returns c = sym (run-empty _ _ _ _ (c .if1 .taken))
-
   run-read-one-requires : read-run-lts.Need-read-one-requires run-claims run-at read-run.Post
   run-read-one-requires c κs = (omega (arith, c .before .before .pre .0), omega arith)
-
-  run-enum-known-f : read-run-lts.Need-enum-known-f run-claims run-at read-run.Post
-  run-enum-known-f c = search needs
-
-  run-enum-known-o : read-run-lts.Need-enum-known-o run-claims run-at read-run.Post
-  run-enum-known-o c = search needs
-
-  run-sub-read-run : read-run-lts.Need-sub-read-run run-claims run-at read-run.Post
-  run-sub-read-run c = first-in _ _ _ _ _ (first c) .1
-
-  run-part-read-run-start : read-run-lts.Need-part-read-run-start run-claims run-at read-run.Post
-  run-part-read-run-start c = first-in _ _ _ _ _ (first c) .1
-
-  run-part-read-run-end : read-run-lts.Need-part-read-run-end run-claims run-at read-run.Post
-  run-part-read-run-end c = search needs
-
-  run-add-read-run : read-run-lts.Need-add-read-run run-claims run-at read-run.Post
-  run-add-read-run c = let h = first-in _ _ _ _ _ (first (c .before)) in omega arith
 
   run-read-run-requires : read-run-lts.Need-read-run-requires run-claims run-at read-run.Post
   run-read-run-requires c κs =
       let h = first-in _ _ _ _ _ (first (c .before)) in
       (omega (arith, c .read-run-arg .given .2, started (c .before) .pre .0), omega arith)
-
-  run-enum-known-f-2 : read-run-lts.Need-enum-known-f-2 run-claims run-at read-run.Post
-  run-enum-known-f-2 c = search needs
-
-  run-enum-known-r : read-run-lts.Need-enum-known-r run-claims run-at read-run.Post
-  run-enum-known-r c = search needs
-
-  run-add-spare : read-run-lts.Need-add-spare run-claims run-at read-run.Post
-  run-add-spare c = let h = goes c .0 in omega arith
 
   run-returns-2 : read-run-lts.Need-returns-2 run-claims run-at read-run.Post
   run-returns-2 c =
@@ -244,18 +184,19 @@ module _ (t : ℕ) where
       sym (run-no-rest _ _ _ _ (omega arith) _ (first (c .before .before .before .before .before)) _
       (sym (c .before .before .before .read-run .ensures) ∙ c .before .f2 .given .1))
 
-  run-returns-4 : read-run-lts.Need-returns-4 run-claims run-at read-run.Post
-  run-returns-4 c = sym (goes c .1)
-
 pub +read-one+read-run-spec : {M : Type 1} → statement M
 +read-one+read-run-spec =
     close μ-one μ-run
-    (λ t. read-one-lts.spec (one-claims t) (one-at t) read-one.Post (one-returns t) (one-returns-2 t) (one-add-count t)
-    (one-head-of-requires t) (one-enum-known-f t) (one-enum-known-b t) (one-tally-of-requires t) (one-returns-3 t)
-    (one-sub-read-run t) (one-part-read-run-start t) (one-part-read-run-end t) (one-add-read-run t) (one-sub-read-run-2 t)
-    (one-read-run-requires t) (one-enum-known-f-2 t) (one-enum-known-r t) (one-tally-of-requires-2 t) (one-returns-4 t)
-    (one-returns-5 t) (one-returns-6 t))
-    (λ t. read-run-lts.spec (run-claims t) (run-at t) read-run.Post (run-returns t) (run-read-one-requires t)
-    (run-enum-known-f t) (run-enum-known-o t) (run-sub-read-run t) (run-part-read-run-start t) (run-part-read-run-end t) (run-add-read-run t)
-    (run-read-run-requires t) (run-enum-known-f-2 t) (run-enum-known-r t) (run-add-spare t) (run-returns-2 t) (run-returns-3 t)
-    (run-returns-4 t))
+    (λ t. read-one-lts.spec (one-claims t) (one-at t) read-one.Post (λ c. sym (one-full _ _ _ _ (c .if1 .taken)))
+    (one-returns-2 t) (λ c. search needs) (λ c κs. search needs) (λ c. search needs) (λ c. search needs)
+    (λ c κs. is-leaf t c .0) (one-returns-3 t) (one-sub-read-run t) (one-part-read-run-start t)
+    (one-part-read-run-end t) (one-add-read-run t)
+    (λ c. let h = room t (c .before .before .before) .if2 .left in omega arith) (one-read-run-requires t)
+    (λ c. search needs) (λ c. search needs) (λ c κs. is-branch t c .0) (one-returns-4 t) (one-returns-5 t)
+    (one-returns-6 t))
+    (λ t. read-run-lts.spec (run-claims t) (run-at t) read-run.Post (λ c. sym (run-empty _ _ _ _ (c .if1 .taken)))
+    (run-read-one-requires t) (λ c. search needs) (λ c. search needs) (λ c. first-in _ _ _ _ _ (first t c) .1)
+    (λ c. first-in _ _ _ _ _ (first t c) .1) (λ c. search needs)
+    (λ c. let h = first-in _ _ _ _ _ (first t (c .before)) in omega arith) (run-read-run-requires t) (λ c. search needs)
+    (λ c. search needs) (λ c. let h = goes t c .0 in omega arith) (run-returns-2 t) (run-returns-3 t)
+    (λ c. sym (goes t c .1)))

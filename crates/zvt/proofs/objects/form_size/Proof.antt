@@ -4,14 +4,9 @@ use Rattle.zvt.proofs.ObjectLaws.{form-bare, form-one, form-two}
 use Rattle.zvt.proofs.objects.form_size.Statement.{statement}
 use Rattle.zvt.proofs.objects.form_size.Tie as tie
 
-returns : tie.Need-returns
-returns c = sym (form-bare _ (c .if1 .taken))
-
 returns-2 : tie.Need-returns-2
 returns-2 c = sym (form-one _ (c .before .if1 .left) (c .if2 .taken))
 
-returns-3 : tie.Need-returns-3
-returns-3 c = sym (form-two _ (c .if2 .left))
-
 pub form-size-spec : {M : Type 1} → statement M
-form-size-spec = tie.close (tie.spec returns returns-2 returns-3)
+form-size-spec =
+    tie.close (tie.spec (λ c. sym (form-bare _ (c .if1 .taken))) returns-2 (λ c. sym (form-two _ (c .if2 .left))))

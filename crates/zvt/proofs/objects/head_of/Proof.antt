@@ -4,7 +4,7 @@ use mathlib.Core.List.{List}
 use Prim.Native.Nat.{ℕ}
 use native.Mathlib.Omega.{arith}
 use lib.ListN.{getD}
-use Rattle.zvt.specs.Objects.{tagAnswer}
+use Rattle.zvt.specs.ObjectSteps.{tagAnswer}
 use Rattle.zvt.specs.declared.objects.TagRead.the-variants.{Size}
 use Rattle.zvt.proofs.Masks.{run-bit, no-run-bit}
 use Rattle.zvt.proofs.ObjectLaws.{tag-within, Started, head-no-tag, head-no-length, head-starts}
@@ -29,48 +29,6 @@ started : (c : tie.After-known-told4)
     (c .before .size .given .0 .1 .0) (seen c)
 started c = head-starts _ _ _ (at-tag (tagged c)) _ _ (sym (c .before .before .before .len-of .ensures) ∙ c .before .size .given .1)
 
-tag-size-requires : tie.Need-tag-size-requires
-tag-size-requires c κs = search needs
-
-enum-known-f : tie.Need-enum-known-f
-enum-known-f c = search needs
-
-enum-known-tag : tie.Need-enum-known-tag
-enum-known-tag c = search needs
-
-sub-len-of : tie.Need-sub-len-of
-sub-len-of c = tag-within _ _ _ (at-tag c) .1
-
-part-len-of-start : tie.Need-part-len-of-start
-part-len-of-start c = tag-within _ _ _ (at-tag c) .1
-
-part-len-of-end : tie.Need-part-len-of-end
-part-len-of-end c = search needs
-
-add-len-of : tie.Need-add-len-of
-add-len-of c = let h = tag-within _ _ _ (at-tag (c .before)) in omega arith
-
-len-of-requires : tie.Need-len-of-requires
-len-of-requires c κs = let h = tag-within _ _ _ (at-tag (c .before)) in omega arith
-
-enum-known-f-2 : tie.Need-enum-known-f-2
-enum-known-f-2 c = search needs
-
-enum-known-size : tie.Need-enum-known-size
-enum-known-size c = search needs
-
-add-from : tie.Need-add-from
-add-from c = let h = started c in omega arith
-
-shared-slice-read-if1 : tie.Need-shared-slice-read-if1
-shared-slice-read-if1 c = let h = started (c .before) in omega arith
-
-bounds-in-requires : tie.Need-bounds-in-requires
-bounds-in-requires c κs = let h = started (c .before .before) in search needs
-
-bounds-in-requires-2 : tie.Need-bounds-in-requires-2
-bounds-in-requires-2 c κs = let h = started (c .before .before) in search needs
-
 returns : tie.Need-returns
 returns c = sym (head-no-tag _ _ _ (sym (c .before .before .before .tag-size .ensures) ∙ c .before .f .given .1))
 
@@ -90,22 +48,10 @@ returns-4 c =
 pub head-of-spec : {M : Type 1} → statement M
 head-of-spec =
     tie.close
-    (tie.spec
-    tag-size-requires
-    enum-known-f
-    enum-known-tag
-    sub-len-of
-    part-len-of-start
-    part-len-of-end
-    add-len-of
-    len-of-requires
-    enum-known-f-2
-    enum-known-size
-    add-from
-    shared-slice-read-if1
-    bounds-in-requires
-    bounds-in-requires-2
-    returns
-    returns-2
-    returns-3
-    returns-4)
+    (tie.spec (λ c κs. search needs) (λ c. search needs) (λ c. search needs) (λ c. tag-within _ _ _ (at-tag c) .1)
+    (λ c. tag-within _ _ _ (at-tag c) .1) (λ c. search needs)
+    (λ c. let h = tag-within _ _ _ (at-tag (c .before)) in omega arith)
+    (λ c κs. let h = tag-within _ _ _ (at-tag (c .before)) in omega arith) (λ c. search needs) (λ c. search needs)
+    (λ c. let h = started c in omega arith) (λ c. let h = started (c .before) in omega arith)
+    (λ c κs. let h = started (c .before .before) in search needs)
+    (λ c κs. let h = started (c .before .before) in search needs) returns returns-2 returns-3 returns-4)

@@ -11,22 +11,13 @@ use Rattle.zvt.proofs.objects.tag_size.Tie as tie
 returns : tie.Need-returns
 returns c = sym (tag-none _ (c .before .args .s .now) (c .if1 .taken))
 
-shared-slice-read-if2 : tie.Need-shared-slice-read-if2
-shared-slice-read-if2 c = search needs
-
 returns-2 : tie.Need-returns-2
 returns-2 c =
     let s = c .before .before .before .args .s .now in sym (tag-one _ s (omega arith) (short-tag (getD s 0 0) (c .if2 .taken)))
 
-add-second : tie.Need-add-second
-add-second c = search needs
-
 returns-3 : tie.Need-returns-3
 returns-3 c =
     let s = c .before .before .before .before .args .s .now in sym (tag-cut _ s (c .if3 .taken) (long-tag (getD s 0 0) (c .before .if2 .left)))
-
-shared-slice-read-if4 : tie.Need-shared-slice-read-if4
-shared-slice-read-if4 c = search needs
 
 returns-4 : tie.Need-returns-4
 returns-4 c =
@@ -43,12 +34,5 @@ returns-5 c =
 pub tag-size-spec : {M : Type 1} → statement M
 tag-size-spec =
     tie.close
-    (tie.spec
-    returns
-    shared-slice-read-if2
-    returns-2
-    add-second
-    returns-3
-    shared-slice-read-if4
-    returns-4
+    (tie.spec returns (λ c. search needs) returns-2 (λ c. search needs) returns-3 (λ c. search needs) returns-4
     returns-5)

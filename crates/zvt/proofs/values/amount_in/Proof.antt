@@ -14,12 +14,6 @@ number-in-requires : tie.Need-number-in-requires
 unfolding formatOf among
 number-in-requires c κs = (c .before .pre, (6, refl, omega arith))
 
-enum-told : tie.Need-enum-told
-enum-told c = search needs
-
-enum-known-n : tie.Need-enum-known-n
-enum-known-n c = search needs
-
 returns : tie.Need-returns
 unfolding amountIn amountOf
 returns c = sym (ap amountOf (number-none _ (sym (c .before .before .number-in .ensures) ∙ c .enum-told .given .1)))
@@ -32,5 +26,4 @@ returns-2 c =
     sym (ap amountOf (v .1) ∙ ap Amount (sym (v .2)))
 
 pub amount-in-spec : {M : Type 1} → statement M
-amount-in-spec =
-    tie.close (tie.spec number-in-requires enum-told enum-known-n returns returns-2)
+amount-in-spec = tie.close (tie.spec number-in-requires (λ c. search needs) (λ c. search needs) returns returns-2)

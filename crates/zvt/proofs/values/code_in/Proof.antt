@@ -22,18 +22,9 @@ here c =
     is-here 0x27 _ _ _ (bytes-known _ (start c .shared-slice-known .given)) (start c .before .pre) _ (λ e. omega arith)
     (sym (c .before .before .named .ensures) ∙ c .f .given .1)
 
-named-requires : tie.Need-named-requires
-named-requires c κs = search needs
-
-enum-told : tie.Need-enum-told
-enum-told c = search needs
-
-enum-known-f : tie.Need-enum-known-f
-enum-known-f c = search needs
-
 shared-slice-read-t9 : tie.Need-shared-slice-read-t9
 unfolding SizeOk formatOf among
-shared-slice-read-t9 c = let h = here (c .before .before) in omega (arith, h .inside, h .size)
+shared-slice-read-t9 c = let h = here (c .before .before) in omega arith
 
 returns : tie.Need-returns
 unfolding codeIn codeOf
@@ -51,4 +42,4 @@ returns-2 c =
 pub code-in-spec : {M : Type 1} → statement M
 code-in-spec =
     tie.close
-    (tie.spec named-requires enum-told enum-known-f shared-slice-read-t9 returns returns-2)
+    (tie.spec (λ c κs. search needs) (λ c. search needs) (λ c. search needs) shared-slice-read-t9 returns returns-2)

@@ -3,7 +3,7 @@ use mathlib.Core.Path.{sym, ap, _∙_}
 use native.Mathlib.Omega.{arith}
 use borrow.Author.Needs.{needs}
 use Rattle.zvt.specs.declared.values.NumberFound.the-variants.{Number}
-use Rattle.zvt.specs.Numbers.{numberFound}
+use Rattle.zvt.specs.NumberSteps.{numberFound}
 use Rattle.zvt.proofs.Slices.{bytes-known}
 use Rattle.zvt.proofs.ValueLaws.{Here, fixed-plain, fixed-size, not-here, is-here}
 use Rattle.zvt.proofs.values.number_in.Statement.{statement}
@@ -17,24 +17,6 @@ here : (c : tie.After-f) → let a = start c .before .args in Here (a .id) (a .f
 here c =
     is-here _ _ _ _ (bytes-known _ (start c .shared-slice-known .given)) (start c .before .pre .0) _ (fixed-plain _ _ (start c .before .pre .1 .1))
     (sym (c .before .before .named .ensures) ∙ c .f .given .1)
-
-named-requires : tie.Need-named-requires
-named-requires c κs = search needs
-
-enum-told : tie.Need-enum-told
-enum-told c = search needs
-
-enum-known-f : tie.Need-enum-known-f
-enum-known-f c = search needs
-
-sub-number : tie.Need-sub-number
-sub-number c = here (c .before) .order
-
-part-number-start : tie.Need-part-number-start
-part-number-start c = let h = here (c .before) in omega (arith, h .order, h .inside)
-
-part-number-end : tie.Need-part-number-end
-part-number-end c = let h = here (c .before) in omega (arith, h .order, h .inside)
 
 number-requires : tie.Need-number-requires
 number-requires c κs =
@@ -55,13 +37,6 @@ returns-2 c = sym (ap numberFound (here (c .before .before .before) .value) ∙ 
 pub number-in-spec : {M : Type 1} → statement M
 number-in-spec =
     tie.close
-    (tie.spec
-    named-requires
-    enum-told
-    enum-known-f
-    sub-number
-    part-number-start
-    part-number-end
-    number-requires
-    returns
-    returns-2)
+    (tie.spec (λ c κs. search needs) (λ c. search needs) (λ c. search needs) (λ c. here (c .before) .order)
+    (λ c. let h = here (c .before) in omega arith) (λ c. let h = here (c .before) in omega arith) number-requires
+    returns returns-2)

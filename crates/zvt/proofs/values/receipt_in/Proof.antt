@@ -15,12 +15,6 @@ number-in-requires : tie.Need-number-in-requires
 unfolding formatOf among
 number-in-requires c κs = (c .before .pre, (2, refl, omega arith))
 
-enum-told : tie.Need-enum-told
-enum-told c = search needs
-
-enum-known-n : tie.Need-enum-known-n
-enum-known-n c = search needs
-
 cast-short : tie.Need-cast-short
 unfolding formatOf among
 cast-short c =
@@ -45,4 +39,4 @@ returns-2 c =
 
 pub receipt-in-spec : {M : Type 1} → statement M
 receipt-in-spec =
-    tie.close (tie.spec number-in-requires enum-told enum-known-n cast-short returns returns-2)
+    tie.close (tie.spec number-in-requires (λ c. search needs) (λ c. search needs) cast-short returns returns-2)

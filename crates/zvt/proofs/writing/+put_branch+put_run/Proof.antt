@@ -9,9 +9,9 @@ use lib.Seq.{length-take-le}
 use borrow.Author.Needs.{needs}
 use borrow.Fn.Kinds.{In}
 use borrow.Fn.PlainCycle.{Measures, is, falls, and}
-use Rattle.zvt_rules.proofs.ObjectSteps.{tail, part-length}
+use Rattle.zvt_rules.proofs.ObjectReading.{tail, part-length}
 use Rattle.zvt.specs.declared.objects.Bounds.{Bounds}
-use Rattle.zvt.specs.Writing.{Put, headBytes, valueBytes, shortRunOf}
+use Rattle.zvt.specs.WritingSteps.{Put, headBytes, valueBytes, shortRunOf}
 use Rattle.zvt.proofs.Slices.{bytes-known}
 use Rattle.zvt.proofs.Back.{put-none, put-as, lend, lent-all, says, head-room, then-head}
 use Rattle.zvt.proofs.Back.{rest-fits, first-lend, first-lent, first-room, first-put}
@@ -106,9 +106,6 @@ module _ (t : ℕ) where
       let short = run-fits (b .args .run .now) (bytes-known _ (i .before .before .before .before .before .shared-slice-known2 .given)) (b .pre .1 .1) in
       (omega (arith, says (head i) (inner i) (fits i), b .pre .1 .0), head-room (head i) (inner i) (fits i))
 
-  branch-same-length : put-branch-lts.Need-same-length branch-claims branch-at put-branch.Post
-  branch-same-length c = search needs
-
   branch-returns : put-branch-lts.Need-returns branch-claims branch-at put-branch.Post
   unfolding valueBytes
   branch-returns c =
@@ -182,24 +179,6 @@ module _ (t : ℕ) where
   run-returns : put-run-lts.Need-returns run-claims run-at put-run.Post
   run-returns c = put-as (sym (short-none _ (c .if1 .taken))) (put-none _)
 
-  run-head-of-requires : put-run-lts.Need-head-of-requires run-claims run-at put-run.Post
-  run-head-of-requires c κs = search needs
-
-  run-enum-told : put-run-lts.Need-enum-told run-claims run-at put-run.Post
-  run-enum-told c = search needs
-
-  run-enum-known-b : put-run-lts.Need-enum-known-b run-claims run-at put-run.Post
-  run-enum-known-b c = search needs
-
-  run-sub-put-run : put-run-lts.Need-sub-put-run run-claims run-at put-run.Post
-  run-sub-put-run c = found c .within
-
-  run-part-put-run-start : put-run-lts.Need-part-put-run-start run-claims run-at put-run.Post
-  run-part-put-run-start c = found c .within
-
-  run-part-put-run-end : put-run-lts.Need-part-put-run-end run-claims run-at put-run.Post
-  run-part-put-run-end c = search needs
-
   run-put-run-requires : put-run-lts.Need-put-run-requires run-claims run-at put-run.Post
   run-put-run-requires c κs =
       let z = c .before .before in
@@ -216,21 +195,6 @@ module _ (t : ℕ) where
       )
 
   -- ---- the first object is a branch
-  run-branch-tag : put-run-lts.Need-slice-aggregate-put-branch run-claims run-at put-run.Post
-  run-branch-tag c = tag-all (at-first (c .before .before))
-
-  run-sub-put-branch : put-run-lts.Need-sub-put-branch run-claims run-at put-run.Post
-  run-sub-put-branch c = found (at-first (c .before .before)) .order
-
-  run-part-put-branch-start : put-run-lts.Need-part-put-branch-start run-claims run-at put-run.Post
-  run-part-put-branch-start c = found (at-first (c .before .before)) .order
-
-  run-part-put-branch-end : put-run-lts.Need-part-put-branch-end run-claims run-at put-run.Post
-  run-part-put-branch-end c = found (at-first (c .before .before)) .within
-
-  run-lend-branch : put-run-lts.Need-slice-relend-prefix-put-branch run-claims run-at put-run.Post
-  run-lend-branch c = lend-first (c .before .before .before)
-
   run-lent-branch : put-run-lts.Need-slice-aggregate-put-branch-2 run-claims run-at put-run.Post
   run-lent-branch c = lent-first (c .before .before .before .before)
 
@@ -242,30 +206,12 @@ module _ (t : ℕ) where
       let l = part-small z in
       (omega (arith, run z .pre .0), (omega arith, found z .inside run-there, room-first i (object-run _ _ run-there)))
 
-  run-same-length : put-run-lts.Need-same-length run-claims run-at put-run.Post
-  run-same-length c = search needs
-
   run-returns-3 : put-run-lts.Need-returns-3 run-claims run-at put-run.Post
   run-returns-3 c =
       let i = c .before .before .before .before .before .before .before in
       put-first i (object-run _ _ (c .before .before .before .before .before .before .if2 .taken)) (c .before .before .put-branch .ensures)
 
   -- ---- the first object is a leaf
-  run-leaf-tag : put-run-lts.Need-slice-aggregate-put-leaf run-claims run-at put-run.Post
-  run-leaf-tag c = tag-all (at-first (c .before .before))
-
-  run-sub-put-leaf : put-run-lts.Need-sub-put-leaf run-claims run-at put-run.Post
-  run-sub-put-leaf c = found (at-first (c .before .before)) .order
-
-  run-part-put-leaf-start : put-run-lts.Need-part-put-leaf-start run-claims run-at put-run.Post
-  run-part-put-leaf-start c = found (at-first (c .before .before)) .order
-
-  run-part-put-leaf-end : put-run-lts.Need-part-put-leaf-end run-claims run-at put-run.Post
-  run-part-put-leaf-end c = found (at-first (c .before .before)) .within
-
-  run-lend-leaf : put-run-lts.Need-slice-relend-prefix-put-leaf run-claims run-at put-run.Post
-  run-lend-leaf c = lend-first (c .before .before .before)
-
   run-lent-leaf : put-run-lts.Need-slice-aggregate-put-leaf-2 run-claims run-at put-run.Post
   run-lent-leaf c = lent-first (c .before .before .before .before)
 
@@ -281,9 +227,6 @@ module _ (t : ℕ) where
       absurd (object-never _ _ known (c .before .before .before .before .before .before .pre .1 .1)
       (omega (arith, c .before .before .before .if1 .left)) (sym (c .before .before .head-of .ensures) ∙ c .enum-told .given .1))
 
-  run-same-length-2 : put-run-lts.Need-same-length-2 run-claims run-at put-run.Post
-  run-same-length-2 c = search needs
-
   run-returns-4 : put-run-lts.Need-returns-4 run-claims run-at put-run.Post
   run-returns-4 c =
       let i = c .before .before .before .before .before .before .before in
@@ -292,11 +235,16 @@ module _ (t : ℕ) where
 pub +put-branch+put-run-spec : {M : Type 1} → statement M
 +put-branch+put-run-spec =
     close μ-branch μ-run
-    (λ t. put-branch-lts.spec (branch-claims t) (branch-at t) put-branch.Post (branch-put-run-requires t) (branch-sub-v t)
-    (branch-lend t) (branch-lent t) (branch-put-head-requires t) (branch-same-length t) (branch-returns t))
-    (λ t. put-run-lts.spec (run-claims t) (run-at t) put-run.Post (run-returns t) (run-head-of-requires t) (run-enum-told t)
-    (run-enum-known-b t) (run-sub-put-run t) (run-part-put-run-start t) (run-part-put-run-end t) (run-put-run-requires t)
-    (run-branch-tag t) (run-sub-put-branch t) (run-part-put-branch-start t) (run-part-put-branch-end t) (run-lend-branch t)
-    (run-lent-branch t) (run-put-branch-requires t) (run-leaf-tag t) (run-sub-put-leaf t) (run-part-put-leaf-start t)
-    (run-part-put-leaf-end t) (run-lend-leaf t) (run-lent-leaf t) (run-put-leaf-requires t) (run-returns-2 t) (run-same-length t)
-    (run-returns-3 t) (run-same-length-2 t) (run-returns-4 t))
+    (λ t. put-branch-lts.spec (branch-claims t) (branch-at t) put-branch.Post (branch-put-run-requires t)
+    (branch-sub-v t) (branch-lend t) (branch-lent t) (branch-put-head-requires t) (λ c. search needs)
+    (branch-returns t))
+    (λ t. put-run-lts.spec (run-claims t) (run-at t) put-run.Post (run-returns t) (λ c κs. search needs)
+    (λ c. search needs) (λ c. search needs) (λ c. found t c .within) (λ c. found t c .within) (λ c. search needs)
+    (run-put-run-requires t) (λ c. tag-all t (at-first t (c .before .before)))
+    (λ c. found t (at-first t (c .before .before)) .order) (λ c. found t (at-first t (c .before .before)) .order)
+    (λ c. found t (at-first t (c .before .before)) .within) (λ c. lend-first t (c .before .before .before))
+    (run-lent-branch t) (run-put-branch-requires t) (λ c. tag-all t (at-first t (c .before .before)))
+    (λ c. found t (at-first t (c .before .before)) .order) (λ c. found t (at-first t (c .before .before)) .order)
+    (λ c. found t (at-first t (c .before .before)) .within) (λ c. lend-first t (c .before .before .before))
+    (run-lent-leaf t) (run-put-leaf-requires t) (run-returns-2 t) (λ c. search needs) (run-returns-3 t)
+    (λ c. search needs) (run-returns-4 t))

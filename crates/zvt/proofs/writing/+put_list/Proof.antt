@@ -8,9 +8,9 @@ use lib.ListN.{length}
 use borrow.Author.Needs.{needs}
 use borrow.Fn.Kinds.{In}
 use borrow.Fn.PlainCycle.{Measures, is, falls, and}
-use Rattle.zvt_rules.proofs.ObjectSteps.{tail}
+use Rattle.zvt_rules.proofs.ObjectReading.{tail}
 use Rattle.zvt.specs.declared.objects.Bounds.{Bounds}
-use Rattle.zvt.specs.Writing.{shortFieldOf, shortListOf}
+use Rattle.zvt.specs.WritingSteps.{shortFieldOf, shortListOf}
 use Rattle.zvt.proofs.Slices.{bytes-known}
 use Rattle.zvt.proofs.Back.{put-none, put-as, rest-fits, first-lend, first-lent, first-room, first-put}
 use Rattle.zvt.proofs.ShortLists.{list-short-none, FieldToPut, field-is, field-never}
@@ -77,31 +77,10 @@ module _ (t : ℕ) where
   list-returns : put-list-lts.Need-returns claims list-at put-list.Post
   list-returns c = put-as (sym (list-short-none _ (c .if1 .taken))) (put-none _)
 
-  list-first-byte : put-list-lts.Need-shared-slice-read-format-of claims list-at put-list.Post
-  list-first-byte c = omega (arith, c .before .if1 .left)
-
-  list-format-of-requires : put-list-lts.Need-format-of-requires claims list-at put-list.Post
-  list-format-of-requires c κs = search needs
-
   list-field-bounds-requires : put-list-lts.Need-field-bounds-requires claims list-at put-list.Post
   list-field-bounds-requires c κs =
       let s = c .before .before .before .before .before in
       (omega (arith, s .pre .1 .0), omega (arith, c .before .before .if1 .left), c .format-of .ensures)
-
-  list-enum-told : put-list-lts.Need-enum-told claims list-at put-list.Post
-  list-enum-told c = search needs
-
-  list-enum-known-b : put-list-lts.Need-enum-known-b claims list-at put-list.Post
-  list-enum-known-b c = search needs
-
-  list-sub-put-list : put-list-lts.Need-sub-put-list claims list-at put-list.Post
-  list-sub-put-list c = found c .within
-
-  list-part-put-list-start : put-list-lts.Need-part-put-list-start claims list-at put-list.Post
-  list-part-put-list-start c = found c .within
-
-  list-part-put-list-end : put-list-lts.Need-part-put-list-end claims list-at put-list.Post
-  list-part-put-list-end c = search needs
 
   list-put-list-requires : put-list-lts.Need-put-list-requires claims list-at put-list.Post
   list-put-list-requires c κs =
@@ -148,9 +127,6 @@ module _ (t : ℕ) where
       absurd (field-never _ _ known (s .pre .1 .1) (omega (arith, c .before .before .before .before .before .if1 .left))
       (sym (c .before .before .field-bounds .ensures) ∙ c .enum-told .given .1))
 
-  list-same-length : put-list-lts.Need-same-length claims list-at put-list.Post
-  list-same-length c = search needs
-
   list-returns-3 : put-list-lts.Need-returns-3 claims list-at put-list.Post
   list-returns-3 c =
       let i = c .before .before .before .before in
@@ -160,7 +136,7 @@ module _ (t : ℕ) where
 
 pub +put-list-spec : {M : Type 1} → statement M
 +put-list-spec =
-    close μ-list λ t. put-list-lts.spec (claims t) (list-at t) put-list.Post (list-returns t) (list-first-byte t) (list-format-of-requires t)
-    (list-field-bounds-requires t) (list-enum-told t) (list-enum-known-b t) (list-sub-put-list t) (list-part-put-list-start t)
-    (list-part-put-list-end t) (list-put-list-requires t) (list-lend t) (list-lent t) (list-put-field-requires t) (list-returns-2 t)
-    (list-same-length t) (list-returns-3 t)
+    close μ-list λ t. put-list-lts.spec (claims t) (list-at t) put-list.Post (list-returns t)
+    (λ c. omega (arith, c .before .if1 .left)) (λ c κs. search needs) (list-field-bounds-requires t) (λ c. search needs)
+    (λ c. search needs) (λ c. found t c .within) (λ c. found t c .within) (λ c. search needs) (list-put-list-requires t)
+    (list-lend t) (list-lent t) (list-put-field-requires t) (list-returns-2 t) (λ c. search needs) (list-returns-3 t)

@@ -2,16 +2,10 @@
 use native.Mathlib.Omega.{arith}
 use borrow.Author.Tests.{lt-leb, le-leb}
 use Rattle.zvt_rules.specs.Writing.{lengthBytes}
-use Rattle.zvt.specs.Writing.{headerBytes}
+use Rattle.zvt.specs.WritingSteps.{headerBytes}
 use borrow.Author.Needs.{needs}
 use Rattle.zvt.proofs.writing.message_size.Statement.{statement}
 use Rattle.zvt.proofs.writing.message_size.Tie as tie
-
-add-result : tie.Need-add-result
-add-result c = search needs
-
-add-result-2 : tie.Need-add-result-2
-add-result-2 c = search needs
 
 returns : tie.Need-returns
 unfolding headerBytes lengthBytes
@@ -22,4 +16,4 @@ unfolding headerBytes lengthBytes
 returns-2 c = rw (le-leb 255 (c .before .args .v) (c .if1 .left)) (omega arith)
 
 pub message-size-spec : {M : Type 1} → statement M
-message-size-spec = tie.close (tie.spec add-result add-result-2 returns returns-2)
+message-size-spec = tie.close (tie.spec (λ c. search needs) (λ c. search needs) returns returns-2)

@@ -8,24 +8,6 @@ use borrow.Author.Needs.{needs}
 use Rattle.zvt.proofs.writing.put.Statement.{statement}
 use Rattle.zvt.proofs.writing.put.Tie as tie
 
-sub-at : tie.Need-sub-at
-sub-at c = search needs
-
-sub-copy : tie.Need-sub-copy
-sub-copy c = search needs
-
-part-copy-start : tie.Need-part-copy-start
-part-copy-start c = search needs
-
-part-copy-end : tie.Need-part-copy-end
-part-copy-end c = search needs
-
-copy-requires : tie.Need-copy-requires
-copy-requires c κs = search needs
-
-same-length : tie.Need-same-length
-same-length c = search needs
-
 returns : tie.Need-returns
 returns c =
     let v = c .before .before .before .before .before .before .args .v .now in
@@ -41,4 +23,5 @@ returns c =
 pub put-spec : {M : Type 1} → statement M
 put-spec =
     tie.close
-    (tie.spec sub-at sub-copy part-copy-start part-copy-end copy-requires same-length returns)
+    (tie.spec (λ c. search needs) (λ c. search needs) (λ c. search needs) (λ c. search needs) (λ c κs. search needs)
+    (λ c. search needs) returns)

@@ -6,8 +6,8 @@ use native.Mathlib.Omega.{arith}
 use lib.ListN.{length, take, drop}
 use lib.Seq.{length-take-le}
 use borrow.Author.Needs.{needs}
-use Rattle.zvt_rules.proofs.ObjectSteps.{tail}
-use Rattle.zvt.specs.Writing.{ListReads, shortListOf, shortBodyOf}
+use Rattle.zvt_rules.proofs.ObjectReading.{tail}
+use Rattle.zvt.specs.WritingSteps.{ListReads, shortListOf, shortBodyOf}
 use Rattle.zvt.proofs.Slices.{bytes-known}
 use Rattle.zvt.proofs.Back.{fits-as, put-as, rest-fits, first-lent, first-room, first-put}
 use Rattle.zvt.proofs.ShortBodies.{plain-short, list-short, secured-short}
@@ -15,16 +15,10 @@ use Rattle.zvt.proofs.writing.put_body.Statement.{statement}
 use Rattle.zvt.proofs.writing.put_body.Tie as tie
 
 -- ---- plain bytes
-enum-told : tie.Need-enum-told
-enum-told c = search needs
-
 put-requires : tie.Need-put-requires
 put-requires c κs =
     let a = c .before .before .before .before .before in
     fits-as (plain-short (a .args .layout) (a .args .s .now) (c .before .enum-told .given .1)) (a .pre .2)
-
-same-length : tie.Need-same-length
-same-length c = search needs
 
 returns : tie.Need-returns
 returns c =
@@ -33,17 +27,11 @@ returns c =
     put-as (plain-short (a .args .layout) (a .args .s .now) (t .enum-told .given .1)) (c .before .before .put .ensures)
 
 -- ---- a list
-enum-told-2 : tie.Need-enum-told-2
-enum-told-2 c = search needs
-
 put-list-requires : tie.Need-put-list-requires
 put-list-requires c κs =
     let a = c .before .before .before .before .before in
     let f = list-short (a .args .layout) (a .args .s .now) (c .before .enum-told2 .given .1) (a .pre .1) in
     (a .pre .0, f .0, fits-as (sym (f .1)) (a .pre .2))
-
-same-length-2 : tie.Need-same-length-2
-same-length-2 c = search needs
 
 returns-2 : tie.Need-returns-2
 returns-2 c =
@@ -65,18 +53,6 @@ secured : (c : tie.After-enum-told3) → (3 ≤ length (bytes c)) × ListReads (
     × (shortBodyOf (start c .args .layout) (bytes c) ≡ take 3 (bytes c) ++ shortListOf (drop 3 (bytes c)))
 secured c = secured-short _ _ (bytes-known _ (c .before .before .before .shared-slice-known .given)) (c .enum-told3 .given .1) (start c .pre .1)
 
-enum-told-3 : tie.Need-enum-told-3
-enum-told-3 c = search needs
-
-sub-put-list : tie.Need-sub-put-list
-sub-put-list c = secured c .0
-
-part-put-list-start : tie.Need-part-put-list-start
-part-put-list-start c = secured c .0
-
-part-put-list-end : tie.Need-part-put-list-end
-part-put-list-end c = search needs
-
 put-list-requires-2 : tie.Need-put-list-requires-2
 put-list-requires-2 c κs =
     let t = c .before .before in
@@ -91,9 +67,6 @@ slice-aggregate-put c =
     let t = c .before .before .before .before .before .before in
     sym (length-take-le 3 (bytes t) (secured t .0))
 
-slice-relend-prefix-put : tie.Need-slice-relend-prefix-put
-slice-relend-prefix-put c = search needs
-
 slice-aggregate-put-2 : tie.Need-slice-aggregate-put-2
 slice-aggregate-put-2 c =
     let t = c .before .before .before .before .before .before .before in
@@ -106,9 +79,6 @@ put-requires-2 c κs =
     first-room shortListOf (take 3 (bytes t)) (bytes t) (out t) 3 (secured t .2) (start t .pre .2)
     (c .before .before .before .before .put-list2 .ensures) refl
 
-same-length-3 : tie.Need-same-length-3
-same-length-3 c = search needs
-
 returns-3 : tie.Need-returns-3
 returns-3 c =
     let l = c .before .before .before .before .before .before .before in
@@ -119,23 +89,7 @@ returns-3 c =
 pub put-body-spec : {M : Type 1} → statement M
 put-body-spec =
     tie.close
-    (tie.spec
-    enum-told
-    put-requires
-    enum-told-2
-    put-list-requires
-    enum-told-3
-    sub-put-list
-    part-put-list-start
-    part-put-list-end
-    put-list-requires-2
-    slice-aggregate-put
-    slice-relend-prefix-put
-    slice-aggregate-put-2
-    put-requires-2
-    same-length
-    returns
-    same-length-2
-    returns-2
-    same-length-3
-    returns-3)
+    (tie.spec (λ c. search needs) put-requires (λ c. search needs) put-list-requires (λ c. search needs)
+    (λ c. secured c .0) (λ c. secured c .0) (λ c. search needs) put-list-requires-2 slice-aggregate-put
+    (λ c. search needs) slice-aggregate-put-2 put-requires-2 (λ c. search needs) returns (λ c. search needs) returns-2
+    (λ c. search needs) returns-3)

@@ -7,9 +7,9 @@ use native.Mathlib.Omega.{arith}
 use lib.ListN.{take}
 use lib.Seq.{length-take-le}
 use Rattle.zvt_rules.specs.Reading.{part}
-use Rattle.zvt_rules.proofs.ObjectSteps.{part-length}
+use Rattle.zvt_rules.proofs.ObjectReading.{part-length}
 use Rattle.zvt.specs.declared.objects.Bounds.{Bounds}
-use Rattle.zvt.specs.Writing.{valueBytes, shortRunOf, shortFieldOf}
+use Rattle.zvt.specs.WritingSteps.{valueBytes, shortRunOf, shortFieldOf}
 use Rattle.zvt.proofs.Back.{fits-as, put-as}
 use borrow.Author.Needs.{needs}
 use Rattle.zvt.proofs.writing.put_field.Statement.{statement}
@@ -27,15 +27,6 @@ slice-aggregate-put-branch : tie.Need-slice-aggregate-put-branch
 slice-aggregate-put-branch c =
     let s = c .before .before .before .before in
     sym (length-take-le 1 (s .args .s .now) (omega (arith, s .pre .1, s .pre .2, s .pre .3)))
-
-sub-put-branch : tie.Need-sub-put-branch
-sub-put-branch c = search needs
-
-part-put-branch-start : tie.Need-part-put-branch-start
-part-put-branch-start c = search needs
-
-part-put-branch-end : tie.Need-part-put-branch-end
-part-put-branch-end c = search needs
 
 put-branch-requires : tie.Need-put-branch-requires
 put-branch-requires c κs =
@@ -55,16 +46,10 @@ put-requires c κs =
     let s = c .before .before .before .before .before in
     fits-as (as-it-stands (s .args .s .now) (s .args .b) (c .before .before .if1 .left)) (s .pre .5)
 
-same-length : tie.Need-same-length
-same-length c = search needs
-
 returns : tie.Need-returns
 returns c =
     let s = c .before .before .before .before .before .before .before .before .before in
     put-as (as-branch (s .args .s .now) (s .args .b) (c .before .before .before .before .before .before .if1 .taken)) (c .before .before .put-branch .ensures)
-
-same-length-2 : tie.Need-same-length-2
-same-length-2 c = search needs
 
 returns-2 : tie.Need-returns-2
 returns-2 c =
@@ -74,15 +59,5 @@ returns-2 c =
 pub put-field-spec : {M : Type 1} → statement M
 put-field-spec =
     tie.close
-    (tie.spec
-    slice-aggregate-put-branch
-    sub-put-branch
-    part-put-branch-start
-    part-put-branch-end
-    put-branch-requires
-    slice-aggregate-put
-    put-requires
-    same-length
-    returns
-    same-length-2
-    returns-2)
+    (tie.spec slice-aggregate-put-branch (λ c. search needs) (λ c. search needs) (λ c. search needs) put-branch-requires
+    slice-aggregate-put put-requires (λ c. search needs) returns (λ c. search needs) returns-2)

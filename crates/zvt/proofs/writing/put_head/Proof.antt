@@ -3,7 +3,7 @@ use native.Mathlib.Omega.{arith}
 use lib.ListN.{length-append}
 use Rattle.zvt_rules.specs.Writing.{lenBytes}
 use Rattle.zvt_rules.specs.Shortest.{formFor}
-use Rattle.zvt.specs.Writing.{headBytes}
+use Rattle.zvt.specs.WritingSteps.{headBytes}
 use Rattle.zvt.proofs.Back.{lent-all, room, then-put}
 use borrow.Author.Needs.{needs}
 use Rattle.zvt.proofs.writing.put_head.Statement.{statement}
@@ -15,9 +15,6 @@ put-len-requires c κs =
     let s = c .before .before .before in
     let v = s .args .v in
     (s .pre .0, omega (arith, s .pre .1, length-append (s .args .tag .now) (lenBytes (formFor v) v)))
-
-slice-relend-prefix-put : tie.Need-slice-relend-prefix-put
-slice-relend-prefix-put c = search needs
 
 slice-aggregate-put : tie.Need-slice-aggregate-put
 unfolding headBytes
@@ -31,9 +28,6 @@ put-requires c κs =
     let s = c .before .before .before .before .before .before .before in
     room (s .args .tag .now) (c .before .before .before .put-len .ensures) (s .pre .1)
 
-same-length : tie.Need-same-length
-same-length c = search needs
-
 returns : tie.Need-returns
 unfolding headBytes
 returns c =
@@ -43,10 +37,4 @@ returns c =
 pub put-head-spec : {M : Type 1} → statement M
 put-head-spec =
     tie.close
-    (tie.spec
-    put-len-requires
-    slice-relend-prefix-put
-    slice-aggregate-put
-    put-requires
-    same-length
-    returns)
+    (tie.spec put-len-requires (λ c. search needs) slice-aggregate-put put-requires (λ c. search needs) returns)

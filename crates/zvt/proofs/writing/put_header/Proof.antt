@@ -6,7 +6,7 @@ use native.Mathlib.Nat.{mod-eq-of-lt}
 use native.Mathlib.Omega.{arith}
 use borrow.Author.Tests.{lt-leb, le-leb}
 use Rattle.zvt_rules.specs.Writing.{lengthBytes}
-use Rattle.zvt.specs.Writing.{headerBytes}
+use Rattle.zvt.specs.WritingSteps.{headerBytes}
 use Rattle.zvt.proofs.Back.{fits-as, put-as}
 use borrow.Author.Needs.{needs}
 use Rattle.zvt.proofs.writing.put_header.Statement.{statement}
@@ -21,20 +21,11 @@ long-is : (class instruction v : ℕ) → 255 ≤ v → v < 65536
 unfolding headerBytes lengthBytes
 long-is class instruction v h l = let k : v / 256 < 256 = omega arith in rw (le-leb 255 v h, mod-eq-of-lt k)
 
-cast-low : tie.Need-cast-low
-cast-low c = search needs
-
-slice-aggregate-put : tie.Need-slice-aggregate-put
-slice-aggregate-put c = search needs
-
 put-requires : tie.Need-put-requires
 put-requires c κs =
     let s = c .before .before .before .before in
     let a = s .args in
     fits-as (short-is (a .class) (a .instruction) (a .v) (c .before .before .if1 .taken)) (s .pre .1)
-
-same-length : tie.Need-same-length
-same-length c = search needs
 
 returns : tie.Need-returns
 returns c =
@@ -42,20 +33,11 @@ returns c =
     let a = s .args in
     put-as (short-is (a .class) (a .instruction) (a .v) (c .before .before .before .before .before .if1 .taken)) (c .before .before .put .ensures)
 
-cast-high : tie.Need-cast-high
-cast-high c = search needs
-
-slice-aggregate-put-2 : tie.Need-slice-aggregate-put-2
-slice-aggregate-put-2 c = search needs
-
 put-requires-2 : tie.Need-put-requires-2
 put-requires-2 c κs =
     let s = c .before .before .before .before in
     let a = s .args in
     fits-as (long-is (a .class) (a .instruction) (a .v) (c .before .before .if1 .left) (s .pre .0)) (s .pre .1)
-
-same-length-2 : tie.Need-same-length-2
-same-length-2 c = search needs
 
 returns-2 : tie.Need-returns-2
 returns-2 c =
@@ -66,14 +48,5 @@ returns-2 c =
 pub put-header-spec : {M : Type 1} → statement M
 put-header-spec =
     tie.close
-    (tie.spec
-    cast-low
-    slice-aggregate-put
-    put-requires
-    same-length
-    returns
-    cast-high
-    slice-aggregate-put-2
-    put-requires-2
-    same-length-2
-    returns-2)
+    (tie.spec (λ c. search needs) (λ c. search needs) put-requires (λ c. search needs) returns (λ c. search needs)
+    (λ c. search needs) put-requires-2 (λ c. search needs) returns-2)

@@ -1,7 +1,7 @@
 -- `put_leaf` meets its contract: the value, and its head before it. Assumes nothing.
 use native.Mathlib.Omega.{arith}
 use lib.ListN.{length, length-append}
-use Rattle.zvt.specs.Writing.{headBytes, valueBytes}
+use Rattle.zvt.specs.WritingSteps.{headBytes, valueBytes}
 use Rattle.zvt.proofs.Back.{lent-all, room, then-put}
 use borrow.Author.Needs.{needs}
 use Rattle.zvt.proofs.writing.put_leaf.Statement.{statement}
@@ -13,9 +13,6 @@ put-requires c κs =
     let s = c .before .before .before .before in
     let h = headBytes (s .args .tag .now) (length (s .args .value .now)) in
     omega (arith, s .pre .1, length-append h (s .args .value .now))
-
-slice-relend-prefix-put-head : tie.Need-slice-relend-prefix-put-head
-slice-relend-prefix-put-head c = search needs
 
 slice-aggregate-put-head : tie.Need-slice-aggregate-put-head
 unfolding valueBytes
@@ -31,9 +28,6 @@ put-head-requires c κs =
     let h = headBytes (s .args .tag .now) (length (s .args .value .now)) in
     (s .pre .0, room h (c .before .before .before .put .ensures) (s .pre .1))
 
-same-length : tie.Need-same-length
-same-length c = search needs
-
 returns : tie.Need-returns
 unfolding valueBytes
 returns c =
@@ -44,10 +38,4 @@ returns c =
 pub put-leaf-spec : {M : Type 1} → statement M
 put-leaf-spec =
     tie.close
-    (tie.spec
-    put-requires
-    slice-relend-prefix-put-head
-    slice-aggregate-put-head
-    put-head-requires
-    same-length
-    returns)
+    (tie.spec put-requires (λ c. search needs) slice-aggregate-put-head put-head-requires (λ c. search needs) returns)

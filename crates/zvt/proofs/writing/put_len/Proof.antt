@@ -27,35 +27,20 @@ two-is v h l =
     let m : 128 ≤ v = omega arith in
     rw (le-ltb v 128 m, le-ltb v 256 h, mod-eq-of-lt k)
 
-cast-low : tie.Need-cast-low
-cast-low c = search needs
-
-slice-aggregate-put : tie.Need-slice-aggregate-put
-slice-aggregate-put c = search needs
-
 put-requires : tie.Need-put-requires
 put-requires c κs =
     let s = c .before .before .before .before in
     fits-as (bare-is (s .args .v) (c .before .before .if1 .taken)) (s .pre .1)
-
-same-length : tie.Need-same-length
-same-length c = search needs
 
 returns : tie.Need-returns
 returns c =
     let s = c .before .before .before .before .before .before .before in
     put-as (bare-is (s .args .v) (c .before .before .before .before .before .if1 .taken)) (c .before .before .put .ensures)
 
-slice-aggregate-put-2 : tie.Need-slice-aggregate-put-2
-slice-aggregate-put-2 c = search needs
-
 put-requires-2 : tie.Need-put-requires-2
 put-requires-2 c κs =
     let s = c .before .before .before .before .before in
     fits-as (one-is (s .args .v) (c .before .before .before .if1 .left) (c .before .before .if2 .taken)) (s .pre .1)
-
-same-length-2 : tie.Need-same-length-2
-same-length-2 c = search needs
 
 returns-2 : tie.Need-returns-2
 returns-2 c =
@@ -63,19 +48,10 @@ returns-2 c =
     put-as (one-is (s .args .v) (c .before .before .before .before .before .before .if1 .left) (c .before .before .before .before .before .if2 .taken))
     (c .before .before .put2 .ensures)
 
-cast-high : tie.Need-cast-high
-cast-high c = search needs
-
-slice-aggregate-put-3 : tie.Need-slice-aggregate-put-3
-slice-aggregate-put-3 c = search needs
-
 put-requires-3 : tie.Need-put-requires-3
 put-requires-3 c κs =
     let s = c .before .before .before .before .before in
     fits-as (two-is (s .args .v) (c .before .before .if2 .left) (s .pre .0)) (s .pre .1)
-
-same-length-3 : tie.Need-same-length-3
-same-length-3 c = search needs
 
 returns-3 : tie.Need-returns-3
 returns-3 c =
@@ -85,18 +61,6 @@ returns-3 c =
 pub put-len-spec : {M : Type 1} → statement M
 put-len-spec =
     tie.close
-    (tie.spec
-    cast-low
-    slice-aggregate-put
-    put-requires
-    same-length
-    returns
-    slice-aggregate-put-2
-    put-requires-2
-    same-length-2
-    returns-2
-    cast-high
-    slice-aggregate-put-3
-    put-requires-3
-    same-length-3
-    returns-3)
+    (tie.spec (λ c. search needs) (λ c. search needs) put-requires (λ c. search needs) returns (λ c. search needs)
+    put-requires-2 (λ c. search needs) returns-2 (λ c. search needs) (λ c. search needs) put-requires-3
+    (λ c. search needs) returns-3)

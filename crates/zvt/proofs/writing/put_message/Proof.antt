@@ -6,9 +6,9 @@ use native.Mathlib.Omega.{arith}
 use lib.ListN.{length, length-append}
 use borrow.Author.Needs.{needs}
 use Rattle.zvt_rules.specs.declared.Layout.{Layout}
-use Rattle.zvt_rules.proofs.ObjectSteps.{part-length}
+use Rattle.zvt_rules.proofs.ObjectReading.{part-length}
 use Rattle.zvt_rules.proofs.ObjectBytes.{bytes-part}
-use Rattle.zvt.specs.Writing.{Put, shortBodyOf, headerBytes, headerLayout, bodyPart, shortMessageOf}
+use Rattle.zvt.specs.WritingSteps.{Put, shortBodyOf, headerBytes, headerLayout, bodyPart, shortMessageOf}
 use Rattle.zvt.proofs.Slices.{bytes-known}
 use Rattle.zvt.proofs.Back.{put-as, lent-all, says, head-room, then-head}
 use Rattle.zvt.proofs.ShortBodies.{body-fits}
@@ -49,21 +49,6 @@ small c =
     let l = part-length s (h .start) (h .start + h .length) (omega arith) (m .pre .0) in
     omega (arith, body-fits (headerLayout h) (bodyPart h s) (bytes-part (h .start) (h .start + h .length) s known) (m .pre .2), m .pre .1)
 
-add-to : tie.Need-add-to
-add-to c = search needs
-
-layout-of-requires : tie.Need-layout-of-requires
-layout-of-requires c κs = search needs
-
-sub-put-body : tie.Need-sub-put-body
-sub-put-body c = search needs
-
-part-put-body-start : tie.Need-part-put-body-start
-part-put-body-start c = search needs
-
-part-put-body-end : tie.Need-part-put-body-end
-part-put-body-end c = search needs
-
 put-body-requires : tie.Need-put-body-requires
 unfolding headerLayout bodyPart shortMessageOf
 put-body-requires c κs =
@@ -75,12 +60,6 @@ put-body-requires c κs =
     let k = length-append (headerBytes (h .class) (h .instruction) (length b)) b in
     rw (c .before .before .layout-of .ensures) (omega (arith, m .pre .1), m .pre .2, omega (arith, m .pre .3))
 
-sub-v : tie.Need-sub-v
-sub-v c = search needs
-
-slice-relend-prefix-put-header : tie.Need-slice-relend-prefix-put-header
-slice-relend-prefix-put-header c = search needs
-
 slice-aggregate-put-header : tie.Need-slice-aggregate-put-header
 slice-aggregate-put-header c = let i = c .before in lent-all (head i (length (body i))) (inner i) (fits i)
 
@@ -88,9 +67,6 @@ put-header-requires : tie.Need-put-header-requires
 put-header-requires c κs =
     let i = c .before in
     (omega (arith, says (head i) (inner i) (fits i), small i), head-room (head i) (inner i) (fits i))
-
-same-length : tie.Need-same-length
-same-length c = search needs
 
 returns : tie.Need-returns
 unfolding shortMessageOf
@@ -101,16 +77,6 @@ returns c =
 pub put-message-spec : {M : Type 1} → statement M
 put-message-spec =
     tie.close
-    (tie.spec
-    add-to
-    layout-of-requires
-    sub-put-body
-    part-put-body-start
-    part-put-body-end
-    put-body-requires
-    sub-v
-    slice-relend-prefix-put-header
-    slice-aggregate-put-header
-    put-header-requires
-    same-length
-    returns)
+    (tie.spec (λ c. search needs) (λ c κs. search needs) (λ c. search needs) (λ c. search needs) (λ c. search needs)
+    put-body-requires (λ c. search needs) (λ c. search needs) slice-aggregate-put-header put-header-requires
+    (λ c. search needs) returns)

@@ -1,19 +1,18 @@
 -- The fields of a message's list, and where each value lies in the message. Definitions only.
-use Prim.Native.Nat.{ℕ, zero, suc, _+_, _-_, _≤_}
+use Prim.Native.Nat.{ℕ, zero, suc, _+_, _-_}
 use mathlib.Core.List.{List, [], _∷_}
 use lib.ListN.{length}
 use lib.Dec.{eqb}
-use Rattle.zvt_rules.specs.Reading.{Reading, got, refused, pick, part}
-use Rattle.zvt_rules.specs.Fields.{Field, fieldId, ListRead, listOf}
+use Rattle.zvt_rules.specs.declared.Listed.{Listed}
+use Rattle.zvt_rules.specs.declared.FieldAnswer.{FieldAnswer}
+use Rattle.zvt_rules.specs.declared.FieldAnswer.the-variants.{Field as listed-field, End}
+use Rattle.zvt_rules.specs.declared.ListPlace.{ListPlace}
+use Rattle.zvt_rules.specs.declared.ListPlace.the-variants.{Nowhere, Between}
+use Rattle.zvt_rules.specs.Reading.{Reading, got, refused, pick}
+use Rattle.zvt_rules.specs.Fields.{Field, fieldId}
 use Rattle.zvt_rules.specs.Message.{headerSize, Body, bytes, listed, Message, readOf}
 use Rattle.zvt_rules.specs.Writing.{fieldBytes, messageBytes}
-use Rattle.zvt_rules.specs.Values.{fieldValue, isStatus}
-use Rattle.zvt.specs.declared.Listed.{Listed}
-use Rattle.zvt.specs.declared.FieldAnswer.{FieldAnswer}
-use Rattle.zvt.specs.declared.FieldAnswer.the-variants.{Field as listed-field, End}
-use Rattle.zvt.specs.declared.ListPlace.{ListPlace}
-use Rattle.zvt.specs.declared.ListPlace.the-variants.{Nowhere, Between}
-use Rattle.zvt.specs.Writing.{ListReads}
+use Rattle.zvt_rules.specs.Values.{fieldValue}
 
 -- a field that begins at place at: a value ends where its field ends
 unfoldable pub listedAt : ℕ → Field → Listed
@@ -34,11 +33,7 @@ unfoldable pub listedMessage : Reading Message → List Listed
 listedMessage (got m) = listedBody (headerSize (m .long)) (m .body)
 listedMessage (refused f) = []
 
--- the first, the one at place k, the first with that id
-unfoldable pub firstListed : List Listed → FieldAnswer
-firstListed [] = End
-firstListed (l ∷ ls) = listed-field l
-
+-- the one at place k, the first with that id
 unfoldable pub nthListed : ℕ → List Listed → FieldAnswer
 nthListed k [] = End
 nthListed zero (l ∷ ls) = listed-field l
@@ -55,23 +50,6 @@ fieldAnswer k s = nthListed k (listedMessage (readOf s))
 unfoldable pub namedAnswer : ℕ → List ℕ → FieldAnswer
 namedAnswer id s = namedListed id (listedMessage (readOf s))
 
--- the list between two places of s
-unfoldable pub listFields : Reading ListRead → List Field
-listFields (got r) = r .fields
-listFields (refused f) = []
-
-unfoldable pub fieldsBetween : ℕ → ℕ → List ℕ → List Field
-fieldsBetween a e s = listFields (listOf [] 0 0 (part a e s))
-
-unfoldable pub listedIn : ℕ → ℕ → List ℕ → List Listed
-listedIn a e s = listedFrom a (fieldsBetween a e s)
-
-pub record ListIn (a e : ℕ) (s : List ℕ) : Type 0 where
-  pub order : a ≤ e
-  pub inside : e ≤ length s
-  pub short : e ≤ a + 4096
-  pub reads : ListReads (part a e s)
-
 -- where a message's list lies
 unfoldable pub bodyPlace : ℕ → Body → ℕ → ListPlace
 bodyPlace at (bytes s) end = Nowhere
@@ -83,10 +61,3 @@ messagePlace (refused f) = Nowhere
 
 unfoldable pub listPlace : List ℕ → ListPlace
 listPlace s = messagePlace (readOf s)
-
-unfoldable pub placeOfStatus : Reading Message → ListPlace
-placeOfStatus (got m) = pick (isStatus m) (messagePlace (got m)) Nowhere
-placeOfStatus (refused f) = Nowhere
-
-unfoldable pub statusPlace : List ℕ → ListPlace
-statusPlace s = placeOfStatus (readOf s)

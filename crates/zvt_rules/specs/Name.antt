@@ -3,12 +3,12 @@ use Prim.Native.Nat.{ℕ, _+_}
 use mathlib.Core.List.{List, [], _∷_}
 use lib.ListN.{length}
 use lib.Dec.{eqb}
 use Rattle.zvt_rules.specs.Reading.{Reading, got, refused, pick, part}
 use Rattle.zvt_rules.specs.Message.{Message, readOf}
-use Rattle.zvt.specs.declared.FieldAnswer.{FieldAnswer}
-use Rattle.zvt.specs.declared.FieldAnswer.the-variants.{Field as listed-field, End}
+use Rattle.zvt_rules.specs.declared.FieldAnswer.{FieldAnswer}
+use Rattle.zvt_rules.specs.declared.FieldAnswer.the-variants.{Field as listed-field, End}
 use Rattle.zvt_rules.specs.Values.{isStatus}
-use Rattle.zvt.specs.List.{listedMessage, namedListed}
+use Rattle.zvt_rules.specs.Listed.{listedMessage, namedListed}
 
 -- "up to its first zero byte"
 unfoldable pub upToZero : List ℕ → List ℕ

@@ -1,10 +1,10 @@
--- `zvt::body::message_of` meets its contract. Assumes nothing.
+-- `zvt::body::outline_of` meets its contract. Assumes nothing.
 use mathlib.Core.Logic.{⊎-elim}
 use mathlib.Core.Path.{sym, _∙_}
 use borrow.Author.Tests.{eq-eqb, ne-eqb}
 use Rattle.zvt.proofs.MessageLaws.{described-spare, described-full, described-start}
-use Rattle.zvt.proofs.body.message_of.Statement.{statement}
-use Rattle.zvt.proofs.body.message_of.Tie as tie
+use Rattle.zvt.proofs.body.outline_of.Statement.{statement}
+use Rattle.zvt.proofs.body.outline_of.Tie as tie
 
 returns : tie.Need-returns
 returns c = described-full _ _ (c .before .before .before .before .if1 .taken) (c .if3 .taken)
@@ -14,8 +14,5 @@ returns-2 c =
     described-start _ _ _ (c .before .before .before .before .if1 .taken) (c .if3 .left)
     (⊎-elim (λ w. eq-eqb _ _ (w .0 .taken) ∙ sym (w .1)) (λ w. ne-eqb _ _ (w .0 .left) ∙ sym (w .1)) (c .before .before .if2 .came))
 
-returns-3 : tie.Need-returns-3
-returns-3 c = described-spare _ _ (c .if1 .left)
-
-pub message-of-spec : {M : Type 1} → statement M
-message-of-spec = tie.close (tie.spec returns returns-2 returns-3)
+pub outline-of-spec : {M : Type 1} → statement M
+outline-of-spec = tie.close (tie.spec returns returns-2 (λ c. described-spare _ _ (c .if1 .left)))

@@ -1,6 +1,6 @@
 -- What the reading of fields, lists and headers gives step by step, with no bound on the steps. Assumes nothing.
 use mathlib.Core.Path.{_≡_, refl, sym, _∙_}
-use mathlib.Core.Bool.{true, false, not, and-eq-true-iff}
+use mathlib.Core.Bool.{Bool, true, false, not}
 use mathlib.Core.List.{List, [], _∷_}
 use Prim.Native.Nat.{ℕ, zero, suc, _+_, _-_, _*_, _^_, _<_, _≤_}
 use native.Mathlib.Numerals.{add-one}
@@ -8,20 +8,21 @@ use native.Mathlib.Nat.{pow-succ'}
 use native.Mathlib.Omega.{arith}
 use lib.ListN.{length, getD, drop, length-drop, drop-of-length-le}
 use lib.Seq.{drop-cons}
-use lib.Dec.{ltb, leb}
-use borrow.Author.Tests.{ltb-false, leb-true, not-false}
+use lib.Dec.{ltb}
+use borrow.Author.Tests.{ltb-false, not-false}
 use Rattle.zvt_rules.specs.declared.Format.{Format}
 use Rattle.zvt_rules.specs.declared.Format.the-variants.{Unknown, Fixed, Digits, Container}
 use Rattle.zvt_rules.specs.Reading.{Reading, got, refused, no, unless, andThen, part, among}
 use Rattle.zvt_rules.specs.Objects.{formSize, Len, lenOf, RunRead, runOf}
 use Rattle.zvt_rules.specs.Fields.{formatOf, unknown, lengthDigit, digitsOf, decimal, unlessUndecimal, digitsIn, holdsDigits, plain, container, FieldRead, valueOf, plainOf, containerOf, fieldBy, fieldOf, listBy, listOf}
-use Rattle.zvt_rules.specs.Message.{BodyLength, lengthOf, Header, headerSize, end, headerWith, headerOf}
+use Rattle.zvt_rules.specs.Message.{BodyLength, lengthOf, Heading, headerSize, end, headerWith, headerOf}
 use Rattle.zvt_rules.specs.Grammar.{Decimals}
-use Rattle.zvt_rules.proofs.Readings.{got-same, got-not-refused, unless-got, unless-on, then-got, then-alike, pick-test}
+use Rattle.zvt_rules.proofs.Readings.{got-same, got-not-refused, unless-got, unless-on, then-got, then-alike}
+use Rattle.zvt_rules.proofs.Tests.{pick-test, leb-test, and-test}
 
 -- ---- length digits, from the i-th on
 pub digit-in : (b : ℕ) → lengthDigit b ≡ true → (0xF0 ≤ b) × (b ≤ 0xF9)
-digit-in b e = let k = and-eq-true-iff (leb 0xF0 b) (leb b 0xF9) .0 e in (leb-true 0xF0 b (k .0), leb-true b 0xF9 (k .1))
+digit-in b e = and-test (leb-test 0xF0 b) (leb-test b 0xF9) .0 e
 
 digits-first : (d v at : ℕ) (s : List ℕ) (i : ℕ) → i < d → i < length s
     → digitsOf (d - i) v (at + i) (drop i s)
@@ -200,7 +201,10 @@ list-step seen n at (b ∷ s) h =
     rw (enough (length s) (length rest) (b ∷ seen) (o .count) (at + o .size) rest (omega arith) (omega arith))
 
 -- ---- a header's body lies within the bytes and the limit
-pub with-in : (c i : ℕ) (s : List ℕ) (l : BodyLength) (h : Header) → headerWith c i s l ≡ got h
+pub header-most : (long : Bool) → headerSize long ≤ 5
+header-most long = pick-test (λ n. n ≤ 5) long (λ _. omega arith) (λ _. omega arith)
+
+pub with-in : (c i : ℕ) (s : List ℕ) (l : BodyLength) (h : Heading) → headerWith c i s l ≡ got h
     → (l .value ≤ 4096) × (headerSize (l .long) + l .value ≤ length s) × (h ≡ record { class = c; instruction = i; long = l .long; size = l .value })
 unfolding headerWith
 with-in c i s l h e =
@@ -208,7 +212,7 @@ with-in c i s l h e =
     let j = unless-got (ltb (length s) (headerSize (l .long) + l .value)) _ _ h (k .1) in
     (ltb-false 4096 (l .value) (k .0), ltb-false (length s) (headerSize (l .long) + l .value) (j .0), sym (got-same (j .1)))
 
-pub header-in : (s : List ℕ) (h : Header) → headerOf s ≡ got h → (h .size ≤ 4096) × (end h ≤ length s)
+pub header-in : (s : List ℕ) (h : Heading) → headerOf s ≡ got h → (h .size ≤ 4096) × (end h ≤ length s)
 unfolding headerOf
 header-in [] h e = absurd (got-not-refused (sym e))
 header-in (c ∷ []) h e = absurd (got-not-refused (sym e))

@@ -1,4 +1,4 @@
--- What the readers of data objects answer, by the definitions of crate zvt_rules. Definitions only.
+-- Steps of the code, private: what the readers of data objects answer, by the definitions of crate zvt_rules. Definitions only.
 use Prim.Native.Nat.{ℕ, _+_, _-_}
 use mathlib.Core.Bool.{Bool}
 use mathlib.Core.List.{List}

@@ -1,28 +1,22 @@
--- What the writers of the shortest message put down. Definitions only.
+-- Steps of the code, private: what the writers of the shortest message put down. Definitions only.
 use mathlib.Core.Path.{_≡_}
 use Prim.Native.Nat.{ℕ, _+_, _-_}
 use mathlib.Core.List.{List, [], _∷_, _++_}
-use lib.ListN.{length, take, drop}
-use lib.Dec.{leb, ltb}
+use lib.ListN.{length, take}
+use lib.Dec.{leb}
 use Rattle.zvt_rules.specs.declared.Layout.{Layout}
-use Rattle.zvt_rules.specs.Reading.{Reading, got, refused, noHeader, pick, unless, andThen, part}
+use Rattle.zvt_rules.specs.Reading.{Reading, got, refused, pick, part}
 use Rattle.zvt_rules.specs.Objects.{RunRead, runOf}
 use Rattle.zvt_rules.specs.Fields.{ListRead, listOf}
 use Rattle.zvt_rules.specs.Message.{Body, bodyOf, layoutOf}
 use Rattle.zvt_rules.specs.Writing.{lenBytes, runBytes, listBytes, bodyBytes, lengthBytes}
-use Rattle.zvt_rules.specs.Shortest.{formFor, shortRun, shortList, shortBody, shorten}
-use Rattle.zvt.specs.declared.Header.{Header}
+use Rattle.zvt_rules.specs.Shortest.{formFor, shortRun, shortList, shortBody}
+use Rattle.zvt_rules.specs.declared.Header.{Header}
 use Rattle.zvt.specs.declared.objects.Bounds.{Bounds}
-use Rattle.zvt.specs.declared.ShortenAnswer.{ShortenAnswer}
-use Rattle.zvt.specs.declared.ShortenAnswer.the-variants.{Written, Refused}
-use Rattle.zvt.specs.Answers.{refusalOf}
 
--- w at the end of d, and w at its front
+-- w over the end of a buffer
 unfoldable pub back : List ℕ → List ℕ → List ℕ
 back w d = take (length d - length w) d ++ w
-
-unfoldable pub front : List ℕ → List ℕ → List ℕ
-front w d = w ++ drop (length w) d
 
 -- w was put at the end of a buffer, and so much of it is left before w
 pub record Put (w entry : List ℕ) (left : ℕ) (exit : List ℕ) : Type 0 where
@@ -86,22 +80,3 @@ unfoldable pub shortMessageOf : Header → List ℕ → List ℕ
 shortMessageOf h s =
     let body = shortBodyOf (headerLayout h) (bodyPart h s) in
     headerBytes (h .class) (h .instruction) (length body) ++ body
-
--- "Reading and shortening: header, body, 11." What is written into so much room
-unfoldable pub shortened : ℕ → List ℕ → Reading (List ℕ)
-shortened room s = andThen (shorten s) λ w. unless (ltb room (length w)) (noHeader 11) (got w)
-
-unfoldable pub asShortenAnswer : Reading (List ℕ) → ShortenAnswer
-asShortenAnswer (got w) = Written (length w)
-asShortenAnswer (refused f) = Refused (refusalOf f)
-
-unfoldable pub shortenAnswer : ℕ → List ℕ → ShortenAnswer
-shortenAnswer room s = asShortenAnswer (shortened room s)
-
--- "desk and buffers are unchanged"; "buffer bytes beyond those written are unchanged"
-unfoldable pub lent : Reading (List ℕ) → List ℕ → List ℕ
-lent (got w) out = front w out
-lent (refused f) out = out
-
-unfoldable pub shortenLeaves : List ℕ → List ℕ → List ℕ
-shortenLeaves s out = lent (shortened (length out) s) out

@@ -1,21 +1,18 @@
--- What the readers of a header answer, by the definitions of crate zvt_rules. Definitions only.
+-- Steps of the code, private: what the readers of a header answer, by the definitions of crate zvt_rules. Definitions only.
 use Prim.Native.Nat.{ℕ, _+_}
 use mathlib.Core.List.{List}
 use lib.ListN.{length}
 use lib.Dec.{ltb}
 use Rattle.zvt_rules.specs.Reading.{Reading, got, refused, noHeader, unless, andThen}
-use Rattle.zvt_rules.specs.Message.{Header as MessageHeader, start, headerOf, wholeHeader}
-use Rattle.zvt.specs.declared.Header.{Header}
+use Rattle.zvt_rules.specs.Message.{headerOf, wholeHeader}
+use Rattle.zvt_rules.specs.Answers.{headerIn}
+use Rattle.zvt_rules.specs.declared.Header.{Header}
 use Rattle.zvt.specs.declared.headers.HeaderRead.{HeaderRead}
 use Rattle.zvt.specs.declared.headers.HeaderRead.the-variants.{Header as header-read, Refused as header-refused}
 
 unfoldable pub asHeader : Reading Header → HeaderRead
 asHeader (got h) = header-read h
 asHeader (refused r) = header-refused r
-
--- the header by the place where its body starts
-unfoldable pub headerIn : MessageHeader → Header
-headerIn h = record { class = h .class; instruction = h .instruction; start = start h; length = h .size }
 
 unfoldable pub fitting : Header → List ℕ → HeaderRead
 fitting h s =

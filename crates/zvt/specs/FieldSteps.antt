@@ -1,4 +1,4 @@
--- What the readers of fields answer, by the definitions of crate zvt_rules. Definitions only.
+-- Steps of the code, private: what the readers of fields answer, by the definitions of crate zvt_rules. Definitions only.
 use Prim.Native.Nat.{ℕ, _+_, _-_}
 use mathlib.Core.Bool.{Bool, true, false}
 use mathlib.Core.List.{List, []}
@@ -18,7 +18,7 @@ use Rattle.zvt.specs.declared.fields.DigitsRead.{DigitsRead}
 use Rattle.zvt.specs.declared.fields.DigitsRead.the-variants.{Number, Refused as digits-refused}
 use Rattle.zvt.specs.declared.fields.Decimals.{Decimals}
 use Rattle.zvt.specs.declared.fields.Decimals.the-variants.{All, Refused as decimals-refused}
-use Rattle.zvt.specs.Objects.{asBounds, asPart, boundsIn}
+use Rattle.zvt.specs.ObjectSteps.{asBounds, asPart, boundsIn}
 
 unfoldable pub asDigits : Reading ℕ → DigitsRead
 asDigits (got v) = Number v
@@ -69,8 +69,8 @@ fieldWhen twice n at s =
     let id = getD s 0 0 in
     unless (unknown (formatOf id)) (no 5 at) (unless twice (no 7 at) (fieldBy id n at s (formatOf id)))
 
-unfoldable pub fieldAnswer : Bool → ℕ → ℕ → List ℕ → PartRead
-fieldAnswer twice n at s = asPart fieldTally (fieldWhen twice n at s)
+unfoldable pub fieldPart : Bool → ℕ → ℕ → List ℕ → PartRead
+fieldPart twice n at s = asPart fieldTally (fieldWhen twice n at s)
 
 unfoldable pub listAnswer : ℕ → List ℕ → PartRead
 listAnswer at s = asPart (listTally s) (listOf [] 0 at s)

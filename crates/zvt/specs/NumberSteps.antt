@@ -1,4 +1,4 @@
--- The number in a field of a list. Definitions only.
+-- Steps of the code, private: the number in a field of a list. Definitions only.
 use mathlib.Core.Path.{_≡_}
 use Prim.Native.Nat.{ℕ, _≤_}
 use Rattle.zvt_rules.specs.declared.Format.the-variants.{Fixed}

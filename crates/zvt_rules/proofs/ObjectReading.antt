@@ -10,10 +10,11 @@ use lib.Seq.{take-all}
 use lib.Dec.{ltb, leb, eqb}
 use borrow.Author.Tests.{ltb-false, leb-false, eqb-false}
 use Rattle.zvt_rules.specs.Reading.{Reading, got, no, unless, andThen, part}
-use Rattle.zvt_rules.specs.Objects.{longTag, topBit, nested, secondTag, tagSize, formSize, Len, oneByte, twoBytes, lenOf}
+use Rattle.zvt_rules.specs.Objects.{longTag, topBit, nested, secondTag, tagSize, formSize, Len, oneByteLen, twoByteLen, lenOf}
 use Rattle.zvt_rules.specs.Objects.{Head, from, to, headWith, headOf, Obj, leaf, branch, none, more}
 use Rattle.zvt_rules.specs.Objects.{OneRead, RunRead, RunReader, insideOf, oneBy, runBy, runOf, oneOf}
-use Rattle.zvt_rules.proofs.Readings.{got-same, got-not-refused, unless-got, then-got, then-alike, pick-test}
+use Rattle.zvt_rules.proofs.Tests.{pick-test}
+use Rattle.zvt_rules.proofs.Readings.{got-same, got-not-refused, unless-got, then-got, then-alike}
 
 -- a part up to the end is what is left
 pub tail : (k : ℕ) (s : List ℕ) → take (length s - k) (drop k s) ≡ drop k s
@@ -38,13 +39,13 @@ tag-in at (b ∷ s) k e =
 abbrev LenIn : List ℕ → Len → Type 0
 LenIn s l = (1 ≤ formSize (l .form)) × (formSize (l .form) ≤ length s)
 
-one-byte-in : (at b : ℕ) (s : List ℕ) (l : Len) → oneByte at s ≡ got l → LenIn (b ∷ s) l
-unfolding oneByte formSize
+one-byte-in : (at b : ℕ) (s : List ℕ) (l : Len) → oneByteLen at s ≡ got l → LenIn (b ∷ s) l
+unfolding oneByteLen formSize
 one-byte-in at b [] l e = absurd (got-not-refused (sym e))
 one-byte-in at b (v ∷ s) l e = subst (LenIn (b ∷ (v ∷ s))) (got-same e) (omega arith)
 
-two-bytes-in : (at b : ℕ) (s : List ℕ) (l : Len) → twoBytes at s ≡ got l → LenIn (b ∷ s) l
-unfolding twoBytes formSize
+two-bytes-in : (at b : ℕ) (s : List ℕ) (l : Len) → twoByteLen at s ≡ got l → LenIn (b ∷ s) l
+unfolding twoByteLen formSize
 two-bytes-in at b [] l e = absurd (got-not-refused (sym e))
 two-bytes-in at b (h ∷ []) l e = absurd (got-not-refused (sym e))
 two-bytes-in at b (h ∷ (c ∷ s)) l e = subst (LenIn (b ∷ (h ∷ (c ∷ s)))) (got-same e) (omega arith)

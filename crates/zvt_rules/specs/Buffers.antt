@@ -1,0 +1,15 @@
+-- What a function leaves in a buffer that it is lent: "desk and buffers are unchanged" by a refusal; "Where a call succeeds, buffer
+-- bytes beyond those written are unchanged." Definitions only.
+use Prim.Native.Nat.{ℕ}
+use mathlib.Core.List.{List, _++_}
+use lib.ListN.{length, drop}
+use Rattle.zvt_rules.specs.Reading.{Reading, got, refused}
+
+-- w over the front of a buffer
+abbrev pub front : List ℕ → List ℕ → List ℕ
+front w out = w ++ drop (length w) out
+
+-- what is written, or a refusal
+unfoldable pub writtenLeaves : Reading (List ℕ) → List ℕ → List ℕ
+writtenLeaves (got w) out = front w out
+writtenLeaves (refused f) out = out
