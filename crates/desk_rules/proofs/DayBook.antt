@@ -116,6 +116,19 @@ blocks-whole ls [] b j h = absurd (omega arith)
 blocks-whole ls (p ∷ ps) b zero h = let x = b .0 in (x .lane, x .small, x .its (x .lane) ∙ rw (eq-eqb (x .lane) (x .lane) refl), x .begins)
 blocks-whole ls (p ∷ ps) b (suc j) h = blocks-whole _ ps (b .1) j (omega arith)
 
+-- what holds of every payment holds of those that take a place
+paying-all : (P : List Call → Type 0) (ps : List (List Call)) → ((j : ℕ) → j < length ps → P (getD ps j []))
+    → (j : ℕ) → j < length (paying ps) → P (getD (paying ps) j [])
+unfolding paying
+paying-all P [] h j l = absurd (omega arith)
+paying-all P (p ∷ ps) h j l = go (pays p) (paying-all P ps (λ k m. h (suc k) (omega arith))) j l
+  where
+    go : (b : Bool) → ((k : ℕ) → k < length (paying ps) → P (getD (paying ps) k [])) → (j : ℕ) → j < length (pick b (p ∷ paying ps) (paying ps))
+        → P (getD (pick b (p ∷ paying ps) (paying ps)) j [])
+    go true ih zero l = h 0 (omega arith)
+    go true ih (suc j) l = ih j (omega arith)
+    go false ih j l = ih j l
+
 says-begins : (k : ℕ) (w : Own) (q : List Call) → LaneSays k w q → (q ≡ []) ⊎ Begins q
 unfolding LaneSays
 says-begins k w [] h = inl refl
@@ -126,6 +139,7 @@ says-begins k w (o ∷ ds) h = inr (h .1)
 pub record Paid (cs : List Call) : Type 0 where
   pub number : length (paying (paymentsOf cs .ended)) + total paid (paymentsOf cs .ongoing) ≡ openings cs
   pub ended : (j : ℕ) → j < length (paymentsOf cs .ended) → WholePayment (getD (paymentsOf cs .ended) j [])
+  pub booked : (j : ℕ) → j < length (paying (paymentsOf cs .ended)) → WholePayment (getD (paying (paymentsOf cs .ended)) j [])
   pub ongoing : (k : ℕ) → (getD (paymentsOf cs .ongoing) k [] ≡ []) ⊎ Begins (getD (paymentsOf cs .ongoing) k [])
   pub calls : (k : ℕ) → callsOf k cs ≡ callsOf k (flattened (paymentsOf cs .ended)) ++ getD (paymentsOf cs .ongoing) k []
 
@@ -134,6 +148,7 @@ every-opening cs h =
     record {
       number = omega (arith, count cs h .0, ap length (kept-lines k), lines-length [] (paying (paymentsOf cs .ended)), paid-places, places-total (run fresh cs .lanes));
       ended = blocks-whole [] (paymentsOf cs .ended) (k .blocks);
+      booked = paying-all WholePayment (paymentsOf cs .ended) (blocks-whole [] (paymentsOf cs .ended) (k .blocks));
       ongoing = λ i. says-begins i _ _ (k .each i .says);
       calls = k .calls;
     }

@@ -1,13 +1,12 @@
 -- What the answer of a function says of the reading or the decision behind it. Assumes nothing.
 use mathlib.Core.Path.{_≡_, refl, sym, ap, _∙_}
-use mathlib.Core.Bool.{Bool, true, false, false≢true}
+use mathlib.Core.Bool.{Bool, true, false, _&&_, false≢true, and-eq-true-iff}
 use mathlib.Core.Logic.{_↔_, _⊎_, inl, inr, ⊎-elim}
 use mathlib.Core.List.{List, [], _∷_}
-use Prim.Native.Nat.{ℕ, suc, _<_}
+use Prim.Native.Nat.{ℕ, zero, suc, _<_}
 use native.Mathlib.Omega.{arith}
 use lib.ListN.{length, take, drop}
 use lib.Seq.{take-at, drop-at}
-use borrow.Author.Tests.{eq-eqb, ne-eqb}
 use Rattle.zvt_rules.specs.declared.Fault.{Fault}
 use Rattle.zvt_rules.specs.declared.Refusal.{Refusal}
 use Rattle.zvt_rules.specs.Reading.{Reading, got, refused}
@@ -18,16 +17,18 @@ use Rattle.zvt_rules.specs.declared.FirstAnswer.the-variants.{Refused as first-
 use Rattle.zvt_rules.specs.declared.ShortenAnswer.the-variants.{Written as short-written, Refused as short-refused}
 use Rattle.zvt_rules.specs.Answers.{refusalOf, asHeaderAnswer, headerAnswer, asReadAnswer, readAnswer, asFirstAnswer, firstAnswer, shortened, asShortenAnswer, shortenAnswer, shortenLeaves}
 use Rattle.zvt_rules.specs.Buffers.{writtenLeaves}
+use Rattle.zvt_rules.proofs.Tests.{pick-test}
 use Rattle.desk_rules.specs.declared.Phase.{Phase}
 use Rattle.desk_rules.specs.declared.Phase.the-variants.{Idle, Waiting, Running}
 use Rattle.desk_rules.specs.declared.Lane.{Lane}
 use Rattle.desk_rules.specs.declared.Desk.{Desk}
 use Rattle.desk_rules.specs.declared.Answer.{Answer}
 use Rattle.desk_rules.specs.declared.Reply.the-variants.{Written, Refused}
-use Rattle.desk_rules.specs.Course.{isIdle, Call, writes}
-use Rattle.desk_rules.specs.Desk.{laneAt, lanePlace, places, Decision, refuse, accept, decide}
+use Rattle.desk_rules.specs.Kinds.{isIdle}
+use Rattle.desk_rules.specs.Course.{Call, writes}
+use Rattle.desk_rules.specs.Desk.{laneAt, allIdle, Decision, refuse, accept, decide}
 use Rattle.desk_rules.specs.Memory.{freshDesk, view, laneFor, Valid, refusedAnswer, answerOf, leavesOf, closeAnswer}
-use Rattle.desk_rules.proofs.Memory.{place-idle, place-in, refused-same, accepted-answer, refused-leaves, accepted-leaves}
+use Rattle.desk_rules.proofs.Memory.{refused-same, accepted-answer, refused-leaves, accepted-leaves}
 use Rattle.promises.specs.Answers.{numbered, Refuses, Takes, Open}
 use Rattle.promises.proofs.ReadTable.{No}
 
@@ -133,43 +134,42 @@ module _ (d : Desk) (c : Call) (out : List ℕ) where
         ap (drop k) (accepted-leaves d c out taken) ∙ drop-at w (drop (length w) out) k size ∙ ap (λ (n : ℕ). drop n out) size
 
 -- ---- closing
+
+-- every lane is idle, or some is not
+idle-or-not : (ls : List Lane) → (allIdle ls ≡ true) ⊎ ((i : ℕ) × (i < length ls) × (laneAt ls i .phase ≡ Idle → ⊥))
+unfolding allIdle
+idle-or-not [] = inl refl
+idle-or-not (l ∷ ls) = go (isIdle (l .phase)) refl (idle-or-not ls)
+  where
+    go : (t : Bool) → isIdle (l .phase) ≡ t → (allIdle ls ≡ true) ⊎ ((i : ℕ) × (i < length ls) × (laneAt ls i .phase ≡ Idle → ⊥))
+        → (t && allIdle ls ≡ true) ⊎ ((i : ℕ) × (i < length (l ∷ ls)) × (laneAt (l ∷ ls) i .phase ≡ Idle → ⊥))
+    go false e r = inr (0, omega arith, λ q. false≢true (sym e ∙ ap isIdle q))
+    go true e (inl r) = inl r
+    go true e (inr r) = inr (suc (r .0), omega (arith, r .1), r .2)
+
 idle-same : (p : Phase) → isIdle p ≡ true → p ≡ Idle
-unfolding isIdle
 idle-same Idle e = refl
 idle-same Waiting e = absurd (false≢true e)
 idle-same Running e = absurd (false≢true e)
 
--- no place is taken, or some lane is not idle
-place-or-none : (ls : List Lane) → (places ls ≡ 0) ⊎ ((i : ℕ) × (i < length ls) × (laneAt ls i .phase ≡ Idle → ⊥))
-unfolding places lanePlace isIdle
-place-or-none [] = inl refl
-place-or-none (l ∷ ls) = go (isIdle (l .phase)) refl (place-or-none ls)
-  where
-    go : (t : Bool) → isIdle (l .phase) ≡ t → (places ls ≡ 0) ⊎ ((i : ℕ) × (i < length ls) × (laneAt ls i .phase ≡ Idle → ⊥))
-        → (places (l ∷ ls) ≡ 0) ⊎ ((i : ℕ) × (i < length (l ∷ ls)) × (laneAt (l ∷ ls) i .phase ≡ Idle → ⊥))
-    go false e r = inr (0, omega arith, λ q. false≢true (sym e ∙ ap isIdle q))
-    go true e (inl r) = inl (rw (e, r))
-    go true e (inr r) = inr (suc (r .0), omega (arith, r .1), r .2)
-
-none-taken : (ls : List Lane) (i : ℕ) → places ls ≡ 0 → laneAt ls i .phase ≡ Idle
-none-taken ls i e = idle-same _ (place-idle (laneAt ls i) .0 (omega (arith, place-in ls i)))
+all-are : (ls : List Lane) (i : ℕ) → allIdle ls ≡ true → laneAt ls i .phase ≡ Idle
+unfolding allIdle
+all-are [] i e = refl
+all-are (l ∷ ls) zero e = idle-same _ (and-eq-true-iff (isIdle (l .phase)) (allIdle ls) .0 e .0)
+all-are (l ∷ ls) (suc i) e = all-are ls i (and-eq-true-iff (isIdle (l .phase)) (allIdle ls) .0 e .1)
 
 module _ (d : Desk) (v : Valid d) where
-  pub open-or-not : (places (d .lanes) ≡ 0) ⊎ Open d
+  pub open-or-not : (allIdle (d .lanes) ≡ true) ⊎ Open d
   unfolding Open view
-  open-or-not = ⊎-elim inl (λ k. inr (k .0, omega (arith, k .1, v .lanes), k .2)) (place-or-none (d .lanes))
+  open-or-not = ⊎-elim inl (λ k. inr (k .0, omega (arith, k .1, v .lanes), k .2)) (idle-or-not (d .lanes))
 
-  pub all-idle : places (d .lanes) ≡ 0 → Open d → ⊥
-  unfolding Open view
-  all-idle e o = o .2 (none-taken (d .lanes) (o .0) e)
-
-  closed : places (d .lanes) ≡ 0 → closeAnswer d ≡ record { reply = Written 0; desk = freshDesk }
+  closed : allIdle (d .lanes) ≡ true → closeAnswer d ≡ record { reply = Written 0; desk = freshDesk }
   unfolding closeAnswer
-  closed e = rw (eq-eqb (places (d .lanes)) 0 e)
+  closed e = rw e
 
   held : Open d → closeAnswer d ≡ refusedAnswer d 19
-  unfolding closeAnswer
-  held o = rw (ne-eqb (places (d .lanes)) 0 (λ e. all-idle e o))
+  unfolding Open view closeAnswer
+  held o = pick-test (λ (a : Answer). a ≡ refusedAnswer d 19) (allIdle (d .lanes)) (λ e. absurd (o .2 (all-are (d .lanes) (o .0) e))) (λ _. refl)
 
   pub closing-no : (n : ℕ) → Refuses (closeAnswer d) n ↔ (Open d × (19 ≡ n))
   unfolding refusedAnswer

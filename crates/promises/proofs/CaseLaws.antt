@@ -16,17 +16,17 @@ use Rattle.zvt_rules.specs.Answers.{refusalOf, outlineOf, asReadAnswer, readAns
 use Rattle.zvt_rules.specs.Buffers.{writtenLeaves}
 use Rattle.zvt_rules.specs.Listed.{listedAt, listedFrom, listedBody, listedMessage, namedListed}
 use Rattle.zvt_rules.specs.Name.{upToZero, sizedName, nameIn, nameOf, nameAt, nameBytes, cardName}
-use Rattle.desk_rules.specs.Lanes.{toldReceipt, receiptBy, lineAt}
-use Rattle.desk_rules.specs.Commands.{saleCommand, reversalCommand, saleBytes, reversalBytes}
-use Rattle.desk_rules.specs.Course.{heardWaiting, amountBy, isReversal, settledAs, completedBy, abortedBy, reportedBy, movedBy, afterBody, heardRunning}
-use Rattle.desk_rules.specs.Course.{heardBy, afterHeader, isIdle, heard, isApproved, isSale, concerns, lastFrom, lastLine, openedBy}
-use Rattle.desk_rules.specs.Course.{laneOf, opens, moves, answered, writes}
-use Rattle.desk_rules.specs.Desk.{lanePlace, places, load, unlessRefused, decide}
+use Rattle.desk_rules.specs.Lanes.{receiptBy, lineAt, placeTaken}
+use Rattle.desk_rules.specs.Openings.{concerns, lastFrom, lastLine, commandOf, commandBytes}
+use Rattle.desk_rules.specs.Course.{heardWaiting, amountBy, settledAs, completedBy, abortedBy, reportedBy, movedBy, afterBody, heardRunning}
+use Rattle.desk_rules.specs.Course.{heardBy, afterHeader, heard, openedBy}
+use Rattle.desk_rules.specs.Course.{laneOf, needsPlace, moves, answered, writes}
+use Rattle.desk_rules.specs.Desk.{placesTaken, load, unlessRefused, decide}
 use Rattle.desk_rules.specs.Memory.{view, endedDesk, movedDesk, refusedAnswer, answerBy, answerOf, leavesBy, leavesOf}
-use Rattle.desk_rules.specs.Turnover.{gain, loss, gains, losses, netOf}
+use Rattle.desk_rules.specs.Turnover.{gains, losses, netOf}
 use Rattle.promises.specs.Days.{buffer}
 use Rattle.promises.specs.Asking.{readSays, listSays, shortSays, callSays, status, output, unlessNo, afterDay, answerTo, computed, stated}
-use Rattle.promises.specs.Cases.{hex, plainBody, twoSales, twoLines, sold, table}
+use Rattle.promises.specs.Cases.{hex, plainBody, twoSales, twoLines, soldOnce, table}
 
 -- The definitions answer every row of the table as the page does.
 pub cases : computed table ≡ stated table
@@ -38,11 +38,11 @@ unfolding unless andThen among secondTag tagSize formSize oneByteLen twoByteLen 
     isShort write shorten digitBytesOf decimalFrom numberOf fieldValue valueIn codeOf amountOf receiptOf codeIn amountIn receiptIn statusIn
     bodyFields refusalOf outlineOf asReadAnswer readAnswer shortened asShortenAnswer shortenAnswer writtenLeaves shortenLeaves
     listedAt listedFrom listedBody listedMessage namedListed upToZero sizedName nameIn nameOf nameAt nameBytes cardName
-    toldReceipt receiptBy lineAt saleCommand reversalCommand saleBytes reversalBytes
-    heardWaiting amountBy isReversal settledAs completedBy abortedBy reportedBy movedBy afterBody heardRunning heardBy afterHeader isIdle heard
-    isApproved isSale concerns lastFrom lastLine openedBy laneOf opens moves answered writes
-    lanePlace places load unlessRefused decide view endedDesk movedDesk refusedAnswer answerBy answerOf leavesBy leavesOf
-    gain loss gains losses netOf
+    receiptBy lineAt commandOf commandBytes
+    heardWaiting amountBy settledAs completedBy abortedBy reportedBy movedBy afterBody heardRunning heardBy afterHeader heard
+    concerns lastFrom lastLine openedBy laneOf needsPlace moves answered writes
+    placeTaken placesTaken load unlessRefused decide view endedDesk movedDesk refusedAnswer answerBy answerOf leavesBy leavesOf
+    gains losses netOf
     readSays listSays shortSays callSays status output unlessNo afterDay answerTo computed stated buffer
-    hex plainBody twoSales twoLines sold table
+    hex plainBody twoSales twoLines soldOnce table
 cases = refl

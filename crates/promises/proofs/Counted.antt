@@ -18,8 +18,9 @@ use Rattle.desk_rules.specs.declared.Outcome.the-variants.{Approved}
 use Rattle.desk_rules.specs.declared.Lane.{Lane}
 use Rattle.desk_rules.specs.declared.Line.{Line}
 use Rattle.desk_rules.specs.declared.Moved.{Moved}
+use Rattle.desk_rules.specs.Kinds.{isReversal}
 use Rattle.desk_rules.specs.Lanes.{noStatus, lineAt}
-use Rattle.desk_rules.specs.Course.{pairIs, amountBy, isReversal, settledAs, completedBy, abortedBy, Ask, Call, sale, refund, reversal, message, lost, laneOf}
+use Rattle.desk_rules.specs.Course.{pairIs, amountBy, settledAs, completedBy, abortedBy, Call, opening, message, lost, laneOf}
 use Rattle.desk_rules.specs.Payments.{askOf, orElse, remembered, recalled, verdictOf, verdict, askedLane, lineBy, judged, lineOf}
 use Rattle.promises.specs.Counted.{Completes, Silent, AllSilent, Reported, Counted}
 
@@ -72,9 +73,7 @@ message-tells i l s (got m) e =
 
 reports : (st : Status) (c : Call) → Silent c ⊎ ((i : ℕ) × (s : List ℕ) × (c ≡ message i s) × (remembered st c ≡ statusOf s))
 unfolding remembered orElse
-reports st (sale i amount) = inl (λ _. refl)
-reports st (refund i password amount) = inl (λ _. refl)
-reports st (reversal i password receipt) = inl (λ _. refl)
+reports st (opening i o) = inl (λ _. refl)
 reports st (lost i) = inl (λ _. refl)
 reports st (message i s) = go (statusOf s .code) refl
   where
@@ -108,7 +107,7 @@ last-report (c ∷ cs) st = ⊎-elim quiet later (last-report cs (remembered st 
 -- ---- both together
 
 -- the last call of those that an approved line is judged by
-record Judged (i : ℕ) (a : Ask) (st : Status) (cs : List Call) : Type 0 where
+record Judged (i : ℕ) (a : Lane) (st : Status) (cs : List Call) : Type 0 where
   reported : List Call
   lane : ℕ
   completion : List ℕ
@@ -117,15 +116,13 @@ record Judged (i : ℕ) (a : Ask) (st : Status) (cs : List Call) : Type 0 where
   code : recalled st reported .code ≡ Code 0
   settled : judged i a st cs .settled ≡ amountBy (recalled st reported .amount) (a .asked)
 
-judged-by : (cs : List Call) (i : ℕ) (a : Ask) (st : Status) → judged i a st cs .outcome ≡ Approved → Judged i a st cs
+judged-by : (cs : List Call) (i : ℕ) (a : Lane) (st : Status) → judged i a st cs .outcome ≡ Approved → Judged i a st cs
 unfolding judged recalled verdict askedLane lineBy lineAt
 judged-by [] i a st h = absurd (let z : _≡_ {A = ℕ} 0 1 = cc in omega arith)
 judged-by (message k s ∷ []) i a st h =
     let t = message-tells i (askedLane a st) s (readOf s) refl h in
     record { reported = []; lane = k; completion = s; calls = refl; completes = t .0; code = t .1 .0; settled = t .1 .1 }
-judged-by (sale k amount ∷ []) i a st h = absurd (let z : _≡_ {A = ℕ} 0 1 = cc in omega arith)
-judged-by (refund k password amount ∷ []) i a st h = absurd (let z : _≡_ {A = ℕ} 0 1 = cc in omega arith)
-judged-by (reversal k password receipt ∷ []) i a st h = absurd (let z : _≡_ {A = ℕ} 0 1 = cc in omega arith)
+judged-by (opening k o ∷ []) i a st h = absurd (let z : _≡_ {A = ℕ} 0 1 = cc in omega arith)
 judged-by (lost k ∷ []) i a st h = absurd (let z : _≡_ {A = ℕ} 0 1 = cc in omega arith)
 judged-by (c ∷ (d ∷ cs)) i a st h =
     let j = judged-by (d ∷ cs) i a (remembered st c) h in

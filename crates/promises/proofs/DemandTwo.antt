@@ -25,9 +25,10 @@ use Rattle.zvt_rules.specs.Answers.{outlineOf, asReadAnswer, readAnswer}
 use Rattle.zvt_rules.specs.Name.{nameAt, cardName, namePlace}
 use Rattle.desk_rules.specs.declared.Desk.{Desk}
 use Rattle.desk_rules.specs.declared.Reply.the-variants.{Written}
-use Rattle.desk_rules.specs.Numbers.{amountOk, receiptOk, passwordOk}
-use Rattle.desk_rules.specs.Commands.{FieldIs, MoneyIs, saleCommand, refundCommand, reversalCommand, saleBytes, refundBytes, reversalBytes, replyBytes}
-use Rattle.desk_rules.specs.Course.{Call, writes}
+use Rattle.desk_rules.specs.declared.Opening.{Opening}
+use Rattle.desk_rules.specs.Openings.{withinLimits, commandBytes}
+use Rattle.desk_rules.specs.Course.{replyBytes, Call, writes}
+use Rattle.desk_rules.specs.Table.{Commands}
 use Rattle.desk_rules.specs.Memory.{laneFor, answerOf, leavesOf}
 use Rattle.desk_rules.proofs.Commands as commands
 use Rattle.promises.specs.Names.{shownName, InMessage}
@@ -78,23 +79,10 @@ pub written : (d : Desk) (c : Call) (out : List ℕ) (k : ℕ) → answerOf d c 
     → take k (leavesOf d c out) ≡ writes (laneFor d c) c
 written = call-wrote
 
--- A terminal reads a sale's command as a sale of that amount, in euros.
-pub sale-reads-back : (amount : ℕ) → amountOk amount ≡ true
-    → (readOf (saleBytes amount) ≡ got (saleCommand amount)) × ((fs : List Field) × (saleCommand amount .body ≡ listed [] fs) × MoneyIs fs amount)
-sale-reads-back amount h = (commands.sale-reads amount, commands.sale-says amount h)
-
--- It reads a refund's command as a refund of that amount, with that password.
-pub refund-reads-back : (password amount : ℕ) → passwordOk password ≡ true → amountOk amount ≡ true
-    → (readOf (refundBytes password amount) ≡ got (refundCommand password amount))
-    × ((word : List ℕ) × (fs : List Field) × (refundCommand password amount .body ≡ listed word fs) × (numberOf word ≡ password) × MoneyIs fs amount)
-refund-reads-back password amount p h = (commands.refund-reads password amount, commands.refund-says password amount p h)
-
--- It reads a reversal's command as the reversal of that receipt, with that password.
-pub reversal-reads-back : (password receipt : ℕ) → passwordOk password ≡ true → receiptOk receipt ≡ true
-    → (readOf (reversalBytes password receipt) ≡ got (reversalCommand password receipt))
-    × ((word : List ℕ) × (fs : List Field) × (reversalCommand password receipt .body ≡ listed word fs) × (numberOf word ≡ password)
-    × FieldIs fs 0x87 receipt)
-reversal-reads-back password receipt p h = (commands.reversal-reads password receipt, commands.reversal-says password receipt p h)
+-- A terminal reads the command of an opening as that opening: a sale of that amount, in euros; a refund of that amount, or the reversal
+-- of that receipt, with that password.
+pub opening-reads-back : (o : Opening) → withinLimits o ≡ true → (m : Message) × (readOf (commandBytes o) ≡ got m) × Commands o m
+opening-reads-back = commands.opening-reads-back
 
 -- It reads a reply as 80 00 with an empty body.
 pub reply-reads-back : readOf replyBytes ≡ got (record { class = 0x80; instruction = 0x00; long = false; body = bytes [] })

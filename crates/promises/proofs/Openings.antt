@@ -11,9 +11,8 @@ use Rattle.zvt_rules.specs.Reading.{pick}
 use Rattle.zvt_rules.proofs.Tests.{pick-under}
 use Rattle.desk_rules.specs.Course.{Call, laneOf, opens}
 use Rattle.desk_rules.specs.Desk.{fresh, Accepted}
-use Rattle.desk_rules.specs.Runs.{having, callsOf, total, openings}
-use Rattle.desk_rules.specs.Payments.{paymentsOf, flattened, Begins}
-use Rattle.desk_rules.proofs.Lanes.{opening-is}
+use Rattle.desk_rules.specs.Runs.{having, callsOf}
+use Rattle.desk_rules.specs.Payments.{paymentsOf, flattened, NoneOpens, Begins}
 use Rattle.desk_rules.proofs.DayBook.{every-opening}
 use Rattle.promises.specs.Days.{openingsIn, firsts}
 
@@ -36,14 +35,10 @@ openings-lane k (x ∷ xs) = go (eqb (laneOf x) k) (opens x) refl refl (openings
     go false false e f h = h
 
 -- ---- of a payment only its first call is one
-none-in : (xs : List Call) → openings xs ≡ 0 → openingsIn xs ≡ []
-unfolding openingsIn total
-none-in [] e = refl
-none-in (x ∷ xs) e = go (opens x) refl (none-in xs)
-  where
-    go : (o : Bool) → opens x ≡ o → (openings xs ≡ 0 → openingsIn xs ≡ []) → pick o (x ∷ openingsIn xs) (openingsIn xs) ≡ []
-    go true f h = absurd (omega (arith, opening-is x true f))
-    go false f h = h (omega arith)
+none-in : (xs : List Call) → NoneOpens xs → openingsIn xs ≡ []
+unfolding openingsIn NoneOpens
+none-in [] n = refl
+none-in (x ∷ xs) n = rw (n .0) (none-in xs (n .1))
 
 payment-first : (p : List Call) → Begins p → openingsIn p ≡ firsts (p ∷ [])
 unfolding Begins openingsIn firsts
@@ -60,21 +55,17 @@ unfolding All
 all-begin [] h = tt
 all-begin (p ∷ ps) h = (h 0 (omega arith), all-begin ps (λ j l. h (suc j) (omega arith)))
 
-joined-firsts : (ps : List (List Call)) → All ps → (openingsIn (flattened ps) ≡ firsts ps) × (length (firsts ps) ≡ length ps)
+joined-firsts : (ps : List (List Call)) → All ps → openingsIn (flattened ps) ≡ firsts ps
 unfolding All flattened firsts openingsIn Begins
-joined-firsts [] h = (refl, refl)
+joined-firsts [] h = refl
 joined-firsts ([] ∷ ps) h = absurd (h .0)
 joined-firsts ((o ∷ ds) ∷ ps) h =
-    let k = joined-firsts ps (h .1) in
-    (openings-append (o ∷ ds) (flattened ps) ∙ ap₂ (λ (xs ys : List Call). xs ++ ys) (payment-first (o ∷ ds) (h .0)) (k .0), omega (arith, k .1))
+    openings-append (o ∷ ds) (flattened ps) ∙ ap₂ (λ (xs ys : List Call). xs ++ ys) (payment-first (o ∷ ds) (h .0)) (joined-firsts ps (h .1))
 
 -- ---- one by one
 module _ (cs : List Call) (h : Accepted fresh cs) where
   begun : All (paymentsOf cs .ended)
   begun = all-begin (paymentsOf cs .ended) (λ j l. every-opening cs h .ended j l .3)
-
-  pub ended-firsts : length (firsts (paymentsOf cs .ended)) ≡ length (paymentsOf cs .ended)
-  ended-firsts = joined-firsts (paymentsOf cs .ended) begun .1
 
   open-first : (k : ℕ) → openingsIn (getD (paymentsOf cs .ongoing) k []) ≡ firsts (getD (paymentsOf cs .ongoing) k [] ∷ [])
   unfolding firsts openingsIn
@@ -88,4 +79,4 @@ module _ (cs : List Call) (h : Accepted fresh cs) where
       ∙ ap openingsIn (every-opening cs h .calls k)
       ∙ openings-append (callsOf k (flattened (p .ended))) (getD (p .ongoing) k [])
       ∙ ap₂ (λ (xs ys : List Call). xs ++ ys)
-      (openings-lane k (flattened (p .ended)) ∙ ap (callsOf k) (joined-firsts (p .ended) begun .0)) (open-first k)
+      (openings-lane k (flattened (p .ended)) ∙ ap (callsOf k) (joined-firsts (p .ended) begun)) (open-first k)

@@ -13,7 +13,7 @@ use Rattle.desk_rules.specs.Course.{Call, laneOf}
 use Rattle.desk_rules.specs.Desk.{State, laneAt, Decision, refuse, accept, decide}
 use Rattle.desk_rules.specs.Memory.{freshDesk, linesOfDesk, view, Valid, refusedAnswer, answerOf}
 use Rattle.desk_rules.specs.Runs.{ofLane, callsOf}
-use Rattle.desk_rules.specs.Payments.{paymentsOf, WholePayment, lineOf}
+use Rattle.desk_rules.specs.Payments.{paymentsOf, WholePayment, paying, lineOf}
 use Rattle.desk_rules.proofs.Lanes.{isolation}
 use Rattle.desk_rules.proofs.DayBook.{lines-length, line-of}
 use Rattle.desk_rules.proofs.DayBook as book
@@ -22,44 +22,45 @@ use Rattle.promises.specs.Days.{DeskTurn, callsIn, OfBytes, Taken, lines
 use Rattle.promises.specs.Counted.{Counted}
 use Rattle.promises.proofs.Turns.{a-day, of-desk}
 use Rattle.promises.proofs.Counted.{counted}
-use Rattle.promises.proofs.Openings.{ended-firsts, one-by-one}
+use Rattle.promises.proofs.Openings.{one-by-one}
 use Rattle.promises.proofs.DemandThree.{every-line}
 
 module _ (day : List DeskTurn) (b : OfBytes (callsIn day)) (t : Taken freshDesk day) where
   -- line j is judged by the calls of payment j
-  by-payment : (j : ℕ) → j < length (linesIn day) → let p = getD (paymentsOf (callsIn day) .ended) j [] in
+  by-payment : (j : ℕ) → j < length (linesIn day) → let p = getD (paying (paymentsOf (callsIn day) .ended)) j [] in
       getD (linesIn day) j blankLine ≡ lineOf (take j (linesIn day)) p
   unfolding view
   by-payment =
       let its = a-day day b t in
       of-desk
-      (λ (s : State). (j : ℕ) → j < length (s .lines) → let p = getD (paymentsOf (callsIn day) .ended) j [] in
+      (λ (s : State). (j : ℕ) → j < length (s .lines) → let p = getD (paying (paymentsOf (callsIn day) .ended)) j [] in
       getD (s .lines) j blankLine ≡ lineOf (take j (s .lines)) p) day its (line-of (callsIn day) (its .accepted))
 
   -- "Which bytes from a terminal made you count this sale?" Line j is made by the calls of the j-th payment that ended, which are all of
   -- one lane and begin with its opening; and if it is approved, by a report of code 00, the last that this payment had, and a completion.
-  pub which-bytes : (j : ℕ) → j < length (linesIn day) → let p = getD (paymentsOf (callsIn day) .ended) j [] in
+  pub which-bytes : (j : ℕ) → j < length (linesIn day) → let p = getD (paying (paymentsOf (callsIn day) .ended)) j [] in
       let line = getD (linesIn day) j blankLine in
       (line ≡ lineOf (take j (linesIn day)) p) × WholePayment p × (line .outcome ≡ Approved → Counted (take j (linesIn day)) p)
   which-bytes j l =
       let e = by-payment j l in
       let few = ap length (every-line day b t) in
-      let all = lines-length [] (paymentsOf (callsIn day) .ended) in (
+      let all = lines-length [] (paying (paymentsOf (callsIn day) .ended)) in (
         e,
-        book.every-opening (callsIn day) (a-day day b t .accepted) .ended j (omega (arith, l)),
+        book.every-opening (callsIn day) (a-day day b t .accepted) .booked j (omega (arith, l)),
         λ a. counted (take j (linesIn day)) _ (ap (λ (x : Line). x .outcome) (sym e) ∙ a),
       )
 
   -- "Can a payment begin and leave no line at all?" The openings of a lane are, one by one and in order, the first calls of its payments: of
-  -- those that ended, of which there are as many as lines, and of the one that is still open.
+  -- those that ended and of the one that is still open. Those that ended and take a place in the book are as many as its lines, and that is
+  -- a payment of every kind (`every-kind-booked`).
   pub no-payment-lost : let payments = paymentsOf (callsIn day) in
-      (length (firsts (payments .ended)) ≡ length (linesIn day))
+      (length (paying (payments .ended)) ≡ length (linesIn day))
       × ((k : ℕ) → callsOf k (openingsIn (callsIn day)) ≡ callsOf k (firsts (payments .ended)) ++ firsts (getD (payments .ongoing) k [] ∷ []))
   no-payment-lost =
       let accepted = a-day day b t .accepted in
       let few = ap length (every-line day b t) in
-      let all = lines-length [] (paymentsOf (callsIn day) .ended) in
-      (omega (arith, ended-firsts (callsIn day) accepted), one-by-one (callsIn day) accepted)
+      let all = lines-length [] (paying (paymentsOf (callsIn day) .ended)) in
+      (omega arith, one-by-one (callsIn day) accepted)
 
 -- "If two terminals talk at once, can one customer's answer land on the other's line?" A call for one lane changes no other lane, and none
 -- of the lines of another lane.

@@ -7,12 +7,11 @@ use mathlib.Core.List.{List, [], _∷_, _++_}
 use Prim.Native.Nat.{ℕ, _+_}
 use lib.ListN.{length, replicate, length-append, length-replicate}
 use borrow.Author.Tests.{le-leb}
-use Rattle.zvt_rules.specs.Reading.{Reading, got, refused, pick, among}
+use Rattle.zvt_rules.specs.Reading.{Reading, got, refused, pick}
 use Rattle.zvt_rules.specs.Fields.{Field, plain, container, fieldId}
 use Rattle.zvt_rules.specs.Message.{Body, bytes, listed, Message, readOf, headerSize}
 use Rattle.zvt_rules.specs.Writing.{fieldBytes}
 use Rattle.zvt_rules.specs.Grammar.{Bytes}
-use Rattle.zvt_rules.specs.Digits.{digitBytesOf}
 use Rattle.zvt_rules.specs.Values.{fieldValue, statusFields, statusOf, isStatus, statusIn, bodyFields}
 use Rattle.zvt_rules.proofs.Tests.{pick-test}
 use Rattle.zvt_rules.proofs.MessageBytes.{read-sound}
@@ -23,19 +22,23 @@ use Rattle.desk_rules.specs.declared.Phase.{Phase}
 use Rattle.desk_rules.specs.declared.Phase.the-variants.{Idle, Waiting, Running}
 use Rattle.desk_rules.specs.declared.Lane.{Lane}
 use Rattle.desk_rules.specs.declared.Line.{Line}
-use Rattle.desk_rules.specs.Commands.{saleCommand, refundCommand, reversalCommand, saleBytes, refundBytes, reversalBytes}
-use Rattle.desk_rules.specs.Course.{openedBy, Call, sale, refund, reversal, message, lost, laneOf, opens, moves, answered, writes, NumbersFit}
+use Rattle.desk_rules.specs.declared.Opening.{Opening}
+use Rattle.desk_rules.specs.declared.Reference.{Reference}
+use Rattle.desk_rules.specs.Numbers.{mostPassword}
+use Rattle.desk_rules.specs.Kinds.{booked}
+use Rattle.desk_rules.specs.Openings.{kindOf, refersTo, lastLine, commandOf, commandBytes, commandSize}
+use Rattle.desk_rules.specs.Course.{openedBy, Call, opening, message, lost, laneOf, needsPlace, moves, answered, writes, NumbersFit}
 use Rattle.desk_rules.specs.Desk.{State, laneAt, Decision, refuse, accept, decide, step, Accepts, Accepted}
 use Rattle.desk_rules.specs.Memory.{linesOfDesk, view, answerBy}
-use Rattle.desk_rules.proofs.Commands.{refund-size, reversal-size, sale-reads, refund-reads, reversal-reads}
+use Rattle.desk_rules.proofs.Commands.{command-size, command-reads}
 use Rattle.tape_rules.specs.declared.Taped.{Taped}
 use Rattle.tape_rules.specs.Records.{secret, maskField, maskList, maskBody, maskMessage, masked, HiddenBody, Hidden, Record, replyEntry, entriesBy, entriesOf}
 use Rattle.tape_rules.specs.Recording.{callBytes, decideTaped, usedBy, tapedBy, tapedAnswer, tapeBy, tapedLeaves}
 use Rattle.tape_rules.specs.Taping.{TapeTurn, Day, afterTurn, tapedRun}
-use Rattle.tape_rules.proofs.Masks.{mask-same, mask-reads, mask-hides, masked-refused, alike-recorded, sale-masked, refund-masked, reversal-masked}
+use Rattle.tape_rules.proofs.Masks.{mask-same, mask-reads, mask-hides, masked-refused, alike-recorded, command-masked, opening-masked}
 use Rattle.tape_rules.proofs.Unseen.{alike-heard, heard-reads}
 use Rattle.promises.specs.Days.{OfBytes}
-use Rattle.promises.specs.TapeDays.{Hiding, AlikeCall, unchanged, refunds, reversals, messages, AlikeDays}
+use Rattle.promises.specs.TapeDays.{Hiding, AlikeOpening, refunds, reversals, AlikeCall, unchanged, openings, messages, AlikeDays}
 use Rattle.promises.proofs.DemandTwo.{reply-reads-back}
 
 -- ---- what the reader says of a masked message
@@ -102,17 +105,8 @@ unfolding Hiding
 hiding-append [] ts h k = k
 hiding-append (r ∷ rs) ts h k = (h .0, hiding-append rs ts (h .1) k)
 
-refund-hides : (password amount : ℕ) → readOf (masked (refundBytes password amount)) ≡ got (maskMessage (refundCommand password amount))
-unfolding refundCommand maskMessage maskBody maskList maskField among digitBytesOf
-refund-hides password amount = rw (refund-masked password amount) (refund-reads 0 amount)
-
-reversal-hides : (password receipt : ℕ) → readOf (masked (reversalBytes password receipt)) ≡ got (maskMessage (reversalCommand password receipt))
-unfolding reversalCommand maskMessage maskBody maskList maskField among digitBytesOf
-reversal-hides password receipt = rw (reversal-masked password receipt) (reversal-reads 0 receipt)
-
-sale-hides : (amount : ℕ) → readOf (masked (saleBytes amount)) ≡ got (maskMessage (saleCommand amount))
-unfolding saleCommand maskMessage maskBody maskList maskField among
-sale-hides amount = rw (sale-masked amount) (sale-reads amount)
+opening-hides : (o : Opening) → readOf (masked (commandBytes o)) ≡ got (maskMessage (commandOf o))
+opening-hides o = ap readOf (opening-masked o) ∙ command-reads (withoutPassword o) ∙ ap got (sym (command-masked o))
 
 reply-hides : (i : ℕ) (p : Phase) → Hiding (replyEntry i (answered p))
 unfolding Hiding replyEntry answered Hidden HiddenBody
@@ -122,9 +116,7 @@ reply-hides i Running = (inr (_, reply-reads-back, tt), tt)
 
 call-hides : (s : State) (c : Call) → Accepts s c → NumbersFit c → Hiding (entriesBy (laneAt (s .lanes) (laneOf c)) c)
 unfolding Hiding entriesBy laneOf writes NumbersFit
-call-hides s (sale i amount) a n = (inr (_, sale-hides amount, mask-hides (saleCommand amount)), tt)
-call-hides s (refund i password amount) a n = (inr (_, refund-hides password amount, mask-hides (refundCommand password amount)), tt)
-call-hides s (reversal i password receipt) a n = (inr (_, reversal-hides password receipt, mask-hides (reversalCommand password receipt)), tt)
+call-hides s (opening i o) a n = (inr (_, opening-hides o, mask-hides (commandOf o)), tt)
 call-hides s (message i b) a n =
     let k = heard-reads s i b a in
     (inr (_, mask-reads b (k .0) n (k .1), mask-hides (k .0)), reply-hides i (laneAt (s .lanes) i .phase))
@@ -140,34 +132,38 @@ run-hides s (c ∷ cs) a n =
 -- ---- calls that differ in secrets alone
 record Agree (c e : Call) : Type 0 where
   lane : laneOf c ≡ laneOf e
-  opening : opens c ≡ opens e
+  needs : needsPlace c ≡ needsPlace e
   move : (l : Lane) (ls : List Line) → moves l ls c ≡ moves l ls e
   size : (l : Lane) → length (writes l c) ≡ length (writes l e)
   entries : (l : Lane) → entriesBy l c ≡ entriesBy l e
 
+-- two openings that differ in a password alone ask for the same, and are recorded as the same
+alike-opened : {o e : Opening} → AlikeOpening o e → (l : Lane) (line : Line) → openedBy l o line ≡ openedBy l e line
+unfolding openedBy
+alike-opened (refunds p q amount hp hq) l line = rw (le-leb p mostPassword hp, le-leb q mostPassword hq)
+alike-opened (reversals p q receipt hp hq) l line = rw (le-leb p mostPassword hp, le-leb q mostPassword hq)
+
+alike-without : {o e : Opening} → AlikeOpening o e
+    → (withoutPassword o ≡ withoutPassword e) × (refersTo o ≡ refersTo e) × (kindOf o ≡ kindOf e) × (commandSize o ≡ commandSize e)
+alike-without (refunds p q amount hp hq) = (refl, refl, refl, refl)
+alike-without (reversals p q receipt hp hq) = (refl, refl, refl, refl)
+
 agree : {c e : Call} → AlikeCall c e → Agree c e
-unfolding laneOf opens moves writes entriesBy openedBy
-agree (unchanged c) = record { lane = refl; opening = refl; move = λ l ls. refl; size = λ l. refl; entries = λ l. refl }
-agree (refunds i p q amount hp hq) =
+unfolding laneOf needsPlace moves writes entriesBy
+agree (unchanged c) = record { lane = refl; needs = refl; move = λ l ls. refl; size = λ l. refl; entries = λ l. refl }
+agree (openings i o e a) =
+    let w = alike-without a in
     record {
       lane = refl;
-      opening = refl;
-      move = λ l ls. rw (le-leb p 999_999 hp, le-leb q 999_999 hq);
-      size = λ l. refund-size p amount ∙ sym (refund-size q amount);
-      entries = λ l. rw (refund-masked p amount, refund-masked q amount);
-    }
-agree (reversals i p q receipt hp hq) =
-    record {
-      lane = refl;
-      opening = refl;
-      move = λ l ls. rw (le-leb p 999_999 hp, le-leb q 999_999 hq);
-      size = λ l. reversal-size p receipt ∙ sym (reversal-size q receipt);
-      entries = λ l. rw (reversal-masked p receipt, reversal-masked q receipt);
+      needs = ap booked (w .2);
+      move = λ l ls. alike-opened a l (lastLine i (refersTo o) ls) ∙ ap (λ (r : Reference). openedBy l e (lastLine i r ls)) (w .1);
+      size = λ l. command-size o ∙ w .3 ∙ sym (command-size e);
+      entries = λ l. rw (opening-masked o, opening-masked e, w .0);
     }
 agree (messages i s t m n b d e f a) =
     record {
       lane = refl;
-      opening = refl;
+      needs = refl;
       move = λ l ls. alike-heard l s t m n (e, read-sound s m b e .0) (f, read-sound t n d f .0) a;
       size = λ l. refl;
       entries = λ l. rw (alike-recorded s t m n e f a);
@@ -178,7 +174,7 @@ module _ (c e : Call) (a : Agree c e) where
   unfolding decide
   decide-agree s room =
       let l = laneAt (s .lanes) (laneOf e) in
-      rw (a .lane, a .opening, a .move l (s .lines), a .size l)
+      rw (a .lane, a .needs, a .move l (s .lines), a .size l)
 
   bytes-agree : (s : State) → callBytes s c ≡ callBytes s e
   unfolding callBytes

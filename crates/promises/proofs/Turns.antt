@@ -8,7 +8,7 @@ use borrow.Author.Tests.{lt-leb, le-ltb}
 use Rattle.zvt_rules.specs.Reading.{pick}
 use Rattle.desk_rules.specs.declared.Desk.{Desk}
 use Rattle.desk_rules.specs.declared.Reply.{Reply}
-use Rattle.desk_rules.specs.Course.{Call, laneOf, opens, moves, writes}
+use Rattle.desk_rules.specs.Course.{Call, laneOf, needsPlace, moves, writes}
 use Rattle.desk_rules.specs.Desk.{State, fresh, laneAt, load, accept, decide, Accepts, Accepted, run, wrote}
 use Rattle.desk_rules.specs.Memory.{freshDesk, view, Valid, answerOf, leavesOf}
 use Rattle.desk_rules.specs.Runs.{having, replies}
@@ -57,7 +57,7 @@ roomy-taken s c h =
     rw (
       lt-leb 8 (laneOf c) (t .lane),
       passing (moves l (s .lines) c) _ (t .moved),
-      room-tell (opens c) (load s) (t .room),
+      room-tell (needsPlace c) (load s) (t .room),
       le-ltb 16 (length (writes l c)) (writes-short l c),
     )
 

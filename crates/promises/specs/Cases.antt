@@ -9,7 +9,8 @@ use Rattle.zvt_rules.specs.Fields.{plain, container}
 use Rattle.desk_rules.specs.declared.Kind.the-variants.{Sale}
 use Rattle.desk_rules.specs.declared.Outcome.the-variants.{Declined, Approved}
 use Rattle.desk_rules.specs.declared.Line.{Line}
-use Rattle.desk_rules.specs.Course.{Call, sale, reversal, message}
+use Rattle.desk_rules.specs.declared.Opening.the-variants.{Sale as sale, Reversal as reversal}
+use Rattle.desk_rules.specs.Course.{Call, opening, message}
 use Rattle.promises.specs.Asking.{Row, _⟶_, read, list, name, short, call, day, accepted, fields, gives, book, refusal, status}
 
 -- so many bytes, written as one number
@@ -25,8 +26,8 @@ plainBody header size = header ++ replicate size 0x41
 -- receipt 17 and aborts with 6C."
 unfoldable pub twoSales : List Call
 twoSales =
-    sale 2 1250
-    ∷ sale 5 400
+    opening 2 (sale 1250)
+    ∷ opening 5 (sale 400)
     ∷ message 2 (hex 3 0x80_00_00)
     ∷ message 5 (hex 3 0x80_00_00)
     ∷ message 5 (status (hex 12 0x27_00_04_00_00_00_00_04_00_87_00_31))
@@ -43,9 +44,9 @@ twoLines =
     ∷ []
 
 -- a sale of 12.50 with receipt 17, approved: what a reversal needs
-unfoldable pub sold : List Call
-sold =
-    sale 0 1250
+unfoldable pub soldOnce : List Call
+soldOnce =
+    opening 0 (sale 1250)
     ∷ message 0 (hex 3 0x80_00_00)
     ∷ message 0 (status (hex 12 0x27_00_04_00_00_00_00_12_50_87_00_17))
     ∷ message 0 (hex 3 0x06_0F_00)
@@ -72,10 +73,10 @@ table =
     ∷ read (hex 5 0x04_0F_FF_01_10) ⟶ refusal 2
     ∷ read (hex 5 0x04_0F_FF_00_10) ⟶ refusal 1
     -- "sale of 12.50: 06 01 0A 04 00 00 00 00 12 50 49 09 78. Amount 0: 16."
-    ∷ call [] (sale 0 1250) ⟶ gives (hex 13 0x06_01_0A_04_00_00_00_00_12_50_49_09_78)
-    ∷ call [] (sale 0 0) ⟶ refusal 16
+    ∷ call [] (opening 0 (sale 1250)) ⟶ gives (hex 13 0x06_01_0A_04_00_00_00_00_12_50_49_09_78)
+    ∷ call [] (opening 0 (sale 0)) ⟶ refusal 16
     -- "reversal of receipt 17, password 0: 06 30 06 00 00 00 87 00 17."
-    ∷ call sold (reversal 0 0 17) ⟶ gives (hex 9 0x06_30_06_00_00_00_87_00_17)
+    ∷ call soldOnce (opening 0 (reversal 0 17)) ⟶ gives (hex 9 0x06_30_06_00_00_00_87_00_17)
     -- "list 8B F0 F3 41 42 43: ABC. 8B F0 FA: 4."
     ∷ list (hex 6 0x8B_F0_F3_41_42_43) ⟶ fields (plain 0x8B (hex 3 0x41_42_43) ∷ [])
     ∷ name (hex 6 0x8B_F0_F3_41_42_43) ⟶ gives (hex 3 0x41_42_43)

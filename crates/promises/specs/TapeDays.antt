@@ -7,7 +7,10 @@ use mathlib.Core.List.{List, [], _∷_}
 use Rattle.zvt_rules.specs.Reading.{got}
 use Rattle.zvt_rules.specs.Message.{Message, readOf}
 use Rattle.zvt_rules.specs.Grammar.{Bytes}
-use Rattle.desk_rules.specs.Course.{Call, refund, reversal, message}
+use Rattle.desk_rules.specs.declared.Opening.{Opening}
+use Rattle.desk_rules.specs.declared.Opening.the-variants.{Refund as refund, Reversal as reversal}
+use Rattle.desk_rules.specs.Numbers.{mostPassword}
+use Rattle.desk_rules.specs.Course.{Call, opening, message}
 use Rattle.tape_rules.specs.Records.{Record, Alike, Hidden}
 use Rattle.tape_rules.specs.Taping.{TapeTurn}
 
@@ -21,11 +24,15 @@ unfoldable pub Hiding : List Record → Type 0
 Hiding [] = Unit {0}
 Hiding (r ∷ rs) = ((r .content ≡ []) ⊎ ((m : Message) × (readOf (r .content) ≡ got m) × Hidden m)) × Hiding rs
 
--- the same call, but for the digits of a password or for the bytes that are hidden in a message; "Password 0 to 999,999."
+-- the same opening, but for the digits of its password. P6: "The password is 0 to 999,999."
+pub data AlikeOpening : Opening → Opening → Type 0 where
+  refunds : (p q amount : ℕ) → p ≤ mostPassword → q ≤ mostPassword → AlikeOpening (refund p amount) (refund q amount)
+  reversals : (p q receipt : ℕ) → p ≤ mostPassword → q ≤ mostPassword → AlikeOpening (reversal p receipt) (reversal q receipt)
+
+-- the same call, but for a password or for the bytes that are hidden in a message
 pub data AlikeCall : Call → Call → Type 0 where
   unchanged : (c : Call) → AlikeCall c c
-  refunds : (i p q amount : ℕ) → p ≤ 999_999 → q ≤ 999_999 → AlikeCall (refund i p amount) (refund i q amount)
-  reversals : (i p q receipt : ℕ) → p ≤ 999_999 → q ≤ 999_999 → AlikeCall (reversal i p receipt) (reversal i q receipt)
+  openings : (i : ℕ) (o e : Opening) → AlikeOpening o e → AlikeCall (opening i o) (opening i e)
   messages : (i : ℕ) (s t : List ℕ) (m n : Message) → Bytes s → Bytes t → readOf s ≡ got m → readOf t ≡ got n → Alike m n
       → AlikeCall (message i s) (message i t)
 
