@@ -12,7 +12,7 @@ use lib.Seq.{drop-cons}
 use lib.Dec.{ltb}
 use Rattle.zvt_rules.specs.Reading.{pick}
 use Rattle.io.specs.Digits.{digits, glyph, Fewest}
-use Rattle.listing.specs.Text.{Text, text, one, write, hexText, hexes, bytesText, decimalBy, decimalText}
+use Rattle.zvt_rules.specs.Text.{Text, text, one, write, hexText, hexes, bytesText, decimalBy, decimalText}
 
 pub add-full : (b at : ℕ) (out : List ℕ) → length out ≤ at → text at out ≡ write (b ∷ []) (text at out)
 unfolding write one

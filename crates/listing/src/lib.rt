@@ -7,11 +7,10 @@ use zvt::FieldAnswer;
 use zvt::FirstAnswer;
 use zvt::Message;
 ghost use mathlib.Core.Path.{_≡_};
-ghost use Rattle.zvt.specs.List.{listedMessage};
 ghost use Rattle.zvt_rules.specs.Message.{readOf};
 ghost use Rattle.zvt_rules.specs.Text.{text, write};
 ghost use Rattle.zvt_rules.specs.Listing.{startText, sizeText, endText, okText, refusedText, idsOf, nextOf, listing};
-ghost use Rattle.listing.specs.Lines.{readText, Shown, Bounded};
+ghost use Rattle.listing.specs.Lines.{readText, Put};
 
 // An input of more bytes is refused before its first message.
 pub const LIMIT: usize = 65536;
@@ -69,7 +68,7 @@ pub fn add_size(m: Message, at: usize, out: &mut [u8]) -> usize
 
 // The line of the message that s is.
 fn message_line(s: &[u8], number: u64, m: Message, at: usize, out: &mut [u8]) -> usize
-    ensures { λ r. ⌜ text r (now (out .exit)) ≡ write (readText number m (listedMessage (readOf (now (s .entry))))) (text at (now (out .entry))) ⌝ }
+    ensures { λ r. ⌜ text r (now (out .exit)) ≡ write (readText number m (idsOf (readOf (now (s .entry))))) (text at (now (out .entry))) ⌝ }
 {
     let mut to = add_start(number, m, at, out);
     to = add_size(m, to, out);
@@ -100,8 +99,7 @@ fn refused_line(count: u64, number: u8, at: usize, out: &mut [u8]) -> usize
 
 // The line of the message that the rest of an input begins with, after count messages; or the last line.
 fn next_line(rest: &[u8], count: u32, at: usize, out: &mut [u8]) -> Line
-    ensures text { λ r. ⌜ Shown (nextOf count (now (rest .entry))) at (now (out .entry)) r (now (out .exit)) ⌝ }
-    ensures bounds { λ r. ⌜ Bounded (now (rest .entry)) r ⌝ }
+    ensures { λ r. ⌜ Put (nextOf count (now (rest .entry))) (now (rest .entry)) at (now (out .entry)) r (now (out .exit)) ⌝ }
 {
     let listed = count as u64;
     if LIMIT < rest.len() {

@@ -7,7 +7,7 @@ use Rattle.desk_rules.proofs as course
 use Rattle.tape_rules.proofs as blocks
 use Rattle.tape.proofs as tape
 use Rattle.listing.proofs as listing
-use Rattle.filling.proofs as filling
+use Rattle.buffers.proofs as buffers
 use Rattle.desk_rules.specs.Memory.{Valid}
 
 -- Every public function's own theorem: a call of it ends, reads and writes only what it was lent, and answers as its contract states.
@@ -58,14 +58,16 @@ pub every-call-ends : {M : Type 1}
     × tape.link_lost.Statement.statement M
     × tape.close.Statement.statement M
     × listing.add_ids.Statement.statement M
-    × listing.next_line.Statement.statement M
-    × listing.text.add.Statement.statement M
-    × listing.text.add_all.Statement.statement M
-    × listing.text.add_hex.Statement.statement M
-    × listing.text.add_decimal.Statement.statement M
-    × listing.text.add_bytes.Statement.statement M
-    × listing.text.hex_value.Statement.statement M
-    × filling.fill.Statement.statement M
+    × listing.add_size.Statement.statement M
+    × listing.list.Statement.statement M
+    × buffers.fill.Statement.statement M
+    × buffers.upto.Statement.statement M
+    × buffers.add.Statement.statement M
+    × buffers.add_all.Statement.statement M
+    × buffers.add_hex.Statement.statement M
+    × buffers.add_bytes.Statement.statement M
+    × buffers.add_decimal.Statement.statement M
+    × buffers.hex_value.Statement.statement M
 every-call-ends = (
   zvt.read_header.Met.met,
   zvt.read.Met.met,
@@ -113,14 +115,16 @@ every-call-ends = (
   tape.link_lost.Met.met,
   tape.close.Met.met,
   listing.add_ids.Met.met,
-  listing.next_line.Met.met,
-  listing.text.add.Met.met,
-  listing.text.add_all.Met.met,
-  listing.text.add_hex.Met.met,
-  listing.text.add_decimal.Met.met,
-  listing.text.add_bytes.Met.met,
-  listing.text.hex_value.Met.met,
-  filling.fill.Met.met,
+  listing.add_size.Met.met,
+  listing.list.Met.met,
+  buffers.fill.Met.met,
+  buffers.upto.Met.met,
+  buffers.add.Met.met,
+  buffers.add_all.Met.met,
+  buffers.add_hex.Met.met,
+  buffers.add_bytes.Met.met,
+  buffers.add_decimal.Met.met,
+  buffers.hex_value.Met.met,
 )
 
 -- No function but those over a desk asks anything of its caller; those ask that the desk is one that these functions gave out.
@@ -171,15 +175,19 @@ pub nothing-to-test :
     × ((κs : _) (a : _) → tape.link_lost.Reads.Asked κs a ≡ Valid (a .0 .desk))
     × ((κs : _) (a : _) → tape.close.Reads.Asked κs a ≡ Valid (a .0 .desk))
     × ((κs : _) (a : _) → listing.add_ids.Reads.Asked κs a ≡ Unit {0})
-    × ((κs : _) (a : _) → listing.next_line.Reads.Asked κs a ≡ Unit {0})
-    × ((κs : _) (a : _) → listing.text.add.Reads.Asked κs a ≡ Unit {0})
-    × ((κs : _) (a : _) → listing.text.add_all.Reads.Asked κs a ≡ Unit {0})
-    × ((κs : _) (a : _) → listing.text.add_hex.Reads.Asked κs a ≡ Unit {0})
-    × ((κs : _) (a : _) → listing.text.add_decimal.Reads.Asked κs a ≡ Unit {0})
-    × ((κs : _) (a : _) → listing.text.add_bytes.Reads.Asked κs a ≡ Unit {0})
-    × ((κs : _) (a : _) → listing.text.hex_value.Reads.Asked κs a ≡ Unit {0})
-    × ((κs : _) (a : _) → filling.fill.Reads.Asked κs a ≡ Unit {0})
+    × ((κs : _) (a : _) → listing.add_size.Reads.Asked κs a ≡ Unit {0})
+    × ((κs : _) (a : _) → listing.list.Reads.Asked κs a ≡ Unit {0})
+    × ((κs : _) (a : _) → buffers.fill.Reads.Asked κs a ≡ Unit {0})
+    × ((κs : _) (a : _) → buffers.upto.Reads.Asked κs a ≡ Unit {0})
+    × ((κs : _) (a : _) → buffers.add.Reads.Asked κs a ≡ Unit {0})
+    × ((κs : _) (a : _) → buffers.add_all.Reads.Asked κs a ≡ Unit {0})
+    × ((κs : _) (a : _) → buffers.add_hex.Reads.Asked κs a ≡ Unit {0})
+    × ((κs : _) (a : _) → buffers.add_bytes.Reads.Asked κs a ≡ Unit {0})
+    × ((κs : _) (a : _) → buffers.add_decimal.Reads.Asked κs a ≡ Unit {0})
+    × ((κs : _) (a : _) → buffers.hex_value.Reads.Asked κs a ≡ Unit {0})
 nothing-to-test = (
+  λ κs a. refl,
+  λ κs a. refl,
   λ κs a. refl,
   λ κs a. refl,
   λ κs a. refl,

@@ -11,8 +11,8 @@ use Rattle.desk_rules.proofs as course
 use Rattle.tape_rules.proofs as blocks
 use Rattle.tape.proofs as tape
 use Rattle.listing.proofs as listing
-use Rattle.filling.proofs as filling
-use Rattle.listing.specs.Text.{Text}
+use Rattle.buffers.proofs as buffers
+use Rattle.zvt_rules.specs.Text.{Text, text}
 use Rattle.promises.specs.OneAnswer.{Only, whole, placed, nothing, contents}
 
 only : {A E X Y : Type 0} {answer : A → X} {lent : E → Y} {states : A → E → Type 0} (x : X) (y : Y)
@@ -166,30 +166,39 @@ taped-link-lost-one κs a = only _ _ (λ r e h. h)
 pub taped-close-one : (κs : _) (a : _) → Only whole nothing (tape.close.Reads.Learnt κs a)
 taped-close-one κs a = only _ _ (λ r e h. (h, refl))
 
--- ---- the text of a listing: how far the buffer is taken, and its bytes
+-- ---- text in a buffer: how far the buffer is taken, and its bytes
+taken : {r : ℕ} {l : List ℕ} {t : Text} → text r l ≡ t → (r ≡ t .at) × (l ≡ t .bytes)
+taken h = (ap (λ (t : Text). t .at) h, ap (λ (t : Text). t .bytes) h)
+
 pub add-ids-one : (κs : _) (a : _) → Only whole (λ e. now (e .1 .1 .0)) (listing.add_ids.Reads.Learnt κs a)
-add-ids-one κs a = only _ _ (λ r e h. (ap (λ (t : Text). t .at) h, ap (λ (t : Text). t .bytes) h))
+add-ids-one κs a = only _ _ (λ r e h. taken h)
 
-pub next-line-one : (κs : _) (a : _) → Only whole (λ e. now (e .1 .1 .0)) (listing.next_line.Reads.Learnt κs a)
-next-line-one κs a = only _ _ (λ r e h. (h .0 .answer, h .0 .left))
+pub add-size-one : (κs : _) (a : _) → Only whole (λ e. now (e .1 .1 .0)) (listing.add_size.Reads.Learnt κs a)
+add-size-one κs a = only _ _ (λ r e h. taken h)
 
-pub text-add-one : (κs : _) (a : _) → Only whole (λ e. now (e .1 .1 .0)) (listing.text.add.Reads.Learnt κs a)
-text-add-one κs a = only _ _ (λ r e h. (ap (λ (t : Text). t .at) h, ap (λ (t : Text). t .bytes) h))
+pub list-one : (κs : _) (a : _) → Only whole (λ e. now (e .1 .0)) (listing.list.Reads.Learnt κs a)
+list-one κs a = only _ _ (λ r e h. taken h)
 
-pub text-add-all-one : (κs : _) (a : _) → Only whole (λ e. now (e .1 .1 .0)) (listing.text.add_all.Reads.Learnt κs a)
-text-add-all-one κs a = only _ _ (λ r e h. (ap (λ (t : Text). t .at) h, ap (λ (t : Text). t .bytes) h))
+pub add-one : (κs : _) (a : _) → Only whole (λ e. now (e .1 .1 .0)) (buffers.add.Reads.Learnt κs a)
+add-one κs a = only _ _ (λ r e h. taken h)
 
-pub text-add-hex-one : (κs : _) (a : _) → Only whole (λ e. now (e .1 .1 .0)) (listing.text.add_hex.Reads.Learnt κs a)
-text-add-hex-one κs a = only _ _ (λ r e h. (ap (λ (t : Text). t .at) h, ap (λ (t : Text). t .bytes) h))
+pub add-all-one : (κs : _) (a : _) → Only whole (λ e. now (e .1 .1 .0)) (buffers.add_all.Reads.Learnt κs a)
+add-all-one κs a = only _ _ (λ r e h. taken h)
 
-pub text-add-decimal-one : (κs : _) (a : _) → Only whole (λ e. now (e .1 .1 .0)) (listing.text.add_decimal.Reads.Learnt κs a)
-text-add-decimal-one κs a = only _ _ (λ r e h. (ap (λ (t : Text). t .at) h, ap (λ (t : Text). t .bytes) h))
+pub add-hex-one : (κs : _) (a : _) → Only whole (λ e. now (e .1 .1 .0)) (buffers.add_hex.Reads.Learnt κs a)
+add-hex-one κs a = only _ _ (λ r e h. taken h)
 
-pub text-add-bytes-one : (κs : _) (a : _) → Only whole (λ e. now (e .1 .1 .0)) (listing.text.add_bytes.Reads.Learnt κs a)
-text-add-bytes-one κs a = only _ _ (λ r e h. (ap (λ (t : Text). t .at) h, ap (λ (t : Text). t .bytes) h))
+pub add-bytes-one : (κs : _) (a : _) → Only whole (λ e. now (e .1 .1 .0)) (buffers.add_bytes.Reads.Learnt κs a)
+add-bytes-one κs a = only _ _ (λ r e h. taken h)
 
-pub text-hex-value-one : (κs : _) (a : _) → Only whole nothing (listing.text.hex_value.Reads.Learnt κs a)
-text-hex-value-one κs a = only _ _ (λ r e h. (h, refl))
+pub add-decimal-one : (κs : _) (a : _) → Only whole (λ e. now (e .1 .1 .0)) (buffers.add_decimal.Reads.Learnt κs a)
+add-decimal-one κs a = only _ _ (λ r e h. taken h)
 
-pub fill-one : (κs : _) (a : _) → Only nothing (λ e. now (e .0)) (filling.fill.Reads.Learnt κs a)
+pub hex-value-one : (κs : _) (a : _) → Only whole nothing (buffers.hex_value.Reads.Learnt κs a)
+hex-value-one κs a = only _ _ (λ r e h. (h, refl))
+
+pub upto-one : (κs : _) (a : _) → Only whole nothing (buffers.upto.Reads.Learnt κs a)
+upto-one κs a = only _ _ (λ r e h. (h .0, refl))
+
+pub fill-one : (κs : _) (a : _) → Only nothing (λ e. now (e .0)) (buffers.fill.Reads.Learnt κs a)
 fill-one κs a = only _ _ (λ r e h. (refl, h))

@@ -1,6 +1,6 @@
 // Files of cases: script lines, each with its answer behind it on lines that begin with `= `. A blank line ends a case, and the next
 // one starts with a fresh desk. The word `added`, in a line or in an answer, stands for the bytes that the lines `add` put together.
-use crate::Tally;
+use crate::answers::counted;
 use crate::further;
 use crate::further::Further;
 use crate::turns;
@@ -14,7 +14,6 @@ use crate::turns::next;
 use buffers::add;
 use buffers::add_all;
 use buffers::add_bytes;
-use buffers::add_decimal;
 use buffers::upto;
 use check::same;
 use libc::STDOUT_FILENO;
@@ -23,6 +22,12 @@ ghost use mathlib.Core.Path.{_≡_};
 ghost use Prim.Native.Nat.{_<_, _≤_};
 ghost use lib.ListN.{length};
 ghost use Rattle.desk_rules.specs.Memory.{Valid};
+
+// How many answers a file of cases has, and how many of them differ.
+pub struct Tally {
+    pub answers: u64,
+    pub differ: u64,
+}
 
 // The answer that a file has for a line: how many bytes of the file it takes, on how many lines, and how long its text is.
 struct Wanted {
@@ -46,7 +51,7 @@ struct Entry {
     outcome: Outcome,
 }
 
-// No line is longer: two digits for each added byte, and some words.
+// Room for a line: two digits for each added byte, and some words.
 const LINE: usize = BYTES * 2 + 256;
 
 // The line s with the digits of these bytes for each word `added`, as text behind the first at bytes of out.
@@ -135,8 +140,7 @@ fn line(turn: Turn, s: &[u8], payload: &mut [u8], added: &mut [u8], out: &mut [u
             let mut after = begun(state);
             let end = repeated(&bytes[..n], times, state.added, added);
             after.added = end;
-            let to = add_decimal(end as u64, 0, out);
-            next(after, add_all(b" bytes\n", to, out))
+            next(after, counted(b"bytes", end as u64, 0, out))
         }
         Further::Digits(d, k) => next(begun(state), further::digits(d, k, out)),
         Further::Ask(a) => next(
@@ -212,7 +216,8 @@ fn told(tally: Tally, outcome: Outcome, name: &[u8], number: u64, text: &[u8]) -
     t
 }
 
-pub(crate) fn check(name: &[u8], s: &[u8]) -> Tally {
+// Plays the cases of the file s. What is answered otherwise than the file says goes to standard output, with the file's name and the line.
+pub fn check(name: &[u8], s: &[u8]) -> Tally {
     let mut payload = [0u8; State::PAYLOAD];
     let mut added = [0u8; BYTES];
     let mut text = [0u8; TEXT];

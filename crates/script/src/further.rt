@@ -100,7 +100,10 @@ fn with_number(name: &[u8], n: u64) -> Further {
 // A word, a number and bytes.
 fn with_both(name: &[u8], n: u64) -> Further {
     let block = cut(n, WORD) as u32;
-    match place(name, b"add field each write block last-block damage damage-last") {
+    match place(
+        name,
+        b"add field each write block last-block damage damage-last",
+    ) {
         0 => Further::Add(n),
         1 => Further::Ask(Ask::Field(n as usize)),
         2 => Further::Ask(Ask::Each(n as usize)),

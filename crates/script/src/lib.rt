@@ -1,6 +1,6 @@
 // Scripts of calls that drive a desk with its tape: played, one answer for each line, or checked against the answers beside them.
 mod answers;
-mod cases;
+pub mod cases;
 mod further;
 mod notation;
 mod orders;
@@ -13,12 +13,6 @@ use turns::State;
 
 // The most bytes of a script.
 pub const LIMIT: usize = 65536;
-
-// How many answers a file of cases has, and how many of them differ.
-pub struct Tally {
-    pub answers: u64,
-    pub differ: u64,
-}
 
 // The answers to a script go to standard output. No contract can say what is written there.
 pub fn play(script: &[u8]) {
@@ -44,9 +38,4 @@ pub fn play(script: &[u8]) {
         }
         from = to + 1;
     }
-}
-
-// Plays the cases of a file. What is answered otherwise than the file says goes to standard output, with the file's name and the line.
-pub fn check(name: &[u8], file: &[u8]) -> Tally {
-    cases::check(name, file)
 }

@@ -1,6 +1,6 @@
 // Plays the files of cases that the arguments name, and scripts of as many bytes as are taken and of one more.
 use libc::STDOUT_FILENO;
-use script::Tally;
+use script::cases::Tally;
 use std::num::wrapping_add_u64;
 
 // One file; where it cannot be read, or is longer than a script may be, that counts as an answer that differs.
@@ -21,7 +21,7 @@ fn file(path: &[u8]) -> Tally {
         io::write_all(STDOUT_FILENO, b"file too long\n");
         return bad;
     }
-    script::check(path, &text[..n])
+    script::cases::check(path, &text[..n])
 }
 
 // The files of the arguments from number 1 on.

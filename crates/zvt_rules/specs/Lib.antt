@@ -8,3 +8,5 @@ pub mod Shortest
 pub mod Grammar
 pub mod Digits
 pub mod Values
+pub mod Text
+pub mod Listing

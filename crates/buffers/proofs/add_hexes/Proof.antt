@@ -1,13 +1,13 @@
--- `listing::text::add_hexes`: what is left to write comes to the same at every turn. Assumes nothing.
+-- `buffers::add_hexes`: what is left to write comes to the same at every turn. Assumes nothing.
 use Prim.Native.Nat.{_-_, _<_}
 use mathlib.Core.Path.{_≡_, refl, sym, ap, _∙_}
 use lib.ListN.{length, drop}
 use borrow.Author.Needs.{needs}
 use native.Mathlib.Omega.{arith}
-use Rattle.listing.specs.Text.{Text, text, write, hexes}
-use Rattle.listing.proofs.TextLaws.{hex-step, hex-none, write-room}
-use Rattle.listing.proofs.text.add_hexes.Statement.{statement}
-use Rattle.listing.proofs.text.add_hexes.Tie as tie
+use Rattle.zvt_rules.specs.Text.{Text, text, write, hexes}
+use Rattle.buffers.proofs.TextLaws.{hex-step, hex-none, write-room}
+use Rattle.buffers.proofs.add_hexes.Statement.{statement}
+use Rattle.buffers.proofs.add_hexes.Tie as tie
 
 abbrev Inv-loop : tie.InvT-loop
 Inv-loop v at out₀ to₀ i₀ out to i = (length out ≡ length out₀) × (write (hexes (drop i v)) (text to out) ≡ write (hexes v) (text at out₀))
@@ -17,18 +17,6 @@ abbrev μ-loop : tie.MeasureT-loop
 
 loop-holds : tie.Need-loop-holds Inv-loop μ-loop
 loop-holds c = (refl, refl)
-
-shared-slice-read-add-hex : tie.Need-shared-slice-read-add-hex Inv-loop μ-loop
-shared-slice-read-add-hex c = search needs
-
-add-hex-requires : tie.Need-add-hex-requires Inv-loop μ-loop
-add-hex-requires c κs = search needs
-
-add-i : tie.Need-add-i Inv-loop μ-loop
-add-i c = search needs
-
-loop-less : tie.Need-loop-less Inv-loop μ-loop
-loop-less c = search needs
 
 loop-again : tie.Need-loop-again Inv-loop μ-loop
 loop-again c =
@@ -52,10 +40,10 @@ add-hexes-spec =
     Inv-loop
     μ-loop
     loop-holds
-    shared-slice-read-add-hex
-    add-hex-requires
-    add-i
-    loop-less
+    (λ c. search needs)
+    (λ c κs. search needs)
+    (λ c. search needs)
+    (λ c. search needs)
     loop-again
     same-length
     returns)

@@ -1,9 +1,9 @@
--- `listing::text::hex_value`: the first test that holds decides. Assumes nothing.
+-- `buffers::hex_value`: the first test that holds decides. Assumes nothing.
 use native.Mathlib.Omega.{arith}
 use borrow.Author.Tests.{lt-ltb, le-ltb, le-leb, lt-leb}
 use borrow.Author.Needs.{needs}
-use Rattle.listing.proofs.text.hex_value.Statement.{statement}
-use Rattle.listing.proofs.text.hex_value.Tie as tie
+use Rattle.buffers.proofs.hex_value.Statement.{statement}
+use Rattle.buffers.proofs.hex_value.Tie as tie
 
 returns : tie.Need-returns
 returns c =
@@ -20,9 +20,6 @@ returns-3 c =
     let b = c .before .before .before .args .b in
     rw (le-ltb b 48 (omega arith), lt-leb b 57 (omega arith), lt-ltb b 65 (omega arith))
 
-sub-result : tie.Need-sub-result
-sub-result c = search needs
-
 returns-4 : tie.Need-returns-4
 returns-4 c =
     let b = c .before .before .before .before .args .b in
@@ -32,9 +29,6 @@ returns-5 : tie.Need-returns-5
 returns-5 c =
     let b = c .before .before .before .before .before .args .b in
     rw (le-ltb b 48 (omega arith), lt-leb b 57 (omega arith), le-ltb b 65 (omega arith), lt-leb b 70 (omega arith), lt-ltb b 97 (omega arith))
-
-sub-result-2 : tie.Need-sub-result-2
-sub-result-2 c = search needs
 
 returns-6 : tie.Need-returns-6
 returns-6 c =
@@ -47,4 +41,13 @@ returns-7 c =
     rw (le-ltb b 48 (omega arith), lt-leb b 57 (omega arith), le-ltb b 65 (omega arith), lt-leb b 70 (omega arith), le-ltb b 97 (omega arith), lt-leb b 102 (omega arith))
 
 pub hex-value-spec : {M : Type 1} → statement M
-hex-value-spec = tie.close (tie.spec returns returns-2 returns-3 sub-result returns-4 returns-5 sub-result-2 returns-6 returns-7)
+hex-value-spec = tie.close (tie.spec
+    returns
+    returns-2
+    returns-3
+    (λ c. search needs)
+    returns-4
+    returns-5
+    (λ c. search needs)
+    returns-6
+    returns-7)

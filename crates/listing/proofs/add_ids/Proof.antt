@@ -1,4 +1,5 @@
--- `listing::add_ids`: what is left to write comes to the same at every turn. Assumes nothing.
+-- `listing::add_ids`. The loop's invariant: writing the ids from field k on, behind the text so far, comes to writing them all behind the
+-- first at bytes. Assumes nothing.
 use Prim.Native.Nat.{ℕ, _-_}
 use mathlib.Core.Path.{_≡_, refl, sym, ap, _∙_}
 use lib.ListN.{length, drop}
@@ -7,32 +8,24 @@ use borrow.Author.Needs.{needs}
 use Rattle.zvt_rules.specs.Message.{readOf}
 use Rattle.zvt.specs.List.{listedMessage, fieldAnswer}
 use Rattle.zvt.proofs.Slices.{bytes-known}
-use Rattle.listing.specs.Text.{Text, text, write}
+use Rattle.zvt_rules.specs.Text.{Text, text, write}
+use Rattle.zvt_rules.specs.Listing.{idsOf}
 use Rattle.listing.specs.Lines.{listedText}
-use Rattle.listing.proofs.TextLaws.{write-room}
-use Rattle.listing.proofs.LineLaws.{ids-step, ids-end, ids-all}
+use Rattle.buffers.proofs.TextLaws.{write-room}
+use Rattle.listing.proofs.LineLaws.{ids-step, ids-end, ids-all, message-ids}
 use Rattle.listing.proofs.add_ids.Statement.{statement}
 use Rattle.listing.proofs.add_ids.Tie as tie
 
 abbrev Inv-loop : tie.InvT-loop
 Inv-loop s at out₀ to₀ k₀ out to k =
     (length out ≡ length out₀)
-    × (write (listedText (drop k (listedMessage (readOf s)))) (text to out) ≡ write (listedText (listedMessage (readOf s))) (text at out₀))
+    × (write (listedText (drop k (listedMessage (readOf s)))) (text to out) ≡ write (idsOf (readOf s)) (text at out₀))
 
 abbrev μ-loop : tie.MeasureT-loop
 μ-loop s at out₀ to₀ k₀ out to k = length s - k
 
 loop-holds : tie.Need-loop-holds Inv-loop μ-loop
-loop-holds c = (refl, refl)
-
-field-at-requires : tie.Need-field-at-requires Inv-loop μ-loop
-field-at-requires c κs = search needs
-
-enum-told : tie.Need-enum-told Inv-loop μ-loop
-enum-told c = search needs
-
-same-length : tie.Need-same-length Inv-loop μ-loop
-same-length c = search needs
+loop-holds c = (refl, rw (message-ids _))
 
 returns : tie.Need-returns Inv-loop μ-loop
 unfolding fieldAnswer
@@ -40,21 +33,6 @@ returns c =
     let field = c .before .before in
     let turn = field .before .before in
     sym (ids-end (turn .loop .k) _ _ (sym (field .field-at .ensures) ∙ c .enum-told .given .1)) ∙ turn .loop .inv .1
-
-enum-known-f : tie.Need-enum-known-f Inv-loop μ-loop
-enum-known-f c = search needs
-
-add-requires : tie.Need-add-requires Inv-loop μ-loop
-add-requires c κs = search needs
-
-add-hex-requires : tie.Need-add-hex-requires Inv-loop μ-loop
-add-hex-requires c κs = search needs
-
-add-k : tie.Need-add-k Inv-loop μ-loop
-add-k c = search needs
-
-loop-less : tie.Need-loop-less Inv-loop μ-loop
-loop-less c = search needs
 
 loop-again : tie.Need-loop-again Inv-loop μ-loop
 unfolding fieldAnswer
@@ -71,9 +49,6 @@ loop-again c =
       cc (blank .add .ensures, digits .add-hex .ensures, step),
     )
 
-same-length-2 : tie.Need-same-length-2 Inv-loop μ-loop
-same-length-2 c = search needs
-
 returns-2 : tie.Need-returns-2 Inv-loop μ-loop
 returns-2 c =
     let turn = c .before in
@@ -87,15 +62,15 @@ add-ids-spec =
     Inv-loop
     μ-loop
     loop-holds
-    field-at-requires
-    enum-told
-    same-length
+    (λ c κs. search needs)
+    (λ c. search needs)
+    (λ c. search needs)
     returns
-    enum-known-f
-    add-requires
-    add-hex-requires
-    add-k
-    loop-less
+    (λ c. search needs)
+    (λ c κs. search needs)
+    (λ c κs. search needs)
+    (λ c. search needs)
+    (λ c. search needs)
     loop-again
-    same-length-2
+    (λ c. search needs)
     returns-2)

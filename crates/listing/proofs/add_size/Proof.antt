@@ -1,30 +1,9 @@
 -- `listing::add_size`: a blank, a number and a word. Assumes nothing.
-use Rattle.listing.specs.Lines.{sizeText, formText}
-use Rattle.listing.proofs.TextLaws.{both}
+use Rattle.zvt_rules.specs.Listing.{sizeText, formText}
+use Rattle.buffers.proofs.TextLaws.{both}
 use borrow.Author.Needs.{needs}
 use Rattle.listing.proofs.add_size.Statement.{statement}
 use Rattle.listing.proofs.add_size.Tie as tie
-
-add-requires : tie.Need-add-requires
-add-requires c κs = search needs
-
-add-decimal-requires : tie.Need-add-decimal-requires
-add-decimal-requires c κs = search needs
-
-slice-aggregate-add-all : tie.Need-slice-aggregate-add-all
-slice-aggregate-add-all c = search needs
-
-add-all-requires : tie.Need-add-all-requires
-add-all-requires c κs = search needs
-
-slice-aggregate-add-all-2 : tie.Need-slice-aggregate-add-all-2
-slice-aggregate-add-all-2 c = search needs
-
-add-all-requires-2 : tie.Need-add-all-requires-2
-add-all-requires-2 c κs = search needs
-
-same-length : tie.Need-same-length
-same-length c = search needs
 
 returns : tie.Need-returns
 unfolding sizeText formText
@@ -34,9 +13,6 @@ returns c =
     let blank = number .before .before .before .before in
     both _ _ _ (blank .add .ensures)
     (both _ _ _ (number .add-decimal .ensures) (rw (word .before .before .before .if1 .taken) (word .add-all .ensures)))
-
-same-length-2 : tie.Need-same-length-2
-same-length-2 c = search needs
 
 returns-2 : tie.Need-returns-2
 unfolding sizeText formText
@@ -51,13 +27,13 @@ pub add-size-spec : {M : Type 1} → statement M
 add-size-spec =
     tie.close
     (tie.spec
-    add-requires
-    add-decimal-requires
-    slice-aggregate-add-all
-    add-all-requires
-    slice-aggregate-add-all-2
-    add-all-requires-2
-    same-length
+    (λ c κs. search needs)
+    (λ c κs. search needs)
+    (λ c. search needs)
+    (λ c κs. search needs)
+    (λ c. search needs)
+    (λ c κs. search needs)
+    (λ c. search needs)
     returns
-    same-length-2
+    (λ c. search needs)
     returns-2)

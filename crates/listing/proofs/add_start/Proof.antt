@@ -1,24 +1,9 @@
 -- `listing::add_start`: a number, a blank and the pair. Assumes nothing.
-use Rattle.listing.specs.Lines.{startText}
-use Rattle.listing.proofs.TextLaws.{both}
+use Rattle.zvt_rules.specs.Listing.{startText}
+use Rattle.buffers.proofs.TextLaws.{both}
 use borrow.Author.Needs.{needs}
 use Rattle.listing.proofs.add_start.Statement.{statement}
 use Rattle.listing.proofs.add_start.Tie as tie
-
-add-decimal-requires : tie.Need-add-decimal-requires
-add-decimal-requires c κs = search needs
-
-add-requires : tie.Need-add-requires
-add-requires c κs = search needs
-
-add-hex-requires : tie.Need-add-hex-requires
-add-hex-requires c κs = search needs
-
-add-hex-requires-2 : tie.Need-add-hex-requires-2
-add-hex-requires-2 c κs = search needs
-
-same-length : tie.Need-same-length
-same-length c = search needs
 
 returns : tie.Need-returns
 unfolding startText
@@ -34,9 +19,9 @@ pub add-start-spec : {M : Type 1} → statement M
 add-start-spec =
     tie.close
     (tie.spec
-    add-decimal-requires
-    add-requires
-    add-hex-requires
-    add-hex-requires-2
-    same-length
+    (λ c κs. search needs)
+    (λ c κs. search needs)
+    (λ c κs. search needs)
+    (λ c κs. search needs)
+    (λ c. search needs)
     returns)

@@ -1,21 +1,9 @@
 -- `listing::message_line`: start, size and ids. Assumes nothing.
 use Rattle.listing.specs.Lines.{readText}
-use Rattle.listing.proofs.TextLaws.{both}
+use Rattle.buffers.proofs.TextLaws.{both}
 use borrow.Author.Needs.{needs}
 use Rattle.listing.proofs.message_line.Statement.{statement}
 use Rattle.listing.proofs.message_line.Tie as tie
-
-add-start-requires : tie.Need-add-start-requires
-add-start-requires c κs = search needs
-
-add-size-requires : tie.Need-add-size-requires
-add-size-requires c κs = search needs
-
-add-ids-requires : tie.Need-add-ids-requires
-add-ids-requires c κs = search needs
-
-same-length : tie.Need-same-length
-same-length c = search needs
 
 returns : tie.Need-returns
 unfolding readText
@@ -27,4 +15,9 @@ returns c =
 
 pub message-line-spec : {M : Type 1} → statement M
 message-line-spec =
-    tie.close (tie.spec add-start-requires add-size-requires add-ids-requires same-length returns)
+    tie.close (tie.spec
+    (λ c κs. search needs)
+    (λ c κs. search needs)
+    (λ c κs. search needs)
+    (λ c. search needs)
+    returns)
