@@ -1,5 +1,3 @@
--- The laws of the definitions, by subject.
-pub mod TextLaws
+-- The laws of a listing, by subject.
 pub mod LineLaws
 pub mod NextLaws
-pub mod ShownLaws

@@ -14,9 +14,10 @@ use Rattle.zvt_rules.proofs.MessageBytes.{read-sound}
 use Rattle.zvt_rules.specs.declared.Listed.{Listed}
 use Rattle.zvt_rules.specs.declared.FieldAnswer.the-variants.{Field as listed-field, End}
 use Rattle.zvt_rules.specs.Listed.{listedAt, listedFrom, listedBody, listedMessage, nthListed}
-use Rattle.listing.specs.Text.{Text, write, hexText}
-use Rattle.listing.specs.Lines.{idsText, bodyIds, listedText}
-use Rattle.listing.proofs.TextLaws.{write-append, write-first}
+use Rattle.zvt_rules.specs.Text.{Text, write, hexText}
+use Rattle.zvt_rules.specs.Listing.{idsText, bodyIds, idsOf}
+use Rattle.listing.specs.Lines.{listedText}
+use Rattle.buffers.proofs.TextLaws.{write-append, write-first}
 
 -- ---- the fields of a list, one after the other
 nth-field : (k : ℕ) (ls : List Listed) (l : Listed) → nthListed k ls ≡ listed-field l → drop k ls ≡ l ∷ drop (suc k) ls
@@ -73,15 +74,16 @@ ids-all s k t b h =
     rw (drop-of-length-le (listedMessage (readOf s)) l)
 
 -- ---- the ids that the reader answers are those of the message
-pub listed-ids : (fs : List Field) (at : ℕ) → listedText (listedFrom at fs) ≡ idsText fs
+listed-ids : (fs : List Field) (at : ℕ) → listedText (listedFrom at fs) ≡ idsText fs
 unfolding listedText listedFrom idsText listedAt
 listed-ids [] at = refl
 listed-ids (f ∷ fs) at = ap (λ (w : List ℕ). 32 ∷ (hexText (fieldId f) ++ w)) (listed-ids fs (at + length (fieldBytes f)))
 
-pub message-ids : (m : Message) → listedText (listedMessage (got m)) ≡ bodyIds (m .body)
-unfolding listedMessage listedBody bodyIds listedText
-message-ids m = go (m .body)
+pub message-ids : (x : Reading Message) → listedText (listedMessage x) ≡ idsOf x
+unfolding listedMessage listedBody bodyIds listedText idsOf
+message-ids (got m) = go (m .body)
   where
     go : (b : Body) → listedText (listedBody (headerSize (m .long)) b) ≡ bodyIds b
     go (bytes s) = refl
     go (listed password fs) = listed-ids fs (headerSize (m .long) + length password)
+message-ids (refused f) = refl

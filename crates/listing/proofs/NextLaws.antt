@@ -1,39 +1,26 @@
--- The next line of a listing, case by case. Assumes nothing.
+-- The next line of a listing, case by case, and the lines from there on. Assumes nothing.
 use mathlib.Core.Path.{_≡_, refl, _∙_, ap}
-use mathlib.Core.List.{List}
-use Prim.Native.Nat.{ℕ, _+_, _≤_, _<_}
+use mathlib.Core.List.{List, [], _∷_, _++_}
+use Prim.Native.Nat.{ℕ, zero, suc, _+_, _-_, _≤_, _<_}
 use native.Mathlib.Omega.{arith}
 use borrow.Author.Tests.{lt-ltb, le-ltb, eq-eqb, ne-eqb}
-use lib.ListN.{length, take, length-take}
+use lib.ListN.{length, take, drop, length-take}
+use lib.Seq.{drop-drop}
 use Rattle.zvt_rules.specs.Reading.{Reading, got, refused}
 use Rattle.zvt_rules.specs.Message.{Message, readOf, firstOf}
 use Rattle.zvt_rules.specs.Writing.{messageBytes}
 use Rattle.zvt_rules.specs.Grammar.{Bytes}
+use Rattle.zvt_rules.specs.Text.{Text, text, write}
+use Rattle.zvt_rules.specs.Listing.{messageText, okText, refusedText, idsOf, NextLine, message, last, nextBy, nextOf, andRest, linesBy}
+use Rattle.zvt_rules.proofs.ObjectReading.{tail}
 use Rattle.zvt_rules.proofs.MessageBytes.{first-sound, read-complete}
 use Rattle.zvt_rules.specs.declared.Refusal.{Refusal}
 use Rattle.zvt_rules.specs.declared.Outline.{Outline}
 use Rattle.zvt_rules.specs.declared.FirstAnswer.the-variants.{Accepted as first-accepted, Refused as first-refused}
 use Rattle.zvt_rules.specs.Answers.{refusalOf, outlineOf, asFirstAnswer, firstAnswer}
-use Rattle.zvt_rules.specs.Listed.{listedMessage}
-use Rattle.listing.specs.declared.Line.the-variants.{Message as message-line, Last}
-use Rattle.listing.specs.Text.{Text, text, write}
-use Rattle.listing.specs.Lines.{messageText, okText, refusedText, Next, message, last, nextBy, nextOf, lineText, asLine, Shown, readText}
-use Rattle.listing.proofs.LineLaws.{message-ids}
+use Rattle.buffers.proofs.TextLaws.{write-append}
+use Rattle.listing.specs.Lines.{readText}
 
--- ---- a text that was written is shown
-pub shown-last : (n : Next) (w entry : List ℕ) (size : ℕ) (exit : List ℕ) → n ≡ last w → text size exit ≡ write w (text 0 entry)
-    → Shown n entry (Last size) exit
-unfolding asLine lineText
-shown-last n w entry size exit e k =
-    rw e (record { answer = ap (λ (t : Text). Last (t .at)) k; left = ap (λ (t : Text). t .bytes) k })
-
-pub shown-message : (n : Next) (w : List ℕ) (next : ℕ) (entry : List ℕ) (size : ℕ) (exit : List ℕ) → n ≡ message w next
-    → text size exit ≡ write w (text 0 entry) → Shown n entry (message-line size next) exit
-unfolding asLine lineText
-shown-message n w next entry size exit e k =
-    rw e (record { answer = ap (λ (t : Text). message-line (t .at) next) k; left = ap (λ (t : Text). t .bytes) k })
-
--- ---- the cases
 pub next-over : (count : ℕ) (s : List ℕ) → 65536 < length s → nextOf count s ≡ last (refusedText count 2)
 unfolding nextOf
 next-over count s h = rw (lt-ltb 65536 (length s) h)
@@ -58,9 +45,9 @@ module _ (count : ℕ) (s : List ℕ) (most : length s ≤ 65536) (some : length
 -- the text of a message by what the reader answers
 told : (count : ℕ) (t : Message) (m : Outline) (x : Reading Message) (next : ℕ) → outlineOf t ≡ m
     → length (messageBytes t) ≡ next → x ≡ got t
-    → nextBy count (got t) ≡ message (readText (count + 1) m (listedMessage x)) next
-unfolding nextBy messageText readText outlineOf
-told count t m x next same size e = rw (e, ← size, ← same, message-ids t)
+    → nextBy count (got t) ≡ message (readText (count + 1) m (idsOf x)) next
+unfolding nextBy messageText readText outlineOf idsOf
+told count t m x next same size e = rw (e, ← size, ← same)
 
 -- a message's own part of the input is that message
 module _ (s : List ℕ) (b : Bytes s) (m : Outline) (next : ℕ) (e : firstAnswer s ≡ first-accepted m next) where
@@ -81,9 +68,44 @@ module _ (s : List ℕ) (b : Bytes s) (m : Outline) (next : ℕ) (e : firstAnswe
       let sound = first-sound s (w .0) b (w .1) in
       omega (arith, w .3, ap length (sound .0), length-take (length (messageBytes (w .0))) s)
 
+  pub next-some-bytes : 1 ≤ next
+  unfolding firstAnswer messageBytes
+  next-some-bytes = let w = whole (firstOf s) refl e in omega (arith, w .3)
+
   pub next-message : (count : ℕ) → length s ≤ 65536 → (length s ≡ 0 → ⊥)
-      → nextOf count s ≡ message (readText (count + 1) m (listedMessage (readOf (take next s)))) next
+      → nextOf count s ≡ message (readText (count + 1) m (idsOf (readOf (take next s)))) next
   unfolding firstAnswer
   next-message count most some =
       let w = whole (firstOf s) refl e in
       next-some count s most some ∙ ap (nextBy count) (w .1) ∙ told count (w .0) m (readOf (take next s)) next (w .2) (w .3) (w .4)
+
+-- ---- the lines from there on
+lines-last : (f count : ℕ) (s w : List ℕ) (t : Text) → nextOf count s ≡ last w
+    → write (linesBy (suc f) count s) t ≡ write (10 ∷ []) (write w t)
+unfolding linesBy andRest
+lines-last f count s w t e = rw e (write-append w (10 ∷ []) t)
+
+lines-message : (f count : ℕ) (s w : List ℕ) (next : ℕ) (t : Text) → nextOf count s ≡ message w next
+    → write (linesBy (suc f) count s) t ≡ write (linesBy f (count + 1) (drop next s)) (write (10 ∷ []) (write w t))
+unfolding linesBy andRest
+lines-message f count s w next t e =
+    let rest = linesBy f (count + 1) (drop next s) in
+    rw e (write-append w (10 ∷ rest) t ∙ write-append (10 ∷ []) rest (write w t))
+
+-- what is left of s behind its first bytes, of which no more messages were listed than there are
+module _ (s : List ℕ) (from count : ℕ) (few : count ≤ from) (inside : from ≤ length s) (w : List ℕ) (t : Text) where
+  abbrev rest : List ℕ
+  rest = take (length s - from) (drop from s)
+
+  more : length s + 1 - count ≡ suc (length s - count)
+  more = omega arith
+
+  pub rest-last : nextOf count rest ≡ last w → write (linesBy (length s + 1 - count) count (drop from s)) t ≡ write (10 ∷ []) (write w t)
+  rest-last e = rw more (lines-last (length s - count) count (drop from s) w t (rw (tail from s) at e))
+
+  pub rest-message : (next : ℕ) → nextOf count rest ≡ message w next
+      → write (linesBy (length s + 1 - count) count (drop from s)) t
+      ≡ write (linesBy (length s + 1 - (count + 1)) (count + 1) (drop (from + next) s)) (write (10 ∷ []) (write w t))
+  rest-message next e =
+      let fewer : length s + 1 - (count + 1) ≡ length s - count = omega arith in
+      rw (more, fewer, ← (drop-drop next from s)) (lines-message (length s - count) count (drop from s) w next t (rw (tail from s) at e))

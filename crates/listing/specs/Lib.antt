@@ -1,3 +1,2 @@
--- What the lister prints.
-pub mod Text
+-- Steps of the code that lists. What its contracts cite stands in crate zvt_rules.
 pub mod Lines

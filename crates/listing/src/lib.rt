@@ -1,31 +1,32 @@
-// The text of a listing: a line for each message of an input, and a last line; each without its line end.
-pub mod text;
-
-use text::add;
-use text::add_all;
-use text::add_decimal;
-use text::add_hex;
+// The text of a listing: a line for each message of an input, and a last line.
+use buffers::add;
+use buffers::add_all;
+use buffers::add_decimal;
+use buffers::add_hex;
 use zvt_rules::FieldAnswer;
 use zvt_rules::FirstAnswer;
 use zvt_rules::Outline;
 ghost use mathlib.Core.Path.{_≡_};
-ghost use Rattle.zvt_rules.specs.Listed.{listedMessage};
 ghost use Rattle.zvt_rules.specs.Message.{readOf};
-ghost use Rattle.listing.specs.Text.{text, write};
-ghost use Rattle.listing.specs.Lines.{listedText, startText, sizeText, readText, endText, okText, refusedText, nextOf, Shown, Bounded};
+ghost use Rattle.zvt_rules.specs.Text.{text, write};
+ghost use Rattle.zvt_rules.specs.Listing.{startText, sizeText, endText, okText, refusedText, idsOf, nextOf, listing};
+ghost use Rattle.listing.specs.Lines.{readText, Put};
 
 // An input of more bytes is refused before its first message.
 pub const LIMIT: usize = 65536;
 
-// How long the text of a line is, and, where it is a message's, where the next message begins.
-pub enum Line {
+// No listing is longer. The shortest message has the most text for its bytes: three, and a line of at most 19.
+pub const TEXT: usize = LIMIT * 7;
+
+// Where the text of a line ends, and, where it is a message's, where the next message begins.
+enum Line {
     Message(usize, usize),
     Last(usize),
 }
 
 // The ids of the list of the message that s is, a blank before each.
 pub fn add_ids(s: &[u8], at: usize, out: &mut [u8]) -> usize
-    ensures { λ r. ⌜ text r (now (out .exit)) ≡ write (listedText (listedMessage (readOf (now (s .entry))))) (text at (now (out .entry))) ⌝ }
+    ensures { λ r. ⌜ text r (now (out .exit)) ≡ write (idsOf (readOf (now (s .entry)))) (text at (now (out .entry))) ⌝ }
 {
     let mut to = at;
     let mut k: usize = 0;
@@ -43,17 +44,17 @@ pub fn add_ids(s: &[u8], at: usize, out: &mut [u8]) -> usize
 }
 
 // Number and pair.
-fn add_start(number: u64, m: Outline, out: &mut [u8]) -> usize
-    ensures { λ r. ⌜ text r (now (out .exit)) ≡ write (startText number (m .class) (m .instruction)) (text 0 (now (out .entry))) ⌝ }
+fn add_start(number: u64, m: Outline, at: usize, out: &mut [u8]) -> usize
+    ensures { λ r. ⌜ text r (now (out .exit)) ≡ write (startText number (m .class) (m .instruction)) (text at (now (out .entry))) ⌝ }
 {
-    let mut to = add_decimal(number, 0, out);
+    let mut to = add_decimal(number, at, out);
     to = add(b' ', to, out);
     to = add_hex(m.class, to, out);
     add_hex(m.instruction, to, out)
 }
 
 // Body length and form.
-fn add_size(m: Outline, at: usize, out: &mut [u8]) -> usize
+pub fn add_size(m: Outline, at: usize, out: &mut [u8]) -> usize
     ensures { λ r. ⌜ text r (now (out .exit)) ≡ write (sizeText (m .length) (m .shortest)) (text at (now (out .entry))) ⌝ }
 {
     let mut to = add(b' ', at, out);
@@ -66,53 +67,71 @@ fn add_size(m: Outline, at: usize, out: &mut [u8]) -> usize
 }
 
 // The line of the message that s is.
-fn message_line(s: &[u8], number: u64, m: Outline, out: &mut [u8]) -> usize
-    ensures { λ r. ⌜ text r (now (out .exit)) ≡ write (readText number m (listedMessage (readOf (now (s .entry))))) (text 0 (now (out .entry))) ⌝ }
+fn message_line(s: &[u8], number: u64, m: Outline, at: usize, out: &mut [u8]) -> usize
+    ensures { λ r. ⌜ text r (now (out .exit)) ≡ write (readText number m (idsOf (readOf (now (s .entry))))) (text at (now (out .entry))) ⌝ }
 {
-    let mut to = add_start(number, m, out);
+    let mut to = add_start(number, m, at, out);
     to = add_size(m, to, out);
     add_ids(s, to, out)
 }
 
-fn add_end(count: u64, out: &mut [u8]) -> usize
-    ensures { λ r. ⌜ text r (now (out .exit)) ≡ write (endText count) (text 0 (now (out .entry))) ⌝ }
+fn add_end(count: u64, at: usize, out: &mut [u8]) -> usize
+    ensures { λ r. ⌜ text r (now (out .exit)) ≡ write (endText count) (text at (now (out .entry))) ⌝ }
 {
-    let to = add_all(b"end ", 0, out);
+    let to = add_all(b"end ", at, out);
     add_decimal(count, to, out)
 }
 
-fn ok_line(count: u64, out: &mut [u8]) -> usize
-    ensures { λ r. ⌜ text r (now (out .exit)) ≡ write (okText count) (text 0 (now (out .entry))) ⌝ }
+fn ok_line(count: u64, at: usize, out: &mut [u8]) -> usize
+    ensures { λ r. ⌜ text r (now (out .exit)) ≡ write (okText count) (text at (now (out .entry))) ⌝ }
 {
-    let to = add_end(count, out);
+    let to = add_end(count, at, out);
     add_all(b" ok", to, out)
 }
 
-fn refused_line(count: u64, number: u8, out: &mut [u8]) -> usize
-    ensures { λ r. ⌜ text r (now (out .exit)) ≡ write (refusedText count number) (text 0 (now (out .entry))) ⌝ }
+fn refused_line(count: u64, number: u8, at: usize, out: &mut [u8]) -> usize
+    ensures { λ r. ⌜ text r (now (out .exit)) ≡ write (refusedText count number) (text at (now (out .entry))) ⌝ }
 {
-    let mut to = add_end(count, out);
+    let mut to = add_end(count, at, out);
     to = add_all(b" refused ", to, out);
     add_decimal(number as u64, to, out)
 }
 
 // The line of the message that the rest of an input begins with, after count messages; or the last line.
-pub fn next_line(rest: &[u8], count: u32, out: &mut [u8]) -> Line
-    ensures text { λ r. ⌜ Shown (nextOf count (now (rest .entry))) (now (out .entry)) r (now (out .exit)) ⌝ }
-    ensures bounds { λ r. ⌜ Bounded (now (rest .entry)) (now (out .exit)) r ⌝ }
+fn next_line(rest: &[u8], count: u32, at: usize, out: &mut [u8]) -> Line
+    ensures { λ r. ⌜ Put (nextOf count (now (rest .entry))) (now (rest .entry)) at (now (out .entry)) r (now (out .exit)) ⌝ }
 {
     let listed = count as u64;
     if LIMIT < rest.len() {
-        return Line::Last(refused_line(listed, 2, out));
+        return Line::Last(refused_line(listed, 2, at, out));
     }
     if rest.len() == 0 {
-        return Line::Last(ok_line(listed, out));
+        return Line::Last(ok_line(listed, at, out));
     }
     match zvt::read_first(rest) {
-        FirstAnswer::Refused(f) => Line::Last(refused_line(listed, f.number, out)),
+        FirstAnswer::Refused(f) => Line::Last(refused_line(listed, f.number, at, out)),
         FirstAnswer::Accepted(m, next) => Line::Message(
-            message_line(&rest[..next], listed + 1, m, out),
+            message_line(&rest[..next], listed + 1, m, at, out),
             next,
         ),
+    }
+}
+
+// The listing of an input, each line with its end, at the start of out; and where it ends.
+pub fn list(s: &[u8], out: &mut [u8]) -> usize
+    ensures { λ r. ⌜ text r (now (out .exit)) ≡ write (listing (now (s .entry))) (text 0 (now (out .entry))) ⌝ }
+{
+    let mut to: usize = 0;
+    let mut from: usize = 0;
+    let mut count: u32 = 0;
+    loop {
+        match next_line(&s[from..], count, to, out) {
+            Line::Last(end) => return add(b'\n', end, out),
+            Line::Message(end, next) => {
+                to = add(b'\n', end, out);
+                from += next;
+                count += 1;
+            }
+        }
     }
 }

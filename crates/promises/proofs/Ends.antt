@@ -3,11 +3,11 @@
 use mathlib.Core.Path.{_≡_, refl}
 use Rattle.zvt.proofs as zvt
 use Rattle.desk.proofs as desk
-use Rattle.desk_rules.proofs as course
-use Rattle.tape_rules.proofs as blocks
+use Rattle.desk_rules.proofs as desk_rules
+use Rattle.tape_rules.proofs as tape_rules
 use Rattle.tape.proofs as tape
 use Rattle.listing.proofs as listing
-use Rattle.filling.proofs as filling
+use Rattle.buffers.proofs as buffers
 use Rattle.desk_rules.specs.Memory.{Valid}
 
 -- Every public function's own theorem: a call of it ends, reads and writes only what it was lent, and answers as its contract states.
@@ -24,48 +24,68 @@ pub every-call-ends : {M : Type 1}
     × zvt.amount_bytes.Statement.statement M
     × zvt.password_bytes.Statement.statement M
     × zvt.receipt_bytes.Statement.statement M
-    × desk.open_sale.Statement.statement M
-    × desk.open_refund.Statement.statement M
-    × desk.open_reversal.Statement.statement M
+    × desk.«open».Statement.statement M
     × desk.terminal.Statement.statement M
     × desk.link_lost.Statement.statement M
     × desk.close.Statement.statement M
     × desk.net.Statement.statement M
     × desk.line_at.Statement.statement M
     × desk.lane_at.Statement.statement M
-    × course.Desk.fresh.Statement.statement M
-    × course.Book.empty.Statement.statement M
-    × course.Line.blank.Statement.statement M
-    × course.Lane.idle.Statement.statement M
-    × course.Lane.waiting.Statement.statement M
-    × course.Lane.running.Statement.statement M
-    × course.Lane.reported.Statement.statement M
-    × course.Lane.amount_ok.Statement.statement M
-    × course.Lane.receipt_ok.Statement.statement M
-    × course.Lane.password_ok.Statement.statement M
-    × course.nothing_told.Statement.statement M
-    × blocks.Block.before_last.Statement.statement M
-    × blocks.Block.at_end.Statement.statement M
-    × blocks.Taped.fresh.Statement.statement M
+    × desk_rules.Desk.fresh.Statement.statement M
+    × desk_rules.Book.empty.Statement.statement M
+    × desk_rules.Line.blank.Statement.statement M
+    × desk_rules.Line.is_approved.Statement.statement M
+    × desk_rules.Line.is_sold.Statement.statement M
+    × desk_rules.Line.concerns.Statement.statement M
+    × desk_rules.Line.gain.Statement.statement M
+    × desk_rules.Line.loss.Statement.statement M
+    × desk_rules.Lane.idle.Statement.statement M
+    × desk_rules.Lane.waiting.Statement.statement M
+    × desk_rules.Lane.running.Statement.statement M
+    × desk_rules.Lane.reported.Statement.statement M
+    × desk_rules.Lane.place_taken.Statement.statement M
+    × desk_rules.Lane.amount_ok.Statement.statement M
+    × desk_rules.Lane.receipt_ok.Statement.statement M
+    × desk_rules.Lane.password_ok.Statement.statement M
+    × desk_rules.Opening.kind.Statement.statement M
+    × desk_rules.Opening.within_limits.Statement.statement M
+    × desk_rules.Opening.reference.Statement.statement M
+    × desk_rules.Opening.asked.Statement.statement M
+    × desk_rules.Opening.named.Statement.statement M
+    × desk_rules.Opening.command_size.Statement.statement M
+    × desk_rules.Opening.lane.Statement.statement M
+    × desk_rules.Reference.looks_at.Statement.statement M
+    × desk_rules.Reference.receipt.Statement.statement M
+    × desk_rules.Kind.is_sale.Statement.statement M
+    × desk_rules.Kind.is_reversal.Statement.statement M
+    × desk_rules.Kind.booked.Statement.statement M
+    × desk_rules.Outcome.is_approved.Statement.statement M
+    × desk_rules.Phase.is_idle.Statement.statement M
+    × desk_rules.nothing_told.Statement.statement M
+    × tape_rules.Block.before_last.Statement.statement M
+    × tape_rules.Block.at_end.Statement.statement M
+    × tape_rules.Block.number_ok.Statement.statement M
+    × tape_rules.Block.payload_ok.Statement.statement M
+    × tape_rules.Taped.fresh.Statement.statement M
     × tape.write_block.Statement.statement M
     × tape.read_block.Statement.statement M
     × tape.write_tape.Statement.statement M
     × tape.read_tape.Statement.statement M
-    × tape.open_sale.Statement.statement M
-    × tape.open_refund.Statement.statement M
-    × tape.open_reversal.Statement.statement M
+    × tape.«open».Statement.statement M
     × tape.terminal.Statement.statement M
     × tape.link_lost.Statement.statement M
     × tape.close.Statement.statement M
     × listing.add_ids.Statement.statement M
-    × listing.next_line.Statement.statement M
-    × listing.text.add.Statement.statement M
-    × listing.text.add_all.Statement.statement M
-    × listing.text.add_hex.Statement.statement M
-    × listing.text.add_decimal.Statement.statement M
-    × listing.text.add_bytes.Statement.statement M
-    × listing.text.hex_value.Statement.statement M
-    × filling.fill.Statement.statement M
+    × listing.add_size.Statement.statement M
+    × listing.list.Statement.statement M
+    × buffers.fill.Statement.statement M
+    × buffers.upto.Statement.statement M
+    × buffers.add.Statement.statement M
+    × buffers.add_all.Statement.statement M
+    × buffers.add_hex.Statement.statement M
+    × buffers.add_bytes.Statement.statement M
+    × buffers.add_decimal.Statement.statement M
+    × buffers.hex_value.Statement.statement M
 every-call-ends = (
   zvt.read_header.Met.met,
   zvt.read.Met.met,
@@ -79,48 +99,68 @@ every-call-ends = (
   zvt.amount_bytes.Met.met,
   zvt.password_bytes.Met.met,
   zvt.receipt_bytes.Met.met,
-  desk.open_sale.Met.met,
-  desk.open_refund.Met.met,
-  desk.open_reversal.Met.met,
+  desk.«open».Met.met,
   desk.terminal.Met.met,
   desk.link_lost.Met.met,
   desk.close.Met.met,
   desk.net.Met.met,
   desk.line_at.Met.met,
   desk.lane_at.Met.met,
-  course.Desk.fresh.Met.met,
-  course.Book.empty.Met.met,
-  course.Line.blank.Met.met,
-  course.Lane.idle.Met.met,
-  course.Lane.waiting.Met.met,
-  course.Lane.running.Met.met,
-  course.Lane.reported.Met.met,
-  course.Lane.amount_ok.Met.met,
-  course.Lane.receipt_ok.Met.met,
-  course.Lane.password_ok.Met.met,
-  course.nothing_told.Met.met,
-  blocks.Block.before_last.Met.met,
-  blocks.Block.at_end.Met.met,
-  blocks.Taped.fresh.Met.met,
+  desk_rules.Desk.fresh.Met.met,
+  desk_rules.Book.empty.Met.met,
+  desk_rules.Line.blank.Met.met,
+  desk_rules.Line.is_approved.Met.met,
+  desk_rules.Line.is_sold.Met.met,
+  desk_rules.Line.concerns.Met.met,
+  desk_rules.Line.gain.Met.met,
+  desk_rules.Line.loss.Met.met,
+  desk_rules.Lane.idle.Met.met,
+  desk_rules.Lane.waiting.Met.met,
+  desk_rules.Lane.running.Met.met,
+  desk_rules.Lane.reported.Met.met,
+  desk_rules.Lane.place_taken.Met.met,
+  desk_rules.Lane.amount_ok.Met.met,
+  desk_rules.Lane.receipt_ok.Met.met,
+  desk_rules.Lane.password_ok.Met.met,
+  desk_rules.Opening.kind.Met.met,
+  desk_rules.Opening.within_limits.Met.met,
+  desk_rules.Opening.reference.Met.met,
+  desk_rules.Opening.asked.Met.met,
+  desk_rules.Opening.named.Met.met,
+  desk_rules.Opening.command_size.Met.met,
+  desk_rules.Opening.lane.Met.met,
+  desk_rules.Reference.looks_at.Met.met,
+  desk_rules.Reference.receipt.Met.met,
+  desk_rules.Kind.is_sale.Met.met,
+  desk_rules.Kind.is_reversal.Met.met,
+  desk_rules.Kind.booked.Met.met,
+  desk_rules.Outcome.is_approved.Met.met,
+  desk_rules.Phase.is_idle.Met.met,
+  desk_rules.nothing_told.Met.met,
+  tape_rules.Block.before_last.Met.met,
+  tape_rules.Block.at_end.Met.met,
+  tape_rules.Block.number_ok.Met.met,
+  tape_rules.Block.payload_ok.Met.met,
+  tape_rules.Taped.fresh.Met.met,
   tape.write_block.Met.met,
   tape.read_block.Met.met,
   tape.write_tape.Met.met,
   tape.read_tape.Met.met,
-  tape.open_sale.Met.met,
-  tape.open_refund.Met.met,
-  tape.open_reversal.Met.met,
+  tape.«open».Met.met,
   tape.terminal.Met.met,
   tape.link_lost.Met.met,
   tape.close.Met.met,
   listing.add_ids.Met.met,
-  listing.next_line.Met.met,
-  listing.text.add.Met.met,
-  listing.text.add_all.Met.met,
-  listing.text.add_hex.Met.met,
-  listing.text.add_decimal.Met.met,
-  listing.text.add_bytes.Met.met,
-  listing.text.hex_value.Met.met,
-  filling.fill.Met.met,
+  listing.add_size.Met.met,
+  listing.list.Met.met,
+  buffers.fill.Met.met,
+  buffers.upto.Met.met,
+  buffers.add.Met.met,
+  buffers.add_all.Met.met,
+  buffers.add_hex.Met.met,
+  buffers.add_bytes.Met.met,
+  buffers.add_decimal.Met.met,
+  buffers.hex_value.Met.met,
 )
 
 -- No function but those over a desk asks anything of its caller; those ask that the desk is one that these functions gave out.
@@ -137,49 +177,89 @@ pub nothing-to-test :
     × ((κs : _) (a : _) → zvt.amount_bytes.Reads.Asked κs a ≡ Unit {0})
     × ((κs : _) (a : _) → zvt.password_bytes.Reads.Asked κs a ≡ Unit {0})
     × ((κs : _) (a : _) → zvt.receipt_bytes.Reads.Asked κs a ≡ Unit {0})
-    × ((κs : _) (a : _) → desk.open_sale.Reads.Asked κs a ≡ Valid (a .0))
-    × ((κs : _) (a : _) → desk.open_refund.Reads.Asked κs a ≡ Valid (a .0))
-    × ((κs : _) (a : _) → desk.open_reversal.Reads.Asked κs a ≡ Valid (a .0))
+    × ((κs : _) (a : _) → desk.«open».Reads.Asked κs a ≡ Valid (a .0))
     × ((κs : _) (a : _) → desk.terminal.Reads.Asked κs a ≡ Valid (a .0))
     × ((κs : _) (a : _) → desk.link_lost.Reads.Asked κs a ≡ Valid (a .0))
     × ((κs : _) (a : _) → desk.close.Reads.Asked κs a ≡ Valid (a .0))
     × ((κs : _) (a : _) → desk.net.Reads.Asked κs a ≡ Valid (a .0))
     × ((κs : _) (a : _) → desk.line_at.Reads.Asked κs a ≡ Valid (a .0))
     × ((κs : _) (a : _) → desk.lane_at.Reads.Asked κs a ≡ Valid (a .0))
-    × ((κs : _) (a : _) → course.Desk.fresh.Reads.Asked κs a ≡ Unit {0})
-    × ((κs : _) (a : _) → course.Book.empty.Reads.Asked κs a ≡ Unit {0})
-    × ((κs : _) (a : _) → course.Line.blank.Reads.Asked κs a ≡ Unit {0})
-    × ((κs : _) (a : _) → course.Lane.idle.Reads.Asked κs a ≡ Unit {0})
-    × ((κs : _) (a : _) → course.Lane.waiting.Reads.Asked κs a ≡ Unit {0})
-    × ((κs : _) (a : _) → course.Lane.running.Reads.Asked κs a ≡ Unit {0})
-    × ((κs : _) (a : _) → course.Lane.reported.Reads.Asked κs a ≡ Unit {0})
-    × ((κs : _) (a : _) → course.Lane.amount_ok.Reads.Asked κs a ≡ Unit {0})
-    × ((κs : _) (a : _) → course.Lane.receipt_ok.Reads.Asked κs a ≡ Unit {0})
-    × ((κs : _) (a : _) → course.Lane.password_ok.Reads.Asked κs a ≡ Unit {0})
-    × ((κs : _) (a : _) → course.nothing_told.Reads.Asked κs a ≡ Unit {0})
-    × ((κs : _) (a : _) → blocks.Block.before_last.Reads.Asked κs a ≡ Unit {0})
-    × ((κs : _) (a : _) → blocks.Block.at_end.Reads.Asked κs a ≡ Unit {0})
-    × ((κs : _) (a : _) → blocks.Taped.fresh.Reads.Asked κs a ≡ Unit {0})
+    × ((κs : _) (a : _) → desk_rules.Desk.fresh.Reads.Asked κs a ≡ Unit {0})
+    × ((κs : _) (a : _) → desk_rules.Book.empty.Reads.Asked κs a ≡ Unit {0})
+    × ((κs : _) (a : _) → desk_rules.Line.blank.Reads.Asked κs a ≡ Unit {0})
+    × ((κs : _) (a : _) → desk_rules.Line.is_approved.Reads.Asked κs a ≡ Unit {0})
+    × ((κs : _) (a : _) → desk_rules.Line.is_sold.Reads.Asked κs a ≡ Unit {0})
+    × ((κs : _) (a : _) → desk_rules.Line.concerns.Reads.Asked κs a ≡ Unit {0})
+    × ((κs : _) (a : _) → desk_rules.Line.gain.Reads.Asked κs a ≡ Unit {0})
+    × ((κs : _) (a : _) → desk_rules.Line.loss.Reads.Asked κs a ≡ Unit {0})
+    × ((κs : _) (a : _) → desk_rules.Lane.idle.Reads.Asked κs a ≡ Unit {0})
+    × ((κs : _) (a : _) → desk_rules.Lane.waiting.Reads.Asked κs a ≡ Unit {0})
+    × ((κs : _) (a : _) → desk_rules.Lane.running.Reads.Asked κs a ≡ Unit {0})
+    × ((κs : _) (a : _) → desk_rules.Lane.reported.Reads.Asked κs a ≡ Unit {0})
+    × ((κs : _) (a : _) → desk_rules.Lane.place_taken.Reads.Asked κs a ≡ Unit {0})
+    × ((κs : _) (a : _) → desk_rules.Lane.amount_ok.Reads.Asked κs a ≡ Unit {0})
+    × ((κs : _) (a : _) → desk_rules.Lane.receipt_ok.Reads.Asked κs a ≡ Unit {0})
+    × ((κs : _) (a : _) → desk_rules.Lane.password_ok.Reads.Asked κs a ≡ Unit {0})
+    × ((κs : _) (a : _) → desk_rules.Opening.kind.Reads.Asked κs a ≡ Unit {0})
+    × ((κs : _) (a : _) → desk_rules.Opening.within_limits.Reads.Asked κs a ≡ Unit {0})
+    × ((κs : _) (a : _) → desk_rules.Opening.reference.Reads.Asked κs a ≡ Unit {0})
+    × ((κs : _) (a : _) → desk_rules.Opening.asked.Reads.Asked κs a ≡ Unit {0})
+    × ((κs : _) (a : _) → desk_rules.Opening.named.Reads.Asked κs a ≡ Unit {0})
+    × ((κs : _) (a : _) → desk_rules.Opening.command_size.Reads.Asked κs a ≡ Unit {0})
+    × ((κs : _) (a : _) → desk_rules.Opening.lane.Reads.Asked κs a ≡ Unit {0})
+    × ((κs : _) (a : _) → desk_rules.Reference.looks_at.Reads.Asked κs a ≡ Unit {0})
+    × ((κs : _) (a : _) → desk_rules.Reference.receipt.Reads.Asked κs a ≡ Unit {0})
+    × ((κs : _) (a : _) → desk_rules.Kind.is_sale.Reads.Asked κs a ≡ Unit {0})
+    × ((κs : _) (a : _) → desk_rules.Kind.is_reversal.Reads.Asked κs a ≡ Unit {0})
+    × ((κs : _) (a : _) → desk_rules.Kind.booked.Reads.Asked κs a ≡ Unit {0})
+    × ((κs : _) (a : _) → desk_rules.Outcome.is_approved.Reads.Asked κs a ≡ Unit {0})
+    × ((κs : _) (a : _) → desk_rules.Phase.is_idle.Reads.Asked κs a ≡ Unit {0})
+    × ((κs : _) (a : _) → desk_rules.nothing_told.Reads.Asked κs a ≡ Unit {0})
+    × ((κs : _) (a : _) → tape_rules.Block.before_last.Reads.Asked κs a ≡ Unit {0})
+    × ((κs : _) (a : _) → tape_rules.Block.at_end.Reads.Asked κs a ≡ Unit {0})
+    × ((κs : _) (a : _) → tape_rules.Block.number_ok.Reads.Asked κs a ≡ Unit {0})
+    × ((κs : _) (a : _) → tape_rules.Block.payload_ok.Reads.Asked κs a ≡ Unit {0})
+    × ((κs : _) (a : _) → tape_rules.Taped.fresh.Reads.Asked κs a ≡ Unit {0})
     × ((κs : _) (a : _) → tape.write_block.Reads.Asked κs a ≡ Unit {0})
     × ((κs : _) (a : _) → tape.read_block.Reads.Asked κs a ≡ Unit {0})
     × ((κs : _) (a : _) → tape.write_tape.Reads.Asked κs a ≡ Unit {0})
     × ((κs : _) (a : _) → tape.read_tape.Reads.Asked κs a ≡ Unit {0})
-    × ((κs : _) (a : _) → tape.open_sale.Reads.Asked κs a ≡ Valid (a .0 .desk))
-    × ((κs : _) (a : _) → tape.open_refund.Reads.Asked κs a ≡ Valid (a .0 .desk))
-    × ((κs : _) (a : _) → tape.open_reversal.Reads.Asked κs a ≡ Valid (a .0 .desk))
+    × ((κs : _) (a : _) → tape.«open».Reads.Asked κs a ≡ Valid (a .0 .desk))
     × ((κs : _) (a : _) → tape.terminal.Reads.Asked κs a ≡ Valid (a .0 .desk))
     × ((κs : _) (a : _) → tape.link_lost.Reads.Asked κs a ≡ Valid (a .0 .desk))
     × ((κs : _) (a : _) → tape.close.Reads.Asked κs a ≡ Valid (a .0 .desk))
     × ((κs : _) (a : _) → listing.add_ids.Reads.Asked κs a ≡ Unit {0})
-    × ((κs : _) (a : _) → listing.next_line.Reads.Asked κs a ≡ Unit {0})
-    × ((κs : _) (a : _) → listing.text.add.Reads.Asked κs a ≡ Unit {0})
-    × ((κs : _) (a : _) → listing.text.add_all.Reads.Asked κs a ≡ Unit {0})
-    × ((κs : _) (a : _) → listing.text.add_hex.Reads.Asked κs a ≡ Unit {0})
-    × ((κs : _) (a : _) → listing.text.add_decimal.Reads.Asked κs a ≡ Unit {0})
-    × ((κs : _) (a : _) → listing.text.add_bytes.Reads.Asked κs a ≡ Unit {0})
-    × ((κs : _) (a : _) → listing.text.hex_value.Reads.Asked κs a ≡ Unit {0})
-    × ((κs : _) (a : _) → filling.fill.Reads.Asked κs a ≡ Unit {0})
+    × ((κs : _) (a : _) → listing.add_size.Reads.Asked κs a ≡ Unit {0})
+    × ((κs : _) (a : _) → listing.list.Reads.Asked κs a ≡ Unit {0})
+    × ((κs : _) (a : _) → buffers.fill.Reads.Asked κs a ≡ Unit {0})
+    × ((κs : _) (a : _) → buffers.upto.Reads.Asked κs a ≡ Unit {0})
+    × ((κs : _) (a : _) → buffers.add.Reads.Asked κs a ≡ Unit {0})
+    × ((κs : _) (a : _) → buffers.add_all.Reads.Asked κs a ≡ Unit {0})
+    × ((κs : _) (a : _) → buffers.add_hex.Reads.Asked κs a ≡ Unit {0})
+    × ((κs : _) (a : _) → buffers.add_bytes.Reads.Asked κs a ≡ Unit {0})
+    × ((κs : _) (a : _) → buffers.add_decimal.Reads.Asked κs a ≡ Unit {0})
+    × ((κs : _) (a : _) → buffers.hex_value.Reads.Asked κs a ≡ Unit {0})
 nothing-to-test = (
+  λ κs a. refl,
+  λ κs a. refl,
+  λ κs a. refl,
+  λ κs a. refl,
+  λ κs a. refl,
+  λ κs a. refl,
+  λ κs a. refl,
+  λ κs a. refl,
+  λ κs a. refl,
+  λ κs a. refl,
+  λ κs a. refl,
+  λ κs a. refl,
+  λ κs a. refl,
+  λ κs a. refl,
+  λ κs a. refl,
+  λ κs a. refl,
+  λ κs a. refl,
+  λ κs a. refl,
+  λ κs a. refl,
+  λ κs a. refl,
   λ κs a. refl,
   λ κs a. refl,
   λ κs a. refl,

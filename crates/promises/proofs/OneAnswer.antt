@@ -7,12 +7,12 @@ use mathlib.Core.List.{List}
 use denote.Ref.{now}
 use Rattle.zvt.proofs as zvt
 use Rattle.desk.proofs as desk
-use Rattle.desk_rules.proofs as course
-use Rattle.tape_rules.proofs as blocks
+use Rattle.desk_rules.proofs as desk_rules
+use Rattle.tape_rules.proofs as tape_rules
 use Rattle.tape.proofs as tape
 use Rattle.listing.proofs as listing
-use Rattle.filling.proofs as filling
-use Rattle.listing.specs.Text.{Text}
+use Rattle.buffers.proofs as buffers
+use Rattle.zvt_rules.specs.Text.{Text}
 use Rattle.promises.specs.OneAnswer.{Only, itself, placed, nothing, contents}
 
 only : {A E X Y : Type 0} {answer : A → X} {lent : E → Y} {states : A → E → Type 0} (x : X) (y : Y)
@@ -56,24 +56,18 @@ password-bytes-one κs a = only _ _ (λ r e h. (h, refl))
 pub receipt-bytes-one : (κs : _) (a : _) → Only itself nothing (zvt.receipt_bytes.Reads.Learnt κs a)
 receipt-bytes-one κs a = only _ _ (λ r e h. (h, refl))
 
--- ---- the desk
-pub open-sale-one : (κs : _) (a : _) → Only itself (λ e. now (e .1 .1 .1 .0)) (desk.open_sale.Reads.Learnt κs a)
-open-sale-one κs a = only _ _ (λ r e h. h)
-
-pub open-refund-one : (κs : _) (a : _) → Only itself (λ e. now (e .1 .1 .1 .1 .0)) (desk.open_refund.Reads.Learnt κs a)
-open-refund-one κs a = only _ _ (λ r e h. h)
-
-pub open-reversal-one : (κs : _) (a : _) → Only itself (λ e. now (e .1 .1 .1 .1 .0)) (desk.open_reversal.Reads.Learnt κs a)
-open-reversal-one κs a = only _ _ (λ r e h. h)
+-- ---- the desk: an answer, one content of what was lent, and beside them that the desk is valid
+pub open-one : (κs : _) (a : _) → Only itself (λ e. now (e .1 .1 .1 .0)) (desk.«open».Reads.Learnt κs a)
+open-one κs a = only _ _ (λ r e h. (h .0, h .1 .0))
 
 pub terminal-one : (κs : _) (a : _) → Only itself (λ e. now (e .1 .1 .1 .0)) (desk.terminal.Reads.Learnt κs a)
-terminal-one κs a = only _ _ (λ r e h. h)
+terminal-one κs a = only _ _ (λ r e h. (h .0, h .1 .0))
 
 pub link-lost-one : (κs : _) (a : _) → Only itself nothing (desk.link_lost.Reads.Learnt κs a)
-link-lost-one κs a = only _ _ (λ r e h. (h, refl))
+link-lost-one κs a = only _ _ (λ r e h. (h .0, refl))
 
 pub close-one : (κs : _) (a : _) → Only itself nothing (desk.close.Reads.Learnt κs a)
-close-one κs a = only _ _ (λ r e h. (h, refl))
+close-one κs a = only _ _ (λ r e h. (h .0, refl))
 
 pub net-one : (κs : _) (a : _) → Only itself nothing (desk.net.Reads.Learnt κs a)
 net-one κs a = only _ _ (λ r e h. (h, refl))
@@ -84,48 +78,114 @@ line-at-one κs a = only _ _ (λ r e h. (h, refl))
 pub lane-at-one : (κs : _) (a : _) → Only itself nothing (desk.lane_at.Reads.Learnt κs a)
 lane-at-one κs a = only _ _ (λ r e h. (h, refl))
 
--- ---- what a desk is made of
-pub desk-fresh-one : (κs : _) (a : _) → Only itself nothing (course.Desk.fresh.Reads.Learnt κs a)
+-- ---- what a desk is made of, and the questions to it
+pub desk-fresh-one : (κs : _) (a : _) → Only itself nothing (desk_rules.Desk.fresh.Reads.Learnt κs a)
 desk-fresh-one κs a = only _ _ (λ r e h. (h, refl))
 
-pub book-empty-one : (κs : _) (a : _) → Only itself nothing (course.Book.empty.Reads.Learnt κs a)
+pub book-empty-one : (κs : _) (a : _) → Only itself nothing (desk_rules.Book.empty.Reads.Learnt κs a)
 book-empty-one κs a = only _ _ (λ r e h. (h, refl))
 
-pub line-blank-one : (κs : _) (a : _) → Only itself nothing (course.Line.blank.Reads.Learnt κs a)
+pub line-blank-one : (κs : _) (a : _) → Only itself nothing (desk_rules.Line.blank.Reads.Learnt κs a)
 line-blank-one κs a = only _ _ (λ r e h. (h, refl))
 
-pub lane-idle-one : (κs : _) (a : _) → Only itself nothing (course.Lane.idle.Reads.Learnt κs a)
+pub line-is-approved-one : (κs : _) (a : _) → Only itself nothing (desk_rules.Line.is_approved.Reads.Learnt κs a)
+line-is-approved-one κs a = only _ _ (λ r e h. (h, refl))
+
+pub line-is-sold-one : (κs : _) (a : _) → Only itself nothing (desk_rules.Line.is_sold.Reads.Learnt κs a)
+line-is-sold-one κs a = only _ _ (λ r e h. (h, refl))
+
+pub line-concerns-one : (κs : _) (a : _) → Only itself nothing (desk_rules.Line.concerns.Reads.Learnt κs a)
+line-concerns-one κs a = only _ _ (λ r e h. (h, refl))
+
+pub line-gain-one : (κs : _) (a : _) → Only itself nothing (desk_rules.Line.gain.Reads.Learnt κs a)
+line-gain-one κs a = only _ _ (λ r e h. (h, refl))
+
+pub line-loss-one : (κs : _) (a : _) → Only itself nothing (desk_rules.Line.loss.Reads.Learnt κs a)
+line-loss-one κs a = only _ _ (λ r e h. (h, refl))
+
+pub lane-idle-one : (κs : _) (a : _) → Only itself nothing (desk_rules.Lane.idle.Reads.Learnt κs a)
 lane-idle-one κs a = only _ _ (λ r e h. (h, refl))
 
-pub lane-waiting-one : (κs : _) (a : _) → Only itself nothing (course.Lane.waiting.Reads.Learnt κs a)
+pub lane-waiting-one : (κs : _) (a : _) → Only itself nothing (desk_rules.Lane.waiting.Reads.Learnt κs a)
 lane-waiting-one κs a = only _ _ (λ r e h. (h, refl))
 
-pub lane-running-one : (κs : _) (a : _) → Only itself nothing (course.Lane.running.Reads.Learnt κs a)
+pub lane-running-one : (κs : _) (a : _) → Only itself nothing (desk_rules.Lane.running.Reads.Learnt κs a)
 lane-running-one κs a = only _ _ (λ r e h. (h, refl))
 
-pub lane-reported-one : (κs : _) (a : _) → Only itself nothing (course.Lane.reported.Reads.Learnt κs a)
+pub lane-reported-one : (κs : _) (a : _) → Only itself nothing (desk_rules.Lane.reported.Reads.Learnt κs a)
 lane-reported-one κs a = only _ _ (λ r e h. (h, refl))
 
-pub lane-amount-ok-one : (κs : _) (a : _) → Only itself nothing (course.Lane.amount_ok.Reads.Learnt κs a)
+pub lane-place-taken-one : (κs : _) (a : _) → Only itself nothing (desk_rules.Lane.place_taken.Reads.Learnt κs a)
+lane-place-taken-one κs a = only _ _ (λ r e h. (h, refl))
+
+pub lane-amount-ok-one : (κs : _) (a : _) → Only itself nothing (desk_rules.Lane.amount_ok.Reads.Learnt κs a)
 lane-amount-ok-one κs a = only _ _ (λ r e h. (h, refl))
 
-pub lane-receipt-ok-one : (κs : _) (a : _) → Only itself nothing (course.Lane.receipt_ok.Reads.Learnt κs a)
+pub lane-receipt-ok-one : (κs : _) (a : _) → Only itself nothing (desk_rules.Lane.receipt_ok.Reads.Learnt κs a)
 lane-receipt-ok-one κs a = only _ _ (λ r e h. (h, refl))
 
-pub lane-password-ok-one : (κs : _) (a : _) → Only itself nothing (course.Lane.password_ok.Reads.Learnt κs a)
+pub lane-password-ok-one : (κs : _) (a : _) → Only itself nothing (desk_rules.Lane.password_ok.Reads.Learnt κs a)
 lane-password-ok-one κs a = only _ _ (λ r e h. (h, refl))
 
-pub nothing-told-one : (κs : _) (a : _) → Only itself nothing (course.nothing_told.Reads.Learnt κs a)
+pub opening-kind-one : (κs : _) (a : _) → Only itself nothing (desk_rules.Opening.kind.Reads.Learnt κs a)
+opening-kind-one κs a = only _ _ (λ r e h. (h, refl))
+
+pub opening-within-limits-one : (κs : _) (a : _) → Only itself nothing (desk_rules.Opening.within_limits.Reads.Learnt κs a)
+opening-within-limits-one κs a = only _ _ (λ r e h. (h, refl))
+
+pub opening-reference-one : (κs : _) (a : _) → Only itself nothing (desk_rules.Opening.reference.Reads.Learnt κs a)
+opening-reference-one κs a = only _ _ (λ r e h. (h, refl))
+
+pub opening-asked-one : (κs : _) (a : _) → Only itself nothing (desk_rules.Opening.asked.Reads.Learnt κs a)
+opening-asked-one κs a = only _ _ (λ r e h. (h, refl))
+
+pub opening-named-one : (κs : _) (a : _) → Only itself nothing (desk_rules.Opening.named.Reads.Learnt κs a)
+opening-named-one κs a = only _ _ (λ r e h. (h, refl))
+
+pub opening-command-size-one : (κs : _) (a : _) → Only itself nothing (desk_rules.Opening.command_size.Reads.Learnt κs a)
+opening-command-size-one κs a = only _ _ (λ r e h. (h, refl))
+
+pub opening-lane-one : (κs : _) (a : _) → Only itself nothing (desk_rules.Opening.lane.Reads.Learnt κs a)
+opening-lane-one κs a = only _ _ (λ r e h. (h, refl))
+
+pub reference-looks-at-one : (κs : _) (a : _) → Only itself nothing (desk_rules.Reference.looks_at.Reads.Learnt κs a)
+reference-looks-at-one κs a = only _ _ (λ r e h. (h, refl))
+
+pub reference-receipt-one : (κs : _) (a : _) → Only itself nothing (desk_rules.Reference.receipt.Reads.Learnt κs a)
+reference-receipt-one κs a = only _ _ (λ r e h. (h, refl))
+
+pub kind-is-sale-one : (κs : _) (a : _) → Only itself nothing (desk_rules.Kind.is_sale.Reads.Learnt κs a)
+kind-is-sale-one κs a = only _ _ (λ r e h. (h, refl))
+
+pub kind-is-reversal-one : (κs : _) (a : _) → Only itself nothing (desk_rules.Kind.is_reversal.Reads.Learnt κs a)
+kind-is-reversal-one κs a = only _ _ (λ r e h. (h, refl))
+
+pub kind-booked-one : (κs : _) (a : _) → Only itself nothing (desk_rules.Kind.booked.Reads.Learnt κs a)
+kind-booked-one κs a = only _ _ (λ r e h. (h, refl))
+
+pub outcome-is-approved-one : (κs : _) (a : _) → Only itself nothing (desk_rules.Outcome.is_approved.Reads.Learnt κs a)
+outcome-is-approved-one κs a = only _ _ (λ r e h. (h, refl))
+
+pub phase-is-idle-one : (κs : _) (a : _) → Only itself nothing (desk_rules.Phase.is_idle.Reads.Learnt κs a)
+phase-is-idle-one κs a = only _ _ (λ r e h. (h, refl))
+
+pub nothing-told-one : (κs : _) (a : _) → Only itself nothing (desk_rules.nothing_told.Reads.Learnt κs a)
 nothing-told-one κs a = only _ _ (λ r e h. (h, refl))
 
 -- ---- a block of a tape, and a desk with its tape
-pub block-before-last-one : (κs : _) (a : _) → Only itself nothing (blocks.Block.before_last.Reads.Learnt κs a)
+pub block-before-last-one : (κs : _) (a : _) → Only itself nothing (tape_rules.Block.before_last.Reads.Learnt κs a)
 block-before-last-one κs a = only _ _ (λ r e h. (h, refl))
 
-pub block-at-end-one : (κs : _) (a : _) → Only itself nothing (blocks.Block.at_end.Reads.Learnt κs a)
+pub block-at-end-one : (κs : _) (a : _) → Only itself nothing (tape_rules.Block.at_end.Reads.Learnt κs a)
 block-at-end-one κs a = only _ _ (λ r e h. (h, refl))
 
-pub taped-fresh-one : (κs : _) (a : _) → Only itself nothing (blocks.Taped.fresh.Reads.Learnt κs a)
+pub block-number-ok-one : (κs : _) (a : _) → Only itself nothing (tape_rules.Block.number_ok.Reads.Learnt κs a)
+block-number-ok-one κs a = only _ _ (λ r e h. (h, refl))
+
+pub block-payload-ok-one : (κs : _) (a : _) → Only itself nothing (tape_rules.Block.payload_ok.Reads.Learnt κs a)
+block-payload-ok-one κs a = only _ _ (λ r e h. (h, refl))
+
+pub taped-fresh-one : (κs : _) (a : _) → Only itself nothing (tape_rules.Taped.fresh.Reads.Learnt κs a)
 taped-fresh-one κs a = only _ _ (λ r e h. (h, refl))
 
 -- ---- the tape
@@ -144,52 +204,48 @@ write-tape-one κs a = only _ _ (λ r e h. h)
 pub read-tape-one : (κs : _) (a : _) → Only itself (λ e. now (e .1 .0)) (tape.read_tape.Reads.Learnt κs a)
 read-tape-one κs a = only _ _ (λ r e h. h)
 
-pub taped-sale-one : (κs : _) (a : _)
-    → Only itself (λ e. contents (e .1 .1 .1 .0) (e .1 .1 .1 .1 .0)) (tape.open_sale.Reads.Learnt κs a)
-taped-sale-one κs a = only _ _ (λ r e h. (h .0, both (h .1 .0) (h .1 .1)))
+pub taped-open-one : (κs : _) (a : _) → Only itself (λ e. contents (e .1 .1 .1 .0) (e .1 .1 .1 .1 .0)) (tape.«open».Reads.Learnt κs a)
+taped-open-one κs a = only _ _ (λ r e h. (h .0, both (h .1 .0) (h .1 .1 .0)))
 
-pub taped-refund-one : (κs : _) (a : _)
-    → Only itself (λ e. contents (e .1 .1 .1 .1 .0) (e .1 .1 .1 .1 .1 .0)) (tape.open_refund.Reads.Learnt κs a)
-taped-refund-one κs a = only _ _ (λ r e h. (h .0, both (h .1 .0) (h .1 .1)))
-
-pub taped-reversal-one : (κs : _) (a : _)
-    → Only itself (λ e. contents (e .1 .1 .1 .1 .0) (e .1 .1 .1 .1 .1 .0)) (tape.open_reversal.Reads.Learnt κs a)
-taped-reversal-one κs a = only _ _ (λ r e h. (h .0, both (h .1 .0) (h .1 .1)))
-
-pub taped-terminal-one : (κs : _) (a : _)
-    → Only itself (λ e. contents (e .1 .1 .1 .0) (e .1 .1 .1 .1 .0)) (tape.terminal.Reads.Learnt κs a)
-taped-terminal-one κs a = only _ _ (λ r e h. (h .0, both (h .1 .0) (h .1 .1)))
+pub taped-terminal-one : (κs : _) (a : _) → Only itself (λ e. contents (e .1 .1 .1 .0) (e .1 .1 .1 .1 .0)) (tape.terminal.Reads.Learnt κs a)
+taped-terminal-one κs a = only _ _ (λ r e h. (h .0, both (h .1 .0) (h .1 .1 .0)))
 
 pub taped-link-lost-one : (κs : _) (a : _) → Only itself (λ e. now (e .1 .1 .0)) (tape.link_lost.Reads.Learnt κs a)
-taped-link-lost-one κs a = only _ _ (λ r e h. h)
+taped-link-lost-one κs a = only _ _ (λ r e h. (h .0, h .1 .0))
 
 pub taped-close-one : (κs : _) (a : _) → Only itself nothing (tape.close.Reads.Learnt κs a)
-taped-close-one κs a = only _ _ (λ r e h. (h, refl))
+taped-close-one κs a = only _ _ (λ r e h. (h .0, refl))
 
--- ---- the text of a listing: how far the buffer is taken, and its bytes
-pub add-ids-one : (κs : _) (a : _) → Only itself (λ e. now (e .1 .1 .0)) (listing.add_ids.Reads.Learnt κs a)
-add-ids-one κs a = only _ _ (λ r e h. (ap (λ (t : Text). t .at) h, ap (λ (t : Text). t .bytes) h))
+-- ---- the text of a listing, and text in a lent buffer: how far the buffer is taken, and its bytes
+pub text-add-ids-one : (κs : _) (a : _) → Only itself (λ e. now (e .1 .1 .0)) (listing.add_ids.Reads.Learnt κs a)
+text-add-ids-one κs a = only _ _ (λ r e h. (ap (λ (t : Text). t .at) h, ap (λ (t : Text). t .bytes) h))
 
-pub next-line-one : (κs : _) (a : _) → Only itself (λ e. now (e .1 .1 .0)) (listing.next_line.Reads.Learnt κs a)
-next-line-one κs a = only _ _ (λ r e h. (h .0 .answer, h .0 .left))
+pub text-add-size-one : (κs : _) (a : _) → Only itself (λ e. now (e .1 .1 .0)) (listing.add_size.Reads.Learnt κs a)
+text-add-size-one κs a = only _ _ (λ r e h. (ap (λ (t : Text). t .at) h, ap (λ (t : Text). t .bytes) h))
 
-pub text-add-one : (κs : _) (a : _) → Only itself (λ e. now (e .1 .1 .0)) (listing.text.add.Reads.Learnt κs a)
+pub text-list-one : (κs : _) (a : _) → Only itself (λ e. now (e .1 .0)) (listing.list.Reads.Learnt κs a)
+text-list-one κs a = only _ _ (λ r e h. (ap (λ (t : Text). t .at) h, ap (λ (t : Text). t .bytes) h))
+
+pub fill-one : (κs : _) (a : _) → Only nothing (λ e. now (e .0)) (buffers.fill.Reads.Learnt κs a)
+fill-one κs a = only _ _ (λ r e h. (refl, h))
+
+pub text-upto-one : (κs : _) (a : _) → Only itself nothing (buffers.upto.Reads.Learnt κs a)
+text-upto-one κs a = only _ _ (λ r e h. (h, refl))
+
+pub text-add-one : (κs : _) (a : _) → Only itself (λ e. now (e .1 .1 .0)) (buffers.add.Reads.Learnt κs a)
 text-add-one κs a = only _ _ (λ r e h. (ap (λ (t : Text). t .at) h, ap (λ (t : Text). t .bytes) h))
 
-pub text-add-all-one : (κs : _) (a : _) → Only itself (λ e. now (e .1 .1 .0)) (listing.text.add_all.Reads.Learnt κs a)
+pub text-add-all-one : (κs : _) (a : _) → Only itself (λ e. now (e .1 .1 .0)) (buffers.add_all.Reads.Learnt κs a)
 text-add-all-one κs a = only _ _ (λ r e h. (ap (λ (t : Text). t .at) h, ap (λ (t : Text). t .bytes) h))
 
-pub text-add-hex-one : (κs : _) (a : _) → Only itself (λ e. now (e .1 .1 .0)) (listing.text.add_hex.Reads.Learnt κs a)
+pub text-add-hex-one : (κs : _) (a : _) → Only itself (λ e. now (e .1 .1 .0)) (buffers.add_hex.Reads.Learnt κs a)
 text-add-hex-one κs a = only _ _ (λ r e h. (ap (λ (t : Text). t .at) h, ap (λ (t : Text). t .bytes) h))
 
-pub text-add-decimal-one : (κs : _) (a : _) → Only itself (λ e. now (e .1 .1 .0)) (listing.text.add_decimal.Reads.Learnt κs a)
-text-add-decimal-one κs a = only _ _ (λ r e h. (ap (λ (t : Text). t .at) h, ap (λ (t : Text). t .bytes) h))
-
-pub text-add-bytes-one : (κs : _) (a : _) → Only itself (λ e. now (e .1 .1 .0)) (listing.text.add_bytes.Reads.Learnt κs a)
+pub text-add-bytes-one : (κs : _) (a : _) → Only itself (λ e. now (e .1 .1 .0)) (buffers.add_bytes.Reads.Learnt κs a)
 text-add-bytes-one κs a = only _ _ (λ r e h. (ap (λ (t : Text). t .at) h, ap (λ (t : Text). t .bytes) h))
 
-pub text-hex-value-one : (κs : _) (a : _) → Only itself nothing (listing.text.hex_value.Reads.Learnt κs a)
-text-hex-value-one κs a = only _ _ (λ r e h. (h, refl))
+pub text-add-decimal-one : (κs : _) (a : _) → Only itself (λ e. now (e .1 .1 .0)) (buffers.add_decimal.Reads.Learnt κs a)
+text-add-decimal-one κs a = only _ _ (λ r e h. (ap (λ (t : Text). t .at) h, ap (λ (t : Text). t .bytes) h))
 
-pub fill-one : (κs : _) (a : _) → Only nothing (λ e. now (e .0)) (filling.fill.Reads.Learnt κs a)
-fill-one κs a = only _ _ (λ r e h. (refl, h))
+pub text-hex-value-one : (κs : _) (a : _) → Only itself nothing (buffers.hex_value.Reads.Learnt κs a)
+text-hex-value-one κs a = only _ _ (λ r e h. (h, refl))

@@ -1,19 +1,19 @@
 // Numbers and bytes as a script writes them.
+use buffers::hex_value;
 use check::same;
-use listing::text::hex_value;
 ghost use Prim.Native.Nat.{_*_, _≤_};
 ghost use lib.ListN.{length};
-ghost use Rattle.script.specs.Script.{sizeOf};
+ghost use Rattle.io.specs.Counts.{Counts};
 
 pub(crate) enum Number {
     Bad,
     Value(u64),
 }
 
-// How many bytes there are.
-pub(crate) enum Bytes {
-    Bad,
-    Size(usize),
+// Whether a word stands for bytes, and for how many.
+pub(crate) struct Bytes {
+    pub(crate) good: bool,
+    pub(crate) size: usize,
 }
 
 const MOST_DIGITS: usize = 20;
@@ -86,23 +86,33 @@ fn pairs(w: &[u8], count: usize, out: &mut [u8]) -> bool
 
 // The bytes that w stands for go to the start of out.
 pub(crate) fn bytes_of(w: &[u8], out: &mut [u8]) -> Bytes
-    ensures { λ r. ⌜ sizeOf r ≤ length (now (out .exit)) ⌝ }
+    ensures { λ r. ⌜ Counts (r .size) (now (out .exit)) ⌝ }
 {
+    let bad = Bytes {
+        good: false,
+        size: 0,
+    };
     if same(w, b"-") {
-        return Bytes::Size(0);
+        return Bytes {
+            good: true,
+            size: 0,
+        };
     }
     if w.len() == 0 {
-        return Bytes::Bad;
+        return bad;
     }
     if w.len() % 2 != 0 {
-        return Bytes::Bad;
+        return bad;
     }
     let count = w.len() / 2;
     if out.len() < count {
-        return Bytes::Bad;
+        return bad;
     }
     if !pairs(w, count, out) {
-        return Bytes::Bad;
+        return bad;
     }
-    Bytes::Size(count)
+    Bytes {
+        good: true,
+        size: count,
+    }
 }

@@ -1,16 +1,14 @@
 // What a line asks for.
-use crate::notation::Bytes;
 use crate::notation::Number;
 use crate::notation::bytes_of;
 use crate::notation::number_of;
 use crate::turns::State;
 use crate::words::following;
+use crate::words::place;
 use crate::words::word;
 use check::same;
-ghost use mathlib.Core.Path.{_≡_};
-ghost use Prim.Native.Nat.{min};
+ghost use Prim.Native.Nat.{_≤_};
 ghost use lib.ListN.{length};
-ghost use Rattle.script.specs.Script.{sizeOf, Within};
 
 // A call for the desk.
 pub(crate) enum Call {
@@ -41,229 +39,196 @@ pub(crate) enum Reading {
 pub(crate) enum Order {
     Bad,
     Pass,
-    Room,
+    Room(usize),
     Call(Call),
     Question(Question),
     Reading(Reading),
 }
 
-// An order, and how many bytes are to be lent, how long its message is and how long the till's own name; 0 where it has none.
+// An order and the bytes of its line: a message up to size, and from there the till's own name up to end.
 pub(crate) struct Asked {
     pub(crate) order: Order,
-    pub(crate) room: usize,
     pub(crate) size: usize,
-    pub(crate) own: usize,
+    pub(crate) end: usize,
 }
+
+// The words behind the first, where they are numbers.
+enum Numbers {
+    Bad,
+    Nothing,
+    One(u64),
+    Two(u64, u64),
+    Three(u64, u64, u64),
+}
+
+// The greatest numbers of the types u8, u16 and u32.
+const BYTE: u64 = 255;
+
+pub(crate) const SHORT: u64 = 65535;
+
+pub(crate) const WORD: u64 = 4294967295;
 
 // A number over the width of its type is passed on as the greatest of that type: the desk refuses it.
-fn as_lane(n: u64) -> u8
-    ensures { λ r. ⌜ r ≡ min n 255 ⌝ }
+pub(crate) fn cut(n: u64, greatest: u64) -> u64
+    ensures { λ r. ⌜ r ≤ greatest ⌝ }
 {
-    if 255 < n { 255 } else { n as u8 }
+    if greatest < n { greatest } else { n }
 }
 
-fn as_password(n: u64) -> u32
-    ensures { λ r. ⌜ r ≡ min n 4294967295 ⌝ }
-{
-    if 4294967295 < n { 4294967295 } else { n as u32 }
-}
-
-fn as_receipt(n: u64) -> u16
-    ensures { λ r. ⌜ r ≡ min n 65535 ⌝ }
-{
-    if 65535 < n { 65535 } else { n as u16 }
-}
-
-fn lost(n: Number) -> Order {
-    let Number::Value(lane) = n else {
-        return Order::Bad;
-    };
-    Order::Call(Call::Lost(as_lane(lane)))
-}
-
-fn terminal(n: Number) -> Order {
-    let Number::Value(lane) = n else {
-        return Order::Bad;
-    };
-    Order::Call(Call::Terminal(as_lane(lane)))
-}
-
-fn sale(n: Number, m: Number) -> Order {
-    let Number::Value(lane) = n else {
-        return Order::Bad;
-    };
-    let Number::Value(amount) = m else {
-        return Order::Bad;
-    };
-    Order::Call(Call::Sale(as_lane(lane), amount))
-}
-
-fn refund(n: Number, m: Number, k: Number) -> Order {
-    let Number::Value(lane) = n else {
-        return Order::Bad;
-    };
-    let Number::Value(password) = m else {
-        return Order::Bad;
-    };
-    let Number::Value(amount) = k else {
-        return Order::Bad;
-    };
-    Order::Call(Call::Refund(as_lane(lane), as_password(password), amount))
-}
-
-fn reversal(n: Number, m: Number, k: Number) -> Order {
-    let Number::Value(lane) = n else {
-        return Order::Bad;
-    };
-    let Number::Value(password) = m else {
-        return Order::Bad;
-    };
-    let Number::Value(receipt) = k else {
-        return Order::Bad;
-    };
-    Order::Call(Call::Reversal(as_lane(lane), as_password(password), as_receipt(receipt)))
-}
-
-fn plain(order: Order) -> Asked
-    ensures { λ r. ⌜ Within r 0 0 ⌝ }
-{
-    Asked {
-        order,
-        room: 0,
-        size: 0,
-        own: 0,
+fn numbers(s: &[u8]) -> Numbers {
+    let count = following(s);
+    if count == 0 {
+        return Numbers::Nothing;
     }
-}
-
-fn with_room(n: Number) -> Asked
-    ensures { λ r. ⌜ Within r 0 0 ⌝ }
-{
-    let Number::Value(room) = n else {
-        return plain(Order::Bad);
+    let Number::Value(a) = number_of(word(s, 1)) else {
+        return Numbers::Bad;
     };
-    if (State::ROOM as u64) < room {
-        return plain(Order::Bad);
+    if count == 1 {
+        return Numbers::One(a);
     }
-    Asked {
-        order: Order::Room,
-        room: room as usize,
-        size: 0,
-        own: 0,
-    }
-}
-
-fn with_message(order: Order, message: Bytes) -> Asked
-    ensures { λ r. ⌜ Within r (sizeOf message) 0 ⌝ }
-{
-    let Bytes::Size(size) = message else {
-        return plain(Order::Bad);
+    let Number::Value(b) = number_of(word(s, 2)) else {
+        return Numbers::Bad;
     };
-    Asked {
-        order,
-        room: 0,
-        size,
-        own: 0,
+    if count == 2 {
+        return Numbers::Two(a, b);
     }
-}
-
-fn with_name(message: Bytes, name: Bytes) -> Asked
-    ensures { λ r. ⌜ Within r (sizeOf message) (sizeOf name) ⌝ }
-{
-    let Bytes::Size(own) = name else {
-        return plain(Order::Bad);
+    let Number::Value(c) = number_of(word(s, 3)) else {
+        return Numbers::Bad;
     };
-    let asked = with_message(Order::Reading(Reading::Name), message);
-    let order = asked.order;
-    Asked {
-        order,
-        room: asked.room,
-        size: asked.size,
-        own,
+    if count == 3 {
+        return Numbers::Three(a, b, c);
     }
+    Numbers::Bad
 }
 
 // A line of one word.
 fn alone(name: &[u8]) -> Order {
-    if same(name, b"close") {
-        return Order::Call(Call::Close);
+    match place(name, b"close book lanes net tape") {
+        0 => Order::Call(Call::Close),
+        1 => Order::Question(Question::Book),
+        2 => Order::Question(Question::Lanes),
+        3 => Order::Question(Question::Net),
+        4 => Order::Question(Question::Tape),
+        _ => Order::Bad,
     }
-    if same(name, b"book") {
-        return Order::Question(Question::Book);
-    }
-    if same(name, b"lanes") {
-        return Order::Question(Question::Lanes);
-    }
-    if same(name, b"net") {
-        return Order::Question(Question::Net);
-    }
-    if same(name, b"tape") {
-        return Order::Question(Question::Tape);
-    }
-    Order::Bad
 }
 
-// A line of two words.
-fn with_one(name: &[u8], w: &[u8], message: &mut [u8]) -> Asked
-    ensures { λ r. ⌜ Within r (length (now (message .exit))) 0 ⌝ }
+// A word and a number.
+fn with_one(name: &[u8], n: u64) -> Order {
+    match place(name, b"room lost") {
+        0 => {
+            if (State::ROOM as u64) < n {
+                return Order::Bad;
+            }
+            Order::Room(n as usize)
+        }
+        1 => Order::Call(Call::Lost(cut(n, BYTE) as u8)),
+        _ => Order::Bad,
+    }
+}
+
+// A word and three numbers.
+fn with_three(name: &[u8], lane: u64, password: u64, n: u64) -> Order {
+    let l = cut(lane, BYTE) as u8;
+    let p = cut(password, WORD) as u32;
+    match place(name, b"refund reversal") {
+        0 => Order::Call(Call::Refund(l, p, n)),
+        1 => Order::Call(Call::Reversal(l, p, cut(n, SHORT) as u16)),
+        _ => Order::Bad,
+    }
+}
+
+// A line without bytes.
+fn plain(s: &[u8]) -> Order {
+    let name = word(s, 0);
+    match numbers(s) {
+        Numbers::Bad => Order::Bad,
+        Numbers::Nothing => alone(name),
+        Numbers::One(n) => with_one(name, n),
+        Numbers::Two(lane, amount) => {
+            if same(name, b"sale") {
+                return Order::Call(Call::Sale(cut(lane, BYTE) as u8, amount));
+            }
+            Order::Bad
+        }
+        Numbers::Three(lane, password, n) => with_three(name, lane, password, n),
+    }
+}
+
+fn terminal(n: Number) -> Order {
+    match n {
+        Number::Bad => Order::Bad,
+        Number::Value(lane) => Order::Call(Call::Terminal(cut(lane, BYTE) as u8)),
+    }
+}
+
+fn without(order: Order) -> Asked
+    ensures { λ r. ⌜ (r .size ≤ r .end) × (r .end ≤ 0) ⌝ }
 {
-    if same(name, b"room") {
-        return with_room(number_of(w));
+    Asked {
+        order,
+        size: 0,
+        end: 0,
     }
-    if same(name, b"lost") {
-        return plain(lost(number_of(w)));
-    }
-    if same(name, b"read") {
-        return with_message(Order::Reading(Reading::Read), bytes_of(w, message));
-    }
-    if same(name, b"shorten") {
-        return with_message(Order::Reading(Reading::Shorten), bytes_of(w, message));
-    }
-    plain(Order::Bad)
 }
 
-// A line of three words.
-fn with_two(name: &[u8], v: &[u8], w: &[u8], message: &mut [u8], own: &mut [u8]) -> Asked
-    ensures { λ r. ⌜ Within r (length (now (message .exit))) (length (now (own .exit))) ⌝ }
+fn with_message(order: Order, w: &[u8], bytes: &mut [u8]) -> Asked
+    ensures { λ r. ⌜ (r .size ≤ r .end) × (r .end ≤ length (now (bytes .exit))) ⌝ }
 {
-    if same(name, b"sale") {
-        return plain(sale(number_of(v), number_of(w)));
+    let v = bytes_of(w, bytes);
+    if !v.good {
+        return without(Order::Bad);
     }
-    if same(name, b"terminal") {
-        return with_message(terminal(number_of(v)), bytes_of(w, message));
+    Asked {
+        order,
+        size: v.size,
+        end: v.size,
     }
-    if same(name, b"name") {
-        return with_name(bytes_of(v, message), bytes_of(w, own));
-    }
-    plain(Order::Bad)
 }
 
-// A line of four words.
-fn with_three(name: &[u8], u: &[u8], v: &[u8], w: &[u8]) -> Order {
-    if same(name, b"refund") {
-        return refund(number_of(u), number_of(v), number_of(w));
+// A message, and the till's own name behind it.
+fn with_name(v: &[u8], w: &[u8], bytes: &mut [u8]) -> Asked
+    ensures { λ r. ⌜ (r .size ≤ r .end) × (r .end ≤ length (now (bytes .exit))) ⌝ }
+{
+    let message = bytes_of(v, bytes);
+    let size = message.size;
+    let name = bytes_of(w, &mut bytes[size..]);
+    if !message.good {
+        return without(Order::Bad);
     }
-    if same(name, b"reversal") {
-        return reversal(number_of(u), number_of(v), number_of(w));
+    if !name.good {
+        return without(Order::Bad);
     }
-    Order::Bad
+    Asked {
+        order: Order::Reading(Reading::Name),
+        size,
+        end: size + name.size,
+    }
 }
 
-// The order of a line; its bytes go to the start of message and own.
-pub(crate) fn order_of(s: &[u8], message: &mut [u8], own: &mut [u8]) -> Asked
-    ensures { λ r. ⌜ Within r (length (now (message .exit))) (length (now (own .exit))) ⌝ }
+// The order of a line; its bytes go to the start of bytes.
+pub(crate) fn order_of(s: &[u8], bytes: &mut [u8]) -> Asked
+    ensures { λ r. ⌜ (r .size ≤ r .end) × (r .end ≤ length (now (bytes .exit))) ⌝ }
 {
     if s.len() == 0 {
-        return plain(Order::Pass);
+        return without(Order::Pass);
     }
     if s[0] == b'#' {
-        return plain(Order::Pass);
+        return without(Order::Pass);
     }
-    let name = word(s, 0);
-    match following(s) {
-        0 => plain(alone(name)),
-        1 => with_one(name, word(s, 1), message),
-        2 => with_two(name, word(s, 1), word(s, 2), message, own),
-        3 => plain(with_three(name, word(s, 1), word(s, 2), word(s, 3))),
-        _ => plain(Order::Bad),
+    if following(s) == 1 {
+        match place(word(s, 0), b"read shorten") {
+            0 => return with_message(Order::Reading(Reading::Read), word(s, 1), bytes),
+            1 => return with_message(Order::Reading(Reading::Shorten), word(s, 1), bytes),
+            _ => return without(plain(s)),
+        }
     }
+    if following(s) == 2 {
+        match place(word(s, 0), b"terminal name") {
+            0 => return with_message(terminal(number_of(word(s, 1))), word(s, 2), bytes),
+            1 => return with_name(word(s, 1), word(s, 2), bytes),
+            _ => return without(plain(s)),
+        }
+    }
+    without(plain(s))
 }

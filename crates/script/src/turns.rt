@@ -1,28 +1,36 @@
 // What a line does, and its answer.
 use crate::answers;
+use crate::orders;
+use crate::orders::Asked;
 use crate::orders::Call;
 use crate::orders::Order;
 use crate::orders::Question;
 use crate::orders::Reading;
+use buffers::add;
+use buffers::add_all;
+use buffers::add_bytes;
+use buffers::upto;
 use desk_rules::Book;
 use desk_rules::Desk;
 use desk_rules::Lane;
 use desk_rules::LaneAnswer;
 use desk_rules::LineAnswer;
 use desk_rules::Reply;
-use listing::text::add_bytes;
+use std::num::wrapping_add_u64;
 use tape_rules::Taped;
 use tape_rules::TapedAnswer;
 use zvt_rules::ReadAnswer;
 use zvt_rules::ShortenAnswer;
 ghost use Prim.Native.Nat.{_≤_};
+ghost use lib.ListN.{length};
 ghost use Rattle.desk_rules.specs.Memory.{Valid};
-ghost use Rattle.script.specs.Script.{Ready};
 
-// The desk with its tape, and how many bytes are lent to a call that writes.
+// The desk with its tape, how many bytes are lent to a call that writes, how many lines were played, and how many bytes were added.
 pub(crate) struct State {
     pub(crate) taped: Taped,
     pub(crate) room: usize,
+    pub(crate) number: u64,
+    pub(crate) added: usize,
 }
 
 impl State {
@@ -39,14 +47,22 @@ impl State {
     const RECORDS: usize = 4112;
 
     pub(crate) fn start() -> Self
-        ensures { λ r. ⌜ Ready r ⌝ }
+        ensures { λ r. ⌜ Valid (r .taped .desk) ⌝ }
     {
         State {
             taped: Taped::fresh(),
             room: State::ROOM,
+            number: 0,
+            added: 0,
         }
     }
 }
+
+// No line stands for more bytes: an input of the lister that is one byte too long.
+pub(crate) const BYTES: usize = listing::LIMIT + 1;
+
+// No answer is longer than a listing: a tape of 261 blocks, each 1,024 digits and a line feed, is not.
+pub(crate) const TEXT: usize = listing::TEXT;
 
 // What a line leaves: the state, how long the text of its answer is, and whether the script goes on.
 pub(crate) struct Turn {
@@ -55,7 +71,7 @@ pub(crate) struct Turn {
     pub(crate) more: bool,
 }
 
-// The lines of the book.
+// The lines of the book, and their count.
 fn book(desk: Desk, out: &mut [u8]) -> usize
     requires { ⌜ Valid desk ⌝ }
 {
@@ -63,14 +79,14 @@ fn book(desk: Desk, out: &mut [u8]) -> usize
     let mut k: usize = 0;
     while k < Book::LINES {
         match desk::line_at(desk, k) {
-            LineAnswer::End => return answers::add_count(k as u64, to, out),
+            LineAnswer::End => return answers::counted(b"end", k as u64, to, out),
             LineAnswer::Line(l) => {
                 k += 1;
                 to = answers::add_line(k as u64, l, to, out);
             }
         }
     }
-    answers::add_count(k as u64, to, out)
+    answers::counted(b"end", k as u64, to, out)
 }
 
 // The eight lanes.
@@ -94,12 +110,13 @@ fn lanes(desk: Desk, out: &mut [u8]) -> usize
 // The tape so far: the blocks of what is used of the payload.
 fn tape_of(used: usize, payload: &[u8], out: &mut [u8]) -> usize {
     let mut blocks = [0u8; State::TAPE];
-    if payload.len() < used {
-        return answers::tape_full(out);
-    }
-    match tape::write_tape(&payload[..used], &mut blocks) {
+    let n = upto(used, payload);
+    match tape::write_tape(&payload[..n], &mut blocks) {
         Reply::Refused(r) => answers::refused(r.number, out),
-        Reply::Written(n) => answers::tape(n, &blocks, out),
+        Reply::Written(size) => {
+            let end = upto(size, &blocks);
+            answers::tape(&blocks[..end], out)
+        }
     }
 }
 
@@ -115,31 +132,29 @@ fn question(taped: Taped, q: Question, payload: &[u8], out: &mut [u8]) -> usize
     }
 }
 
-fn read(s: &[u8], out: &mut [u8]) -> usize {
-    match zvt::read(s) {
-        ReadAnswer::Refused(r) => answers::refused(r.number, out),
-        ReadAnswer::Accepted(m) => answers::message(s, m, out),
+fn shorten(s: &[u8], room: usize, out: &mut [u8]) -> usize {
+    let mut lent = [answers::BLANK; State::ROOM];
+    let n = upto(room, &lent);
+    match zvt::shorten(s, &mut lent[..n]) {
+        ShortenAnswer::Refused(r) => answers::reply(Reply::Refused(r), &lent[..n], out),
+        ShortenAnswer::Written(size) => answers::reply(Reply::Written(size), &lent[..n], out),
     }
 }
 
-fn shorten(s: &[u8], lent: &mut [u8], out: &mut [u8]) -> usize {
-    answers::blank(lent);
-    match zvt::shorten(s, lent) {
-        ShortenAnswer::Refused(r) => answers::refused_call(r.number, lent, out),
-        ShortenAnswer::Written(n) => answers::written(n, lent, out),
-    }
-}
-
-fn name<'a>(s: &'a [u8], own: &'a [u8], out: &mut [u8]) -> usize {
-    let to = add_bytes(zvt::card_name(s, own), 0, out);
-    answers::add_end(to, out)
-}
-
-fn reading<'a>(r: Reading, s: &'a [u8], own: &'a [u8], lent: &mut [u8], out: &mut [u8]) -> usize {
+fn reading<'a>(r: Reading, s: &'a [u8], own: &'a [u8], room: usize, out: &mut [u8]) -> usize {
     match r {
-        Reading::Read => read(s, out),
-        Reading::Shorten => shorten(s, lent, out),
-        Reading::Name => name(s, own, out),
+        Reading::Read => match zvt::read(s) {
+            ReadAnswer::Refused(f) => answers::refused(f.number, out),
+            ReadAnswer::Accepted(m) => {
+                let to = answers::message(s, m, out);
+                add(b'\n', to, out)
+            }
+        },
+        Reading::Shorten => shorten(s, room, out),
+        Reading::Name => {
+            let to = add_bytes(zvt::card_name(s, own), 0, out);
+            add(b'\n', to, out)
+        }
     }
 }
 
@@ -172,13 +187,6 @@ fn called(taped: Taped, c: Call, s: &[u8], lent: &mut [u8], payload: &mut [u8]) 
     }
 }
 
-fn reply(r: Reply, lent: &[u8], out: &mut [u8]) -> usize {
-    match r {
-        Reply::Refused(f) => answers::refused_call(f.number, lent, out),
-        Reply::Written(n) => answers::written(n, lent, out),
-    }
-}
-
 // Whether the payload has room for the records of any call.
 fn roomy(used: usize, size: usize) -> bool {
     if size < State::RECORDS {
@@ -188,38 +196,28 @@ fn roomy(used: usize, size: usize) -> bool {
 }
 
 // The call and its answer. A script cannot fill the payload; were it full, no call would be made.
-fn call(
-    state: State,
-    c: Call,
-    s: &[u8],
-    lent: &mut [u8],
-    payload: &mut [u8],
-    out: &mut [u8],
-) -> Turn
-    requires { ⌜ Ready state ⌝ }
-    ensures { λ r. ⌜ Ready (r .state) ⌝ }
+fn call(state: State, c: Call, s: &[u8], payload: &mut [u8], out: &mut [u8]) -> Turn
+    requires { ⌜ Valid (state .taped .desk) ⌝ }
+    ensures { λ r. ⌜ Valid (r .state .taped .desk) ⌝ }
 {
     let before = state.taped;
     if !roomy(before.used, payload.len()) {
-        return last(state, answers::tape_full(out));
+        return last(state, add_all(b"tape full\n", 0, out));
     }
-    answers::blank(lent);
-    let a = called(before, c, s, lent, payload);
+    let mut lent = [answers::BLANK; State::ROOM];
+    let n = upto(state.room, &lent);
+    let a = called(before, c, s, &mut lent[..n], payload);
     let r = a.reply;
     let taped = a.taped;
-    next(
-        State {
-            taped,
-            room: state.room,
-        },
-        reply(r, lent, out),
-    )
+    let mut after = state;
+    after.taped = taped;
+    next(after, answers::reply(r, &lent[..n], out))
 }
 
 // The script goes on, or ends here.
-fn next(state: State, size: usize) -> Turn
-    requires { ⌜ Ready state ⌝ }
-    ensures { λ r. ⌜ Ready (r .state) ⌝ }
+pub(crate) fn next(state: State, size: usize) -> Turn
+    requires { ⌜ Valid (state .taped .desk) ⌝ }
+    ensures { λ r. ⌜ Valid (r .state .taped .desk) ⌝ }
 {
     Turn {
         state,
@@ -228,9 +226,9 @@ fn next(state: State, size: usize) -> Turn
     }
 }
 
-fn last(state: State, size: usize) -> Turn
-    requires { ⌜ Ready state ⌝ }
-    ensures { λ r. ⌜ Ready (r .state) ⌝ }
+pub(crate) fn last(state: State, size: usize) -> Turn
+    requires { ⌜ Valid (state .taped .desk) ⌝ }
+    ensures { λ r. ⌜ Valid (r .state .taped .desk) ⌝ }
 {
     Turn {
         state,
@@ -239,28 +237,48 @@ fn last(state: State, size: usize) -> Turn
     }
 }
 
-// Line number `line`, which asks for o, with the message s, the till's own name and the room to be lent from then on.
-pub(crate) fn act<'a>(
-    state: State,
-    line: u64,
-    o: Order,
-    s: &'a [u8],
-    own: &'a [u8],
-    room: usize,
-    lent: &mut [u8],
-    payload: &mut [u8],
-    out: &mut [u8],
-) -> Turn
-    requires { ⌜ Ready state × (room ≤ 4101) ⌝ }
-    ensures { λ r. ⌜ Ready (r .state) ⌝ }
+// What the line that was begun asks for.
+fn act(state: State, asked: Asked, bytes: &[u8], payload: &mut [u8], out: &mut [u8]) -> Turn
+    requires { ⌜ Valid (state .taped .desk) × (asked .size ≤ asked .end) × (asked .end ≤ length (now bytes)) ⌝ }
+    ensures { λ r. ⌜ Valid (r .state .taped .desk) ⌝ }
 {
     let taped = state.taped;
-    match o {
-        Order::Bad => last(state, answers::not_understood(line, out)),
+    let order = asked.order;
+    let size = asked.size;
+    let end = asked.end;
+    match order {
+        Order::Bad => last(state, answers::not_understood(state.number, out)),
         Order::Pass => next(state, 0),
-        Order::Room => next(State { taped, room }, answers::ok(out)),
+        Order::Room(room) => {
+            let mut after = state;
+            after.room = room;
+            next(after, add_all(b"ok\n", 0, out))
+        }
         Order::Question(q) => next(state, question(taped, q, payload, out)),
-        Order::Reading(r) => next(state, reading(r, s, own, lent, out)),
-        Order::Call(c) => call(state, c, s, lent, payload, out),
+        Order::Reading(r) => next(
+            state,
+            reading(r, &bytes[..size], &bytes[size..end], state.room, out),
+        ),
+        Order::Call(c) => call(state, c, &bytes[..size], payload, out),
     }
+}
+
+// One line more.
+pub(crate) fn begun(state: State) -> State
+    requires { ⌜ Valid (state .taped .desk) ⌝ }
+    ensures { λ r. ⌜ Valid (r .taped .desk) ⌝ }
+{
+    let mut after = state;
+    after.number = wrapping_add_u64(state.number, 1);
+    after
+}
+
+// The next line of a script.
+pub(crate) fn line(state: State, s: &[u8], payload: &mut [u8], out: &mut [u8]) -> Turn
+    requires { ⌜ Valid (state .taped .desk) ⌝ }
+    ensures { λ r. ⌜ Valid (r .state .taped .desk) ⌝ }
+{
+    let mut bytes = [0u8; BYTES];
+    let asked = orders::order_of(s, &mut bytes);
+    act(begun(state), asked, &bytes, payload, out)
 }

@@ -1,4 +1,5 @@
 // The words of a line: what lies between its blanks.
+use check::same;
 ghost use Prim.Native.Nat.{_≤_};
 ghost use lib.ListN.{length};
 
@@ -38,4 +39,16 @@ pub(crate) fn word<'a>(s: &'a [u8], k: usize) -> &'a [u8] {
     let from = start(s, k);
     let to = bytes::scan::find(s, from, s.len(), b' ');
     &s[from..to]
+}
+
+// The number of the word of a table that w is; where it is none of them, a number behind the last.
+pub(crate) fn place(w: &[u8], table: &[u8]) -> usize {
+    let mut k: usize = 0;
+    while k < table.len() {
+        if same(word(table, k), w) {
+            return k;
+        }
+        k += 1;
+    }
+    k
 }

@@ -1,127 +1,53 @@
-// Runs the examples of a data file through the reader and prints each that differs, and how many do.
-mod answers;
-mod examples;
-mod notation;
-mod words;
-
-use examples::Outcome;
+// Plays the files of cases that the arguments name, and scripts of as many bytes as are taken and of one more.
 use libc::STDOUT_FILENO;
-use words::find;
-use words::upto;
-ghost use Prim.Native.Nat.{_≤_};
+use script::cases::Tally;
+use std::num::wrapping_add_u64;
 
-// Room for the bytes of an example, for a message or a line, for the text of an answer.
-const BYTES: usize = 65600;
-
-const ROOM: usize = 4200;
-
-const TEXT: usize = 8600;
-
-// Whether a line is an example, and whether it differs, each 0 or 1.
-struct Counted {
-    example: u64,
-    differs: u64,
-}
-
-struct Totals {
-    examples: u64,
-    differ: u64,
-}
-
-fn print_line(number: u64, text: &[u8], more: &[u8]) {
-    io::write_all(STDOUT_FILENO, b"line ");
-    io::print_decimal(STDOUT_FILENO, number);
-    io::write_all(STDOUT_FILENO, text);
-    io::write_all(STDOUT_FILENO, more);
-    io::write_all(STDOUT_FILENO, b"\n");
-}
-
-// One line of the file: empty lines and those that begin with # are no examples.
-fn checked(
-    s: &[u8],
-    number: u64,
-    a: &mut [u8],
-    b: &mut [u8],
-    got: &mut [u8],
-    want: &mut [u8],
-) -> Counted
-    ensures { λ r. ⌜ (r .example ≤ 1) × (r .differs ≤ 1) ⌝ }
-{
-    if s.len() == 0 || s[0] == b'#' {
-        return Counted {
-            example: 0,
-            differs: 0,
-        };
+// One file; where it cannot be read, or is longer than a script may be, that counts as an answer that differs.
+fn file(path: &[u8]) -> Tally {
+    let bad = Tally {
+        answers: 0,
+        differ: 1,
+    };
+    let fd = os::open_read(path);
+    if fd < 0 {
+        os::fail(path);
+        return bad;
     }
-    answers::blank(b);
-    match examples::run(s, a, b, got, want) {
-        Outcome::Same => Counted {
-            example: 1,
-            differs: 0,
-        },
-        Outcome::Differs(size) => {
-            let end = upto(size, got);
-            print_line(number, b" gives ", &got[..end]);
-            Counted {
-                example: 1,
-                differs: 1,
-            }
-        }
-        Outcome::Bad => {
-            print_line(number, b" not understood", b"");
-            Counted {
-                example: 1,
-                differs: 1,
-            }
-        }
+    let mut text = [0u8; script::LIMIT + 1];
+    let n = io::read_full(fd, &mut text);
+    libc::close(fd);
+    if script::LIMIT < n {
+        io::write_all(STDOUT_FILENO, b"file too long\n");
+        return bad;
     }
+    script::cases::check(path, &text[..n])
 }
 
-fn run(text: &[u8], a: &mut [u8], b: &mut [u8], got: &mut [u8], want: &mut [u8]) -> Totals {
-    let mut from: usize = 0;
-    let mut number: u64 = 0;
-    let mut examples: u64 = 0;
+// The files of the arguments from number 1 on.
+fn files(count: usize) -> Tally {
+    let mut path = io::buffer();
+    let mut answers: u64 = 0;
     let mut differ: u64 = 0;
-    while from < text.len() {
-        let to = from + find(&text[from..], b'\n');
-        number += 1;
-        let c = checked(&text[from..to], number, a, b, got, want);
-        examples += c.example;
-        differ += c.differs;
-        if to == text.len() {
-            return Totals { examples, differ };
-        }
-        from = to + 1;
+    let mut k: usize = 1;
+    while k < count {
+        let n = os::arg(k, &mut path);
+        let t = file(&path[..n]);
+        answers = wrapping_add_u64(answers, t.answers);
+        differ = wrapping_add_u64(differ, t.differ);
+        k += 1;
     }
-    Totals { examples, differ }
-}
-
-fn run_all(text: &[u8]) {
-    let mut a = [0u8; BYTES];
-    let mut b = [0u8; ROOM];
-    let mut got = [0u8; TEXT];
-    let mut want = [0u8; TEXT];
-    let t = run(text, &mut a, &mut b, &mut got, &mut want);
-    io::print_decimal(STDOUT_FILENO, t.examples);
-    io::write_all(STDOUT_FILENO, b" examples, ");
-    io::print_decimal(STDOUT_FILENO, t.differ);
-    io::write_all(STDOUT_FILENO, b" differ\n");
+    Tally { answers, differ }
 }
 
 fn main() {
-    let mut path = io::buffer();
-    let length = os::arg(1, &mut path);
-    let fd = os::open_read(&path[..length]);
-    if fd < 0 {
-        os::fail(&path[..length]);
-        return;
-    }
-    let mut text = io::large_buffer();
-    let n = io::read_full(fd, &mut text);
-    libc::close(fd);
-    if n == 65536 {
-        io::write_all(STDOUT_FILENO, b"file too long\n");
-        return;
-    }
-    run_all(&text[..n]);
+    let most = [b'#'; script::LIMIT];
+    script::play(&most);
+    let more = [b'#'; script::LIMIT + 1];
+    script::play(&more);
+    let t = files(os::arg_count());
+    io::print_decimal(STDOUT_FILENO, t.answers);
+    io::write_all(STDOUT_FILENO, b" answers, ");
+    io::print_decimal(STDOUT_FILENO, t.differ);
+    io::write_all(STDOUT_FILENO, b" differ\n");
 }

@@ -12,3 +12,5 @@ pub mod Values
 pub mod Answers
 pub mod Listed
 pub mod Name
+pub mod Text
+pub mod Listing

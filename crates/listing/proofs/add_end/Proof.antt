@@ -1,6 +1,6 @@
 -- `listing::add_end`: a word and a number. Assumes nothing.
-use Rattle.listing.specs.Lines.{endText}
-use Rattle.listing.proofs.TextLaws.{both}
+use Rattle.zvt_rules.specs.Listing.{endText}
+use Rattle.buffers.proofs.TextLaws.{both}
 use borrow.Author.Needs.{needs}
 use Rattle.listing.proofs.add_end.Statement.{statement}
 use Rattle.listing.proofs.add_end.Tie as tie
@@ -14,4 +14,10 @@ returns c =
 
 pub add-end-spec : {M : Type 1} → statement M
 add-end-spec =
-    tie.close (tie.spec (λ c. search needs) (λ c κs. search needs) (λ c κs. search needs) (λ c. search needs) returns)
+    tie.close
+    (tie.spec
+    (λ c. search needs)
+    (λ c κs. search needs)
+    (λ c κs. search needs)
+    (λ c. search needs)
+    returns)

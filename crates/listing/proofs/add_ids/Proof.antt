@@ -1,4 +1,5 @@
--- `listing::add_ids`: what is left to write comes to the same at every turn. Assumes nothing.
+-- `listing::add_ids`. The loop's invariant: writing the ids from field k on, behind the text so far, comes to writing them all behind the
+-- first at bytes. Assumes nothing.
 use Prim.Native.Nat.{ℕ, _-_}
 use mathlib.Core.Path.{_≡_, refl, sym, ap, _∙_}
 use lib.ListN.{length, drop}
@@ -7,20 +8,24 @@ use borrow.Author.Needs.{needs}
 use Rattle.zvt_rules.specs.Message.{readOf}
 use Rattle.zvt_rules.specs.Listed.{listedMessage, fieldAnswer}
 use Rattle.zvt.proofs.Slices.{bytes-known}
-use Rattle.listing.specs.Text.{Text, text, write}
+use Rattle.zvt_rules.specs.Text.{Text, text, write}
+use Rattle.zvt_rules.specs.Listing.{idsOf}
 use Rattle.listing.specs.Lines.{listedText}
-use Rattle.listing.proofs.TextLaws.{write-room}
-use Rattle.listing.proofs.LineLaws.{ids-step, ids-end, ids-all}
+use Rattle.buffers.proofs.TextLaws.{write-room}
+use Rattle.listing.proofs.LineLaws.{ids-step, ids-end, ids-all, message-ids}
 use Rattle.listing.proofs.add_ids.Statement.{statement}
 use Rattle.listing.proofs.add_ids.Tie as tie
 
 abbrev Inv-loop : tie.InvT-loop
 Inv-loop s at out₀ to₀ k₀ out to k =
     (length out ≡ length out₀)
-    × (write (listedText (drop k (listedMessage (readOf s)))) (text to out) ≡ write (listedText (listedMessage (readOf s))) (text at out₀))
+    × (write (listedText (drop k (listedMessage (readOf s)))) (text to out) ≡ write (idsOf (readOf s)) (text at out₀))
 
 abbrev μ-loop : tie.MeasureT-loop
 μ-loop s at out₀ to₀ k₀ out to k = length s - k
+
+loop-holds : tie.Need-loop-holds Inv-loop μ-loop
+loop-holds c = (refl, rw (message-ids _))
 
 returns : tie.Need-returns Inv-loop μ-loop
 unfolding fieldAnswer
@@ -53,6 +58,19 @@ returns-2 c =
 pub add-ids-spec : {M : Type 1} → statement M
 add-ids-spec =
     tie.close
-    (tie.spec Inv-loop μ-loop (λ c. (refl, refl)) (λ c κs. search needs) (λ c. search needs) (λ c. search needs) returns
-    (λ c. search needs) (λ c κs. search needs) (λ c κs. search needs) (λ c. search needs) (λ c. search needs) loop-again
-    (λ c. search needs) returns-2)
+    (tie.spec
+    Inv-loop
+    μ-loop
+    loop-holds
+    (λ c κs. search needs)
+    (λ c. search needs)
+    (λ c. search needs)
+    returns
+    (λ c. search needs)
+    (λ c κs. search needs)
+    (λ c κs. search needs)
+    (λ c. search needs)
+    (λ c. search needs)
+    loop-again
+    (λ c. search needs)
+    returns-2)

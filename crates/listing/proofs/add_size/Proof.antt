@@ -1,6 +1,6 @@
 -- `listing::add_size`: a blank, a number and a word. Assumes nothing.
-use Rattle.listing.specs.Lines.{sizeText, formText}
-use Rattle.listing.proofs.TextLaws.{both}
+use Rattle.zvt_rules.specs.Listing.{sizeText, formText}
+use Rattle.buffers.proofs.TextLaws.{both}
 use borrow.Author.Needs.{needs}
 use Rattle.listing.proofs.add_size.Statement.{statement}
 use Rattle.listing.proofs.add_size.Tie as tie
@@ -26,5 +26,14 @@ returns-2 c =
 pub add-size-spec : {M : Type 1} → statement M
 add-size-spec =
     tie.close
-    (tie.spec (λ c κs. search needs) (λ c κs. search needs) (λ c. search needs) (λ c κs. search needs)
-    (λ c. search needs) (λ c κs. search needs) (λ c. search needs) returns (λ c. search needs) returns-2)
+    (tie.spec
+    (λ c κs. search needs)
+    (λ c κs. search needs)
+    (λ c. search needs)
+    (λ c κs. search needs)
+    (λ c. search needs)
+    (λ c κs. search needs)
+    (λ c. search needs)
+    returns
+    (λ c. search needs)
+    returns-2)

@@ -1,6 +1,6 @@
 -- `listing::add_start`: a number, a blank and the pair. Assumes nothing.
-use Rattle.listing.specs.Lines.{startText}
-use Rattle.listing.proofs.TextLaws.{both}
+use Rattle.zvt_rules.specs.Listing.{startText}
+use Rattle.buffers.proofs.TextLaws.{both}
 use borrow.Author.Needs.{needs}
 use Rattle.listing.proofs.add_start.Statement.{statement}
 use Rattle.listing.proofs.add_start.Tie as tie
@@ -18,5 +18,10 @@ returns c =
 pub add-start-spec : {M : Type 1} → statement M
 add-start-spec =
     tie.close
-    (tie.spec (λ c κs. search needs) (λ c κs. search needs) (λ c κs. search needs) (λ c κs. search needs)
-    (λ c. search needs) returns)
+    (tie.spec
+    (λ c κs. search needs)
+    (λ c κs. search needs)
+    (λ c κs. search needs)
+    (λ c κs. search needs)
+    (λ c. search needs)
+    returns)

@@ -1,6 +1,6 @@
 -- `listing::message_line`: start, size and ids. Assumes nothing.
 use Rattle.listing.specs.Lines.{readText}
-use Rattle.listing.proofs.TextLaws.{both}
+use Rattle.buffers.proofs.TextLaws.{both}
 use borrow.Author.Needs.{needs}
 use Rattle.listing.proofs.message_line.Statement.{statement}
 use Rattle.listing.proofs.message_line.Tie as tie
@@ -15,5 +15,9 @@ returns c =
 
 pub message-line-spec : {M : Type 1} → statement M
 message-line-spec =
-    tie.close
-    (tie.spec (λ c κs. search needs) (λ c κs. search needs) (λ c κs. search needs) (λ c. search needs) returns)
+    tie.close (tie.spec
+    (λ c κs. search needs)
+    (λ c κs. search needs)
+    (λ c κs. search needs)
+    (λ c. search needs)
+    returns)

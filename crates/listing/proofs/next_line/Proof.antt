@@ -3,23 +3,19 @@ use mathlib.Core.Path.{sym, _∙_}
 use native.Mathlib.Omega.{arith}
 use lib.Seq.{length-take-le}
 use Rattle.zvt.proofs.Slices.{bytes-known}
-use Rattle.listing.proofs.ShownLaws.{shown-so}
-use Rattle.listing.proofs.NextLaws.{shown-last, shown-message, next-over, next-none, next-refused, next-within, next-message}
+use Rattle.listing.specs.Lines.{Put}
+use Rattle.listing.proofs.NextLaws.{next-over, next-none, next-refused, next-within, next-some-bytes, next-message}
 use borrow.Author.Needs.{needs}
 use Rattle.listing.proofs.next_line.Statement.{statement}
 use Rattle.listing.proofs.next_line.Tie as tie
 
 returns : tie.Need-returns
-returns c =
-    let line = c .before .before in
-    let s = line .before .before .before .before in
-    shown-so _ _ _ _ _ (s .shared-slice-known .given) (shown-last _ _ _ _ _ (next-over _ _ (omega arith)) (line .refused-line .ensures))
+unfolding Put
+returns c = (_, next-over _ _ (omega arith), c .before .before .refused-line .ensures)
 
 returns-2 : tie.Need-returns-2
-returns-2 c =
-    let line = c .before .before in
-    let s = line .before .before .before .before .before in
-    shown-so _ _ _ _ _ (s .shared-slice-known .given) (shown-last _ _ _ _ _ (next-none _ _ (omega arith)) (line .ok-line .ensures))
+unfolding Put
+returns-2 c = (_, next-none _ _ (omega arith), c .before .before .ok-line .ensures)
 
 slice-aggregate-message-line : tie.Need-slice-aggregate-message-line
 slice-aggregate-message-line c =
@@ -30,29 +26,49 @@ slice-aggregate-message-line c =
     sym (length-take-le _ _ (next-within _ (bytes-known _ (s .shared-slice-known .given)) _ _ message))
 
 returns-3 : tie.Need-returns-3
+unfolding Put
 returns-3 c =
     let line = c .before .before in
     let told = line .before .before .before in
     let first = told .before .before in
-    let s = first .before .before .before .before in
     let refusal = sym (first .read-first .ensures) ∙ told .f .given .1 in
-    shown-so _ _ _ _ _ (s .shared-slice-known .given)
-    (shown-last _ _ _ _ _ (next-refused _ _ (omega arith) (λ k. omega arith) _ refusal) (line .refused-line2 .ensures))
+    (_, next-refused _ _ (omega arith) (λ k. omega arith) _ refusal, line .refused-line2 .ensures)
 
 returns-4 : tie.Need-returns-4
+unfolding Put
 returns-4 c =
     let line = c .before .before in
     let told = line .before .before .before .before in
     let first = told .before .before in
     let s = first .before .before .before .before in
     let message = sym (first .read-first .ensures) ∙ told .m .given .1 in
-    let known = s .shared-slice-known .given in
-    shown-so _ _ _ _ _ known
-    (shown-message _ _ _ _ _ _ (next-message _ (bytes-known _ known) _ _ message _ (omega arith) (λ k. omega arith)) (line .message-line .ensures))
+    let known = bytes-known _ (s .shared-slice-known .given) in (
+      _,
+      next-message _ known _ _ message _ (omega arith) (λ k. omega arith),
+      line .message-line .ensures,
+      next-some-bytes _ known _ _ message,
+      next-within _ known _ _ message,
+      omega arith,
+    )
 
 pub next-line-spec : {M : Type 1} → statement M
 next-line-spec =
     tie.close
-    (tie.spec (λ c κs. search needs) (λ c. search needs) returns (λ c κs. search needs) (λ c. search needs) returns-2
-    (λ c κs. search needs) (λ c. search needs) (λ c κs. search needs) (λ c. search needs) slice-aggregate-message-line
-    (λ c. search needs) (λ c κs. search needs) (λ c. search needs) returns-3 (λ c. search needs) returns-4)
+    (tie.spec
+    (λ c κs. search needs)
+    (λ c. search needs)
+    returns
+    (λ c κs. search needs)
+    (λ c. search needs)
+    returns-2
+    (λ c κs. search needs)
+    (λ c. search needs)
+    (λ c κs. search needs)
+    (λ c. search needs)
+    slice-aggregate-message-line
+    (λ c. search needs)
+    (λ c κs. search needs)
+    (λ c. search needs)
+    returns-3
+    (λ c. search needs)
+    returns-4)

@@ -1,6 +1,6 @@
 -- `listing::ok_line`: what both lines begin with, and a word. Assumes nothing.
-use Rattle.listing.specs.Lines.{okText}
-use Rattle.listing.proofs.TextLaws.{both}
+use Rattle.zvt_rules.specs.Listing.{okText}
+use Rattle.buffers.proofs.TextLaws.{both}
 use borrow.Author.Needs.{needs}
 use Rattle.listing.proofs.ok_line.Statement.{statement}
 use Rattle.listing.proofs.ok_line.Tie as tie
@@ -14,4 +14,10 @@ returns c =
 
 pub ok-line-spec : {M : Type 1} → statement M
 ok-line-spec =
-    tie.close (tie.spec (λ c κs. search needs) (λ c. search needs) (λ c κs. search needs) (λ c. search needs) returns)
+    tie.close
+    (tie.spec
+    (λ c κs. search needs)
+    (λ c. search needs)
+    (λ c κs. search needs)
+    (λ c. search needs)
+    returns)

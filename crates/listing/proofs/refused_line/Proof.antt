@@ -1,6 +1,6 @@
 -- `listing::refused_line`: what both lines begin with, a word and a number. Assumes nothing.
-use Rattle.listing.specs.Lines.{refusedText}
-use Rattle.listing.proofs.TextLaws.{both}
+use Rattle.zvt_rules.specs.Listing.{refusedText}
+use Rattle.buffers.proofs.TextLaws.{both}
 use borrow.Author.Needs.{needs}
 use Rattle.listing.proofs.refused_line.Statement.{statement}
 use Rattle.listing.proofs.refused_line.Tie as tie
@@ -16,5 +16,10 @@ returns c =
 pub refused-line-spec : {M : Type 1} → statement M
 refused-line-spec =
     tie.close
-    (tie.spec (λ c κs. search needs) (λ c. search needs) (λ c κs. search needs) (λ c κs. search needs)
-    (λ c. search needs) returns)
+    (tie.spec
+    (λ c κs. search needs)
+    (λ c. search needs)
+    (λ c κs. search needs)
+    (λ c κs. search needs)
+    (λ c. search needs)
+    returns)

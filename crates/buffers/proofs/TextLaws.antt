@@ -1,0 +1,135 @@
+-- Laws of text in a buffer and of numbers as text. Assumes nothing.
+use mathlib.Core.Path.{_≡_, refl, sym, _∙_, ap, ap₂}
+use mathlib.Core.Bool.{Bool, true, false}
+use mathlib.Core.List.{List, [], _∷_, _++_}
+use Prim.Native.Nat.{ℕ, zero, suc, _+_, _-_, _*_, _/_, _%_, _^_, _≤_, _<_}
+use native.Mathlib.Nat.{mod-eq-of-lt, div-lt-iff-lt-mul, le-div-iff-mul-le, pow-suc, one-le-pow, mod-lt}
+use native.Mathlib.Numerals.{add-one}
+use native.Mathlib.Omega.{arith}
+use borrow.Author.Tests.{lt-ltb, le-ltb, ltb-true}
+use lib.ListN.{length, drop, set, getD, length-set, drop-of-length-le}
+use lib.Seq.{drop-cons}
+use lib.Dec.{ltb}
+use Rattle.zvt_rules.specs.Reading.{pick}
+use Rattle.io.specs.Digits.{digits, glyph, Fewest}
+use Rattle.zvt_rules.specs.Text.{Text, text, one, write, hexText, hexes, bytesText, decimalBy, decimalText}
+
+pub add-full : (b at : ℕ) (out : List ℕ) → length out ≤ at → text at out ≡ write (b ∷ []) (text at out)
+unfolding write one
+add-full b at out h = rw (le-ltb at (length out) h)
+
+pub add-room : (b at : ℕ) (out : List ℕ) → at < length out → text (at + 1) (set out at b) ≡ write (b ∷ []) (text at out)
+unfolding write one
+add-room b at out h = rw (lt-ltb at (length out) h)
+
+pub write-append : (v w : List ℕ) (t : Text) → write (v ++ w) t ≡ write w (write v t)
+unfolding write
+write-append [] w t = refl
+write-append (b ∷ v) w t = write-append v w (one b t)
+
+-- one text, and another behind it
+pub both : (v w : List ℕ) (t : Text) {u x : Text} → u ≡ write v t → x ≡ write w u → x ≡ write (v ++ w) t
+both v w t e f = f ∙ ap (λ (y : Text). write w y) e ∙ sym (write-append v w t)
+
+-- a text that is written byte by byte
+pub write-first : (b : ℕ) (w : List ℕ) (t : Text) → write (b ∷ w) t ≡ write w (write (b ∷ []) t)
+unfolding write
+write-first b w t = refl
+
+pub write-step : (v : List ℕ) (i : ℕ) (t : Text) → i < length v → write (drop i v) t ≡ write (drop (i + 1) v) (write (getD v i 0 ∷ []) t)
+write-step v i t h = rw (add-one, drop-cons v i 0) (write-first _ _ _)
+
+one-room : (b : ℕ) (t : Text) → length ((one b t) .bytes) ≡ length (t .bytes)
+unfolding one
+one-room b t = go (ltb (t .at) (length (t .bytes)))
+  where
+    go : (x : Bool) → length ((pick x (text (t .at + 1) (set (t .bytes) (t .at) b)) t) .bytes) ≡ length (t .bytes)
+    go true = length-set (t .bytes) (t .at) b
+    go false = refl
+
+pub write-room : (w : List ℕ) (t : Text) → length ((write w t) .bytes) ≡ length (t .bytes)
+unfolding write one
+write-room [] t = refl
+write-room (b ∷ w) t = write-room w (one b t) ∙ one-room b t
+
+one-in : (b : ℕ) (t : Text) → t .at ≤ length (t .bytes) → (one b t) .at ≤ length ((one b t) .bytes)
+unfolding one
+one-in b t h = go (ltb (t .at) (length (t .bytes))) refl
+  where
+    go : (x : Bool) → ltb (t .at) (length (t .bytes)) ≡ x
+        → (pick x (text (t .at + 1) (set (t .bytes) (t .at) b)) t) .at ≤ length ((pick x (text (t .at + 1) (set (t .bytes) (t .at) b)) t) .bytes)
+    go true e = omega (arith, ltb-true (t .at) (length (t .bytes)) e, length-set (t .bytes) (t .at) b)
+    go false e = h
+
+write-in : (w : List ℕ) (t : Text) → t .at ≤ length (t .bytes) → (write w t) .at ≤ length ((write w t) .bytes)
+unfolding write
+write-in [] t h = h
+write-in (b ∷ w) t h = write-in w (one b t) (one-in b t h)
+
+pub written-in : (w : List ℕ) (at : ℕ) (entry : List ℕ) (r : ℕ) (exit : List ℕ) → text r exit ≡ write w (text at entry)
+    → at ≤ length entry → r ≤ length exit
+written-in w at entry r exit e h =
+    omega (arith, write-in w (text at entry) h, ap (λ (t : Text). t .at) e, ap (λ (t : Text). length (t .bytes)) e)
+
+pub write-none : (v : List ℕ) (i : ℕ) (t : Text) → length v ≤ i → write (drop i v) t ≡ t
+unfolding write
+write-none v i t h = rw (drop-of-length-le v h)
+
+-- bytes as hex, one after the other
+pub hex-step : (v : List ℕ) (i : ℕ) (t : Text) → i < length v → write (hexes (drop i v)) t ≡ write (hexes (drop (i + 1) v)) (write (hexText (getD v i 0)) t)
+unfolding hexes
+hex-step v i t h = rw (add-one, drop-cons v i 0) (write-append (hexText (getD v i 0)) (hexes (drop (suc i) v)) t)
+
+pub hex-none : (v : List ℕ) (i : ℕ) (t : Text) → length v ≤ i → write (hexes (drop i v)) t ≡ t
+unfolding hexes write
+hex-none v i t h = rw (drop-of-length-le v h)
+
+pub bytes-none : (v : List ℕ) → length v ≡ 0 → bytesText v ≡ 45 ∷ []
+unfolding bytesText
+bytes-none [] h = refl
+bytes-none (b ∷ v) h = absurd (omega arith)
+
+pub bytes-some : (v : List ℕ) → (length v ≡ 0 → ⊥) → bytesText v ≡ hexes v
+unfolding bytesText
+bytes-some [] h = absurd (h refl)
+bytes-some (b ∷ v) h = refl
+
+-- ---- decimal numbers: the fewest digits that hold n
+glyph-digit : (d : ℕ) → d < 10 → glyph d ≡ 48 + d
+glyph-digit d h = rw (lt-ltb d 10 h)
+
+last-digit : (n : ℕ) → glyph (n % 10) ≡ 48 + n % 10
+last-digit n = glyph-digit (n % 10) (mod-lt n (omega arith))
+
+decimals-by : (f k n : ℕ) → k ≤ f → Fewest 10 1 n (suc k) → digits 10 (suc k) n ≡ decimalBy f n
+unfolding decimalBy
+decimals-by zero zero n h w = ap (λ (g : ℕ). g ∷ []) (last-digit n)
+decimals-by zero (suc k) n h w = absurd (omega arith)
+decimals-by (suc f) zero n h w =
+    let small : n < 10 = omega (arith, w .1) in
+    rw (lt-ltb n 10 small) (ap (λ (g : ℕ). g ∷ []) (last-digit n ∙ ap (λ (d : ℕ). 48 + d) (mod-eq-of-lt small)))
+decimals-by (suc f) (suc k) n h w =
+    let less : suc (suc k) - 1 ≡ suc k = omega arith in
+    let large : 10 ^ suc k ≤ n = rw less at (w .2 (omega arith)) in
+    let below : n < 10 ^ suc k * 10 = rw (pow-suc 10 (suc k)) at (w .1) in
+    let ten : 10 ^ k * 10 ≤ n = rw (pow-suc 10 k) at large in
+    let one-more : 1 ≤ 10 ^ k = one-le-pow k 10 (omega arith) in
+    let small : n / 10 < 10 ^ suc k = div-lt-iff-lt-mul {k = 10} {x = n} {y = 10 ^ suc k} (omega arith) .1 below in
+    let big : 10 ^ k ≤ n / 10 = le-div-iff-mul-le {k = 10} {x = 10 ^ k} {y = n} (omega arith) .1 ten in
+    let less′ : suc k - 1 ≡ k = omega arith in
+    let rest : Fewest 10 1 (n / 10) (suc k) = (omega arith, small, λ z. rw less′ big) in
+    rw (le-ltb n 10 (omega arith)) (ap₂ (λ (l : List ℕ) (g : ℕ). l ++ (g ∷ [])) (decimals-by f k (n / 10) (omega arith) rest) (last-digit n))
+
+-- a number is at least as large as the count of its digits less one
+few : (k : ℕ) → k < 10 ^ k
+few zero = omega arith
+few (suc k) = omega (arith, few k, pow-suc 10 k)
+
+pub decimals : (k n : ℕ) → Fewest 10 1 n k → digits 10 k n ≡ decimalText n
+unfolding decimalText
+decimals zero n w = absurd (omega (arith, w .0))
+decimals (suc zero) n w = decimals-by n zero n (omega arith) w
+decimals (suc (suc k)) n w =
+    let less : suc (suc k) - 1 ≡ suc k = omega arith in
+    let large : 10 ^ suc k ≤ n = rw less at (w .2 (omega arith)) in
+    decimals-by n (suc k) n (omega (arith, few (suc k))) w
