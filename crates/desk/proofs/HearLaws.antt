@@ -1,6 +1,7 @@
 -- What a lane does at a message, case by case. Assumes nothing.
 use mathlib.Core.Path.{_≡_, refl, sym, ap, _∙_}
-use mathlib.Core.Bool.{Bool, true, false, not, _&&_, _||_, and-true, and-false, or-true, or-false, false≢true}
+use mathlib.Core.Bool.{Bool, true, false, not, _&&_, or-true, false≢true, and-eq-true-iff}
+use mathlib.Core.Logic.{inl, inr}
 use mathlib.Core.List.{List, [], _∷_}
 use Prim.Native.Nat.{ℕ, _+_, _*_, _<_}
 use native.Mathlib.Omega.{arith}
@@ -8,7 +9,7 @@ use lib.ListN.{length}
 use lib.Dec.{eqb}
 use types.Run.{OneOf}
 use denote.Enum.Declared.{tagOf}
-use borrow.Author.Tests.{eq-eqb, eqb-true, ne-eqb}
+use borrow.Author.Tests.{eq-eqb, eqb-true, eqb-false, ne-eqb}
 use Rattle.zvt_rules.specs.declared.ToldReceipt.{ToldReceipt}
 use Rattle.zvt_rules.specs.declared.Refusal.{Refusal}
 use Rattle.zvt_rules.specs.declared.Status.{Status}
@@ -26,87 +27,49 @@ use Rattle.zvt.specs.declared.HeaderAnswer.the-variants.{Header as header-got, 
 use Rattle.zvt.specs.declared.ReadAnswer.the-variants.{Accepted, Refused as read-refused}
 use Rattle.zvt.specs.Header.{headerIn}
 use Rattle.zvt.specs.Answers.{refusalOf, asHeaderAnswer, headerAnswer, messageAnswer, asReadAnswer, readAnswer}
-use Rattle.zvt.proofs.Tables.{allIn, allFrom, anyOf, NoneOf, at-key, Table, keyed, ranged}
+use Rattle.zvt.proofs.Tables.{allIn, at-key}
 use Rattle.desk_rules.specs.declared.Kind.{Kind}
 use Rattle.desk_rules.specs.declared.Kind.the-variants.{Sale, Refund, Reversal}
-use Rattle.desk_rules.specs.declared.Outcome.{Outcome}
-use Rattle.desk_rules.specs.declared.Outcome.the-variants.{Unclear, Declined, Approved}
 use Rattle.desk_rules.specs.declared.Phase.{Phase}
 use Rattle.desk_rules.specs.declared.Phase.the-variants.{Idle, Waiting, Running}
 use Rattle.desk_rules.specs.declared.Lane.{Lane}
-use Rattle.desk_rules.specs.declared.Line.{Line}
+use Rattle.desk_rules.specs.declared.Moved.{Moved}
 use Rattle.desk_rules.specs.declared.Moved.the-variants.{Refused, Stays, Becomes}
 use Rattle.desk_rules.specs.Lanes.{reportedLane, toldReceipt, receiptBy}
-use Rattle.desk_rules.specs.Course.{isApproved, isSale, isReversal, concerns, abortedBy, reportedBy, movedBy, afterBody, heardWaiting, heardRunning, heardBy, afterHeader, isIdle, heard}
-use Rattle.desk_rules.specs.Turnover.{gain, loss}
+use Rattle.desk_rules.specs.Kinds.{isReversal, isIdle}
+use Rattle.desk_rules.specs.Course.{pairIs, completedBy, abortedBy, reportedBy, movedBy, afterBody, heardWaiting, heardRunning, heardBy, afterHeader, heard}
 use Rattle.desk_rules.proofs.Phase as phase
 use Rattle.desk.specs.Hear.{ReadIn, headerBy, inCourse, waitingMoved, runningMoved, abortedIn, reportedAs, movedAs}
 
 -- ---- kinds and outcomes
 pub receipt-kind : (k : Kind) (named : ℕ) (told : ToldReceipt) → receiptBy k named told ≡ pick (isReversal k) named (toldReceipt told)
-unfolding isReversal receiptBy
+unfolding receiptBy
 receipt-kind Sale named told = refl
 receipt-kind Refund named told = refl
 receipt-kind Reversal named told = refl
 
--- an approved sale adds, any other approved line takes away
-pub turnover-by : (o : Outcome) (k : Kind) (n : ℕ) → let sale = isApproved o && isSale k in
-    (gain o k n ≡ pick sale n 0) × (loss o k n ≡ pick sale 0 (pick (isApproved o) n 0))
-unfolding isApproved isSale gain loss
-turnover-by Unclear k n = (refl, refl)
-turnover-by Declined k n = (refl, refl)
-turnover-by Approved Sale n = (refl, refl)
-turnover-by Approved Refund n = (refl, refl)
-turnover-by Approved Reversal n = (refl, refl)
-
--- a line of that lane with that receipt
-pub concerns-same : (i receipt : ℕ) (l : Line) → l .lane ≡ i → l .receipt ≡ receipt
-    → let o = isApproved (l .outcome) in concerns i receipt l ≡ pick (isReversal (l .kind)) o (o && isSale (l .kind))
-unfolding concerns
-concerns-same i receipt l e f = rw (eq-eqb _ _ e, eq-eqb _ _ f) (go (isApproved (l .outcome)) (isSale (l .kind)) (isReversal (l .kind)))
-  where
-    go : (o s r : Bool) → (o && ((s || r) && true)) ≡ pick r o (o && s)
-    go o s true = rw (or-true, and-true)
-    go o s false = rw (or-false, and-true)
-
 -- ---- the pairs of the course
-byClass : ℕ → Table Bool
-byClass class =
-    record { at = inCourse class; code = λ b. pick b 1 0; back = λ n. eqb n 1; same = λ b. same b }
+pub one-among : (ks : List ℕ) (x : ℕ) → OneOf ks x → among ks x ≡ true
+unfolding among
+one-among [] x h = absurd h
+one-among (k ∷ []) x h = rw (eq-eqb k x (sym h))
+one-among (k ∷ (j ∷ ks)) x (inl h) = rw (eq-eqb k x (sym h))
+one-among (k ∷ (j ∷ ks)) x (inr h) = rw (one-among (j ∷ ks) x h, or-true)
+
+pub none-among : (ks : List ℕ) (x : ℕ) → (OneOf ks x → ⊥) → among ks x ≡ false
+unfolding among
+none-among [] x n = refl
+none-among (k ∷ []) x n = rw (ne-eqb k x (λ e. n (sym e)))
+none-among (k ∷ (j ∷ ks)) x n = rw (ne-eqb k x (λ e. n (inl (sym e)))) (none-among (j ∷ ks) x (λ h. n (inr h)))
+
+-- two pairs are the same exactly where their bytes are
+pub pair-same : (class i c k : ℕ) → i < 256 → k < 256 → eqb (class * 256 + i) (c * 256 + k) ≡ pairIs class i c k
+pair-same class i c k l m = go (eqb class c) refl (eqb i k) refl
   where
-    same : (b : Bool) → eqb (pick b 1 0) 1 ≡ b
-    same true = refl
-    same false = refl
-
-pub course-04 : (i : ℕ) → OneOf (0x0F ∷ 0xFF ∷ []) i → true ≡ inCourse 0x04 i
-unfolding byClass allIn inCourse among
-course-04 i h = keyed (byClass 0x04) true (0x0F ∷ 0xFF ∷ []) i refl h
-
-pub course-06 : (i : ℕ) → OneOf (0x0F ∷ 0x1E ∷ 0xD1 ∷ 0xD3 ∷ []) i → true ≡ inCourse 0x06 i
-unfolding byClass allIn inCourse among
-course-06 i h = keyed (byClass 0x06) true (0x0F ∷ 0x1E ∷ 0xD1 ∷ 0xD3 ∷ []) i refl h
-
-pub not-04 : (i : ℕ) → i < 256 → NoneOf ((0x0F ∷ 0xFF ∷ []) ∷ []) i → false ≡ inCourse 0x04 i
-unfolding byClass allFrom anyOf inCourse among
-not-04 i l h = ranged (byClass 0x04) ((0x0F ∷ 0xFF ∷ []) ∷ []) false 0 256 i refl h (omega arith, l)
-
-pub not-06 : (i : ℕ) → i < 256 → NoneOf ((0x0F ∷ 0x1E ∷ 0xD1 ∷ 0xD3 ∷ []) ∷ []) i → false ≡ inCourse 0x06 i
-unfolding byClass allFrom anyOf inCourse among
-not-06 i l h = ranged (byClass 0x06) ((0x0F ∷ 0x1E ∷ 0xD1 ∷ 0xD3 ∷ []) ∷ []) false 0 256 i refl h (omega arith, l)
-
-pub other-class : (class i : ℕ) → i < 256 → (class ≡ 0x04 → ⊥) → (class ≡ 0x06 → ⊥) → inCourse class i ≡ false
-unfolding inCourse among
-other-class class i l f s =
-    let off : (c k : ℕ) → k < 256 → (class ≡ c → ⊥) → eqb (c * 256 + k) (class * 256 + i) ≡ false =
-    λ c k m n. ne-eqb (c * 256 + k) (class * 256 + i) (λ e. n (omega arith)) in
-    rw (
-      off 4 0xFF (omega arith) f,
-      off 6 0xD1 (omega arith) s,
-      off 6 0xD3 (omega arith) s,
-      off 4 0x0F (omega arith) f,
-      off 6 0x1E (omega arith) s,
-      off 6 0x0F (omega arith) s,
-    )
+    go : (x : Bool) → eqb class c ≡ x → (y : Bool) → eqb i k ≡ y → eqb (class * 256 + i) (c * 256 + k) ≡ (x && y)
+    go true e true f = eq-eqb (class * 256 + i) (c * 256 + k) (rw (eqb-true class c e, eqb-true i k f))
+    go true e false f = ne-eqb (class * 256 + i) (c * 256 + k) (λ q. eqb-false i k f (omega (arith, eqb-true class c e, q)))
+    go false e y f = ne-eqb (class * 256 + i) (c * 256 + k) (λ q. eqb-false class c e (omega (arith, q)))
 
 -- ---- a message that was read
 pub reported-code : (l : Lane) (status : Status) (code : ℕ) → status .code ≡ Code code
@@ -145,6 +108,14 @@ aborted-plain t ok = go (t .long) (t .body) ok
     go false (bytes (b ∷ s)) ok = rw (ne-eqb (length (b ∷ s)) 0 (λ e. omega arith))
     go long (listed password fs) ok = absurd ok
 
+both-same : (class i c k : ℕ) → pairIs class i c k ≡ true → (class ≡ c) × (i ≡ k)
+both-same class i c k h = let q = and-eq-true-iff (eqb class c) (eqb i k) .0 h in (eqb-true class c (q .0), eqb-true i k (q .1))
+
+-- the instruction of a message that was read is a byte
+second-byte : (s : List ℕ) (t : MessageTree) → Bytes s → readOf s ≡ got t → t .instruction < 256
+unfolding messageBytes Bytes
+second-byte s t b e = let k = read-sound s t b e .0 in rw (← k) at (b 1)
+
 module _ (l : Lane) (s : List ℕ) (t : MessageTree) (b : Bytes s) (e : readOf s ≡ got t) where
   aborted-same : t .class ≡ 0x06 → t .instruction ≡ 0x1E → abortedIn (messageAnswer t) s ≡ abortedBy (t .body)
   unfolding MessageOk layoutOf among
@@ -163,15 +134,28 @@ module _ (l : Lane) (s : List ℕ) (t : MessageTree) (b : Bytes s) (e : readOf s
 
   moved-same : movedAs l (messageAnswer t) s ≡ movedBy l t
   unfolding movedAs movedBy messageAnswer
-  moved-same = go (eqb (t .class) 0x06) refl (eqb (t .instruction) 0x0F) refl (eqb (t .instruction) 0x1E) refl
+  moved-same =
+      let pair : (c k : ℕ) → k < 256 → _ = λ c k m. pair-same (t .class) (t .instruction) c k small m in
+      rw (pair 0x06 0x0F (omega arith), pair 0x06 0x1E (omega arith), pair 0x04 0x0F (omega arith))
+      (go (pairIs (t .class) (t .instruction) 0x06 0x0F) (pairIs (t .class) (t .instruction) 0x06 0x1E) refl)
     where
-      go : (x : Bool) → eqb (t .class) 0x06 ≡ x → (y : Bool) → eqb (t .instruction) 0x0F ≡ y → (z : Bool) → eqb (t .instruction) 0x1E ≡ z
-          → movedAs l (messageAnswer t) s ≡ movedBy l t
-      go true c true i z j = rw (c, i)
-      go true c false i true j = rw (c, i, j) (aborted-same (eqb-true _ _ c) (eqb-true _ _ j))
-      go true c false i false j = rw (c, i, j, and-false)
-      go false c true i z j = rw (c, i) (rw i at reported-same)
-      go false c false i z j = rw (c, i, and-false)
+      small : t .instruction < 256
+      small = second-byte s t b e
+
+      x : Moved
+      x = completedBy l (l .status .code)
+
+      told : (q : Bool) → isStatus t ≡ q → pick q (reportedAs l (statusOf s)) Stays
+          ≡ pick q (let status = statusIn (bodyFields (t .body)) in reportedBy l status (status .code)) Stays
+      told true f = rw f at reported-same
+      told false f = refl
+
+      go : (o a : Bool) → pairIs (t .class) (t .instruction) 0x06 0x1E ≡ a
+          → pick o x (pick a (abortedIn (messageAnswer t) s) (pick (isStatus t) (reportedAs l (statusOf s)) Stays))
+          ≡ pick o x (pick a (abortedBy (t .body)) (pick (isStatus t) (let status = statusIn (bodyFields (t .body)) in reportedBy l status (status .code)) Stays))
+      go true a f = refl
+      go false true f = let k = both-same _ _ _ _ f in aborted-same (k .0) (k .1)
+      go false false f = told (isStatus t) refl
 
 -- ---- a running lane
 pub running-refused : (l : Lane) (h : Header) (s : List ℕ) → inCourse (h .class) (h .instruction) ≡ false
@@ -199,15 +183,9 @@ module _ (l : Lane) (h : Header) (s : List ℕ) (i : inCourse (h .class) (h .ins
       running-read ∙ ap (afterBody l) (k .1) ∙ sym (moved-same l s (k .0) b (k .1)) ∙ ap (λ n. movedAs l n s) (k .2)
 
 -- ---- a lane that is not idle
-not-idle : (p : Phase) → OneOf (1 ∷ 2 ∷ []) (tagOf phase.the-type p) → isIdle p ≡ false
-unfolding isIdle allIn
-not-idle Idle h = absurd (false≢true (at-key (λ t. not (eqb t 0)) (1 ∷ 2 ∷ []) refl _ h))
-not-idle Waiting h = refl
-not-idle Running h = refl
-
-is-waiting : (p : Phase) → OneOf (1 ∷ 2 ∷ []) (tagOf phase.the-type p) → OneOf (0 ∷ 1 ∷ []) (tagOf phase.the-type p) → p ≡ Waiting
+is-waiting : (p : Phase) → isIdle p ≡ false → OneOf (0 ∷ 1 ∷ []) (tagOf phase.the-type p) → p ≡ Waiting
 unfolding allIn
-is-waiting Idle h k = absurd (false≢true (at-key (λ t. not (eqb t 0)) (1 ∷ 2 ∷ []) refl _ h))
+is-waiting Idle h k = absurd (false≢true (sym h))
 is-waiting Waiting h k = refl
 is-waiting Running h k = absurd (false≢true (at-key (λ t. not (eqb t 2)) (0 ∷ 1 ∷ []) refl _ k))
 
@@ -220,10 +198,10 @@ module _ (l : Lane) (s : List ℕ) (g : HeaderTree) where
   unfolding heardBy waitingMoved heardWaiting headerBy headerIn
   by-waiting p = rw p
 
-module _ (l : Lane) (s : List ℕ) (o : OneOf (1 ∷ 2 ∷ []) (tagOf phase.the-type (l .phase))) where
+module _ (l : Lane) (s : List ℕ) (o : isIdle (l .phase) ≡ false) where
   on-header : heard l s ≡ afterHeader l s (wholeHeader s)
   unfolding heard
-  on-header = rw (not-idle (l .phase) o)
+  on-header = rw o
 
   pub heard-refused : (r : Refusal) → headerAnswer s ≡ header-refused r → heard l s ≡ Refused r
   unfolding headerAnswer asHeaderAnswer refusalOf afterHeader

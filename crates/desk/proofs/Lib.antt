@@ -1,4 +1,4 @@
 -- The laws that the proofs of the functions cite, by subject.
 pub mod HearLaws
 pub mod DeskLaws
-pub mod Opening
+pub mod CallLaws

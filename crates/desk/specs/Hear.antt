@@ -1,4 +1,4 @@
--- What the steps of hearing a message answer. Definitions only.
+-- Steps of the code: what the steps of hearing a message answer. Definitions only.
 use mathlib.Core.Path.{_≡_}
 use Prim.Native.Nat.{ℕ, _+_, _*_}
 use mathlib.Core.Bool.{Bool, false}
@@ -17,8 +17,7 @@ use Rattle.desk_rules.specs.declared.Lane.{Lane}
 use Rattle.desk_rules.specs.declared.Moved.{Moved}
 use Rattle.desk_rules.specs.declared.Moved.the-variants.{Stays, Ends}
 use Rattle.desk_rules.specs.declared.Outcome.the-variants.{Declined}
-use Rattle.desk_rules.specs.Commands.{replyBytes}
-use Rattle.desk_rules.specs.Course.{no, runningPairs, heardWaiting, heardRunning, completedBy, reportedBy}
+use Rattle.desk_rules.specs.Course.{no, replyBytes, runningPairs, heardWaiting, heardRunning, completedBy, reportedBy}
 
 -- the bytes were read as that message
 unfoldable pub ReadIn : Message → List ℕ → Type 0
@@ -45,9 +44,9 @@ reportedAs l status = reportedBy l status (status .code)
 
 unfoldable pub movedAs : Lane → Message → List ℕ → Moved
 movedAs l m s =
-    pick (eqb (m .class) 0x06)
-    (pick (eqb (m .instruction) 0x0F) (completedBy l (l .status .code)) (pick (eqb (m .instruction) 0x1E) (abortedIn m s) Stays))
-    (pick (eqb (m .instruction) 0x0F) (reportedAs l (statusOf s)) Stays)
+    let pair = m .class * 256 + m .instruction in
+    pick (eqb pair 0x060F) (completedBy l (l .status .code))
+    (pick (eqb pair 0x061E) (abortedIn m s) (pick (eqb pair 0x040F) (reportedAs l (statusOf s)) Stays))
 
 -- what a reply of so many bytes leaves in the output
 unfoldable pub replied : ℕ → List ℕ → List ℕ

@@ -1,3 +1,3 @@
--- What the steps behind the desk's functions answer. The functions' own answers stand in crate desk_rules, specs/Memory.antt.
+-- Steps of the code. What a reader has to believe of the desk stands in crate desk_rules.
 pub mod Hear
-pub mod Opening
+pub mod Steps

@@ -1,10 +1,14 @@
 // The commands that opening writes.
+use desk_rules::Opening;
 ghost use mathlib.Core.Path.{_≡_};
-ghost use Rattle.desk_rules.specs.Commands.{saleBytes, refundBytes, reversalBytes};
+ghost use mathlib.Core.List.{_++_};
+ghost use Prim.Native.Nat.{_≤_};
+ghost use lib.ListN.{length, drop};
+ghost use Rattle.desk_rules.specs.Openings.{commandBytes};
 
 // 06 01: amount, currency.
-pub(crate) fn sale_bytes(amount: u64) -> [u8; 13]
-    ensures { λ r. ⌜ r ≡ saleBytes amount ⌝ }
+fn sale_bytes(amount: u64) -> [u8; 13]
+    ensures { λ r. ⌜ r ≡ commandBytes (Opening.Sale amount) ⌝ }
 {
     let a = zvt::amount_bytes(amount);
     [
@@ -25,8 +29,8 @@ pub(crate) fn sale_bytes(amount: u64) -> [u8; 13]
 }
 
 // 06 31: password, amount, currency.
-pub(crate) fn refund_bytes(password: u32, amount: u64) -> [u8; 16]
-    ensures { λ r. ⌜ r ≡ refundBytes password amount ⌝ }
+fn refund_bytes(password: u32, amount: u64) -> [u8; 16]
+    ensures { λ r. ⌜ r ≡ commandBytes (Opening.Refund password amount) ⌝ }
 {
     let p = zvt::password_bytes(password);
     let a = zvt::amount_bytes(amount);
@@ -51,10 +55,28 @@ pub(crate) fn refund_bytes(password: u32, amount: u64) -> [u8; 16]
 }
 
 // 06 30: password, receipt.
-pub(crate) fn reversal_bytes(password: u32, receipt: u16) -> [u8; 9]
-    ensures { λ r. ⌜ r ≡ reversalBytes password receipt ⌝ }
+fn reversal_bytes(password: u32, receipt: u16) -> [u8; 9]
+    ensures { λ r. ⌜ r ≡ commandBytes (Opening.Reversal password receipt) ⌝ }
 {
     let p = zvt::password_bytes(password);
     let b = zvt::receipt_bytes(receipt);
     [0x06, 0x30, 0x06, p[0], p[1], p[2], 0x87, b[0], b[1]]
+}
+
+// The command of an opening goes to the start of out.
+pub(crate) fn put_command(opening: Opening, out: &mut [u8])
+    requires { ⌜ length (commandBytes opening) ≤ length (now out) ⌝ }
+    ensures { λ _. ⌜ now (out .exit) ≡ commandBytes opening ++ drop (length (commandBytes opening)) (now (out .entry)) ⌝ }
+{
+    match opening {
+        Opening::Sale(amount) => {
+            bytes::copy(&sale_bytes(amount), out);
+        }
+        Opening::Refund(password, amount) => {
+            bytes::copy(&refund_bytes(password, amount), out);
+        }
+        Opening::Reversal(password, receipt) => {
+            bytes::copy(&reversal_bytes(password, receipt), out);
+        }
+    }
 }

@@ -1,10 +1,12 @@
-// What a lane does at a message, and small questions to lanes and lines.
+// What a lane does at a call, and the line at its payment's end.
 use desk_rules::Kind;
 use desk_rules::Lane;
 use desk_rules::Line;
 use desk_rules::Moved;
+use desk_rules::Opening;
 use desk_rules::Outcome;
 use desk_rules::Phase;
+use desk_rules::Reference;
 use zvt::Header;
 use zvt::HeaderAnswer;
 use zvt::Message;
@@ -15,110 +17,51 @@ use zvt_rules::ToldAmount;
 use zvt_rules::ToldCode;
 use zvt_rules::ToldReceipt;
 ghost use mathlib.Core.Path.{_≡_};
-ghost use mathlib.Core.Bool.{_&&_};
-ghost use Prim.Native.Nat.{_≤_};
+ghost use Prim.Native.Nat.{_*_, _+_, _≤_};
 ghost use lib.ListN.{length};
 ghost use Rattle.desk_rules.specs.Lanes.{receiptBy, lineAt};
-ghost use Rattle.desk_rules.specs.Course.{isApproved, isSale, isReversal, concerns, completedBy, settledAs, amountBy, answered, heard};
-ghost use Rattle.desk_rules.specs.Desk.{place};
-ghost use Rattle.desk_rules.specs.Turnover.{gain, loss};
+ghost use Rattle.desk_rules.specs.Course.{completedBy, settledAs, amountBy, answered, heard, no, standing, openedBy};
 ghost use Rattle.desk.specs.Hear.{inCourse, waitingMoved, runningMoved, abortedIn, reportedAs, movedAs, ReadIn, replied};
 
-pub(crate) fn both(a: bool, b: bool) -> bool
-    ensures { λ r. ⌜ r ≡ (a && b) ⌝ }
+// What comes of an opening that refers to that line, if nothing else is against it.
+pub(crate) fn standing(reference: Reference, line: Line, m: Moved) -> Moved
+    ensures { λ r. ⌜ r ≡ standing reference line m ⌝ }
 {
-    if a { b } else { false }
-}
-
-// An open payment takes a place in the book, an idle lane none.
-pub(crate) fn place(l: Lane) -> usize
-    ensures { λ r. ⌜ r ≡ place l ⌝ }
-{
-    let p = l.phase;
-    match p {
-        Phase::Idle => 0,
-        Phase::Waiting => 1,
-        Phase::Running => 1,
+    match reference {
+        Reference::Nothing => m,
+        Reference::Sold(_) => { if line.is_sold() { m } else { refused(17) } }
     }
 }
 
-pub(crate) fn is_sale(k: Kind) -> bool
-    ensures { λ r. ⌜ r ≡ isSale k ⌝ }
+fn refused(number: u8) -> Moved
+    ensures { λ r. ⌜ r ≡ no number ⌝ }
 {
-    match k {
-        Kind::Sale => true,
-        Kind::Refund => false,
-        Kind::Reversal => false,
-    }
+    Moved::Refused(Refusal { number })
 }
 
-pub(crate) fn is_reversal(k: Kind) -> bool
-    ensures { λ r. ⌜ r ≡ isReversal k ⌝ }
+// An opening that refers to that line: 13, 16, 17.
+pub(crate) fn opened(l: Lane, opening: Opening, line: Line) -> Moved
+    ensures { λ r. ⌜ r ≡ openedBy l opening line ⌝ }
 {
-    match k {
-        Kind::Sale => false,
-        Kind::Refund => false,
-        Kind::Reversal => true,
+    let phase = l.phase;
+    if !phase.is_idle() {
+        return refused(13);
     }
-}
-
-pub(crate) fn approved(l: Line) -> bool
-    ensures { λ r. ⌜ r ≡ isApproved (l .outcome) ⌝ }
-{
-    let o = l.outcome;
-    match o {
-        Outcome::Unclear => false,
-        Outcome::Declined => false,
-        Outcome::Approved => true,
+    if !opening.within_limits() {
+        return refused(16);
     }
-}
-
-// An approved sale.
-pub(crate) fn approved_sale(l: Line) -> bool
-    ensures { λ r. ⌜ r ≡ (isApproved (l .outcome) && isSale (l .kind)) ⌝ }
-{
-    let k = l.kind;
-    both(approved(l), is_sale(k))
-}
-
-// An approved sale or reversal of that lane with that receipt.
-pub(crate) fn concerns(l: Line, lane: u8, receipt: u16) -> bool
-    ensures { λ r. ⌜ r ≡ concerns lane receipt l ⌝ }
-{
-    if l.lane != lane {
-        return false;
-    }
-    if l.receipt != receipt {
-        return false;
-    }
-    let k = l.kind;
-    if is_reversal(k) {
-        return approved(l);
-    }
-    approved_sale(l)
-}
-
-pub(crate) fn gain(l: Line) -> u64
-    ensures { λ r. ⌜ r ≡ gain (l .outcome) (l .kind) (l .settled) ⌝ }
-{
-    if approved_sale(l) { l.settled } else { 0 }
-}
-
-// An approved line that is no sale takes away.
-pub(crate) fn loss(l: Line) -> u64
-    ensures { λ r. ⌜ r ≡ loss (l .outcome) (l .kind) (l .settled) ⌝ }
-{
-    if approved_sale(l) {
-        return 0;
-    }
-    if approved(l) { l.settled } else { 0 }
+    standing(
+        opening.reference(),
+        line,
+        Moved::Becomes(opening.lane(line)),
+    )
 }
 
 // The receipt named for a reversal, else the one told, else 0.
 pub(crate) fn receipt_by(kind: Kind, named: u16, told: ToldReceipt) -> u16
     ensures { λ r. ⌜ r ≡ receiptBy kind named told ⌝ }
 {
-    if is_reversal(kind) {
+    if kind.is_reversal() {
         return named;
     }
     match told {
@@ -160,7 +103,7 @@ pub(crate) fn amount_by(told: ToldAmount, asked: u64) -> u64
 pub(crate) fn settled_as(kind: Kind, asked: u64, amount: u64) -> Moved
     ensures { λ r. ⌜ r ≡ settledAs kind asked amount ⌝ }
 {
-    if is_reversal(kind) {
+    if kind.is_reversal() {
         if amount != asked {
             return Moved::Ends(Outcome::Unclear, 0, 0);
         }
@@ -193,7 +136,7 @@ pub(crate) fn aborted(s: &[u8], m: Message) -> Moved
     ensures { λ r. ⌜ r ≡ abortedIn m (now (s .entry)) ⌝ }
 {
     if m.length == 0 {
-        return Moved::Refused(Refusal { number: 1 });
+        return refused(1);
     }
     let at = m.start;
     let code = s[at];
@@ -216,36 +159,27 @@ pub(crate) fn moved_by(l: Lane, s: &[u8], m: Message) -> Moved
     requires { ⌜ ReadIn m (now s) ⌝ }
     ensures { λ r. ⌜ r ≡ movedAs l m (now (s .entry)) ⌝ }
 {
-    if m.class == 0x06 {
-        if m.instruction == 0x0F {
-            return completed(l);
-        }
-        if m.instruction == 0x1E {
-            return aborted(s, m);
-        }
-        return Moved::Stays;
+    match pair_of(m.class, m.instruction) {
+        0x060F => completed(l),
+        0x061E => aborted(s, m),
+        0x040F => reported(l, zvt::read_status(s)),
+        _ => Moved::Stays,
     }
-    if m.instruction == 0x0F {
-        return reported(l, zvt::read_status(s));
-    }
-    Moved::Stays
+}
+
+// Class and instruction as one number.
+fn pair_of(class: u8, instruction: u8) -> u16
+    ensures { λ r. ⌜ r ≡ class * 256 + instruction ⌝ }
+{
+    (class as u16) * 256 + (instruction as u16)
 }
 
 // The pairs that a running lane takes.
 pub(crate) fn in_course(class: u8, instruction: u8) -> bool
     ensures { λ r. ⌜ r ≡ inCourse class instruction ⌝ }
 {
-    if class == 0x04 {
-        return match instruction {
-            0x0F | 0xFF => true,
-            _ => false,
-        };
-    }
-    if class != 0x06 {
-        return false;
-    }
-    match instruction {
-        0x0F | 0x1E | 0xD1 | 0xD3 => true,
+    match pair_of(class, instruction) {
+        0x04FF | 0x06D1 | 0x06D3 | 0x040F | 0x061E | 0x060F => true,
         _ => false,
     }
 }
@@ -254,16 +188,16 @@ pub(crate) fn heard_waiting(l: Lane, h: Header) -> Moved
     ensures { λ r. ⌜ r ≡ waitingMoved l h ⌝ }
 {
     if h.length != 0 {
-        return Moved::Refused(Refusal { number: 15 });
+        return refused(15);
     }
     if h.class == 0x84 {
         return Moved::Ends(Outcome::Declined, 0, h.instruction);
     }
     if h.class != 0x80 {
-        return Moved::Refused(Refusal { number: 15 });
+        return refused(15);
     }
     if h.instruction != 0x00 {
-        return Moved::Refused(Refusal { number: 15 });
+        return refused(15);
     }
     Moved::Becomes(l.running())
 }
@@ -272,7 +206,7 @@ pub(crate) fn heard_running(l: Lane, s: &[u8], h: Header) -> Moved
     ensures { λ r. ⌜ r ≡ runningMoved l h (now (s .entry)) ⌝ }
 {
     if !in_course(h.class, h.instruction) {
-        return Moved::Refused(Refusal { number: 15 });
+        return refused(15);
     }
     match zvt::read(s) {
         ReadAnswer::Refused(r) => Moved::Refused(r),
@@ -285,8 +219,8 @@ pub(crate) fn heard(l: Lane, s: &[u8]) -> Moved
     ensures { λ r. ⌜ r ≡ heard l (now (s .entry)) ⌝ }
 {
     let phase = l.phase;
-    if let Phase::Idle = phase {
-        return Moved::Refused(Refusal { number: 14 });
+    if phase.is_idle() {
+        return refused(14);
     }
     match zvt::read_header(s) {
         HeaderAnswer::Refused(r) => Moved::Refused(r),

@@ -4,26 +4,32 @@ mod commands;
 mod hear;
 mod memory;
 
+use commands::put_command;
 use desk_rules::Answer;
 use desk_rules::Desk;
-use desk_rules::Kind;
 use desk_rules::Lane;
 use desk_rules::LaneAnswer;
 use desk_rules::LineAnswer;
 use desk_rules::Moved;
+use desk_rules::Opening;
 use desk_rules::Outcome;
 use desk_rules::Reply;
+use memory::all_idle;
+use memory::is_full;
 use memory::last_line;
 use memory::moved;
-use memory::opening;
-use memory::places_in;
 use zvt_rules::Refusal;
 ghost use mathlib.Core.Path.{_≡_};
+ghost use mathlib.Core.Bool.{_&&_};
+ghost use lib.Dec.{leb};
 ghost use lib.ListN.{length};
-ghost use Rattle.desk_rules.specs.Course.{sale, refund, reversal, message, lost};
-ghost use Rattle.desk_rules.specs.Memory.{Valid, linesOfDesk, refusedAnswer, answerOf, leavesOf, closeAnswer, lineAnswer, laneAnswer};
+ghost use Rattle.desk_rules.specs.Numbers.{bookLines};
+ghost use Rattle.desk_rules.specs.Kinds.{booked};
+ghost use Rattle.desk_rules.specs.Openings.{kindOf};
+ghost use Rattle.desk_rules.specs.Course.{opening as call, message, lost};
+ghost use Rattle.desk_rules.specs.Desk.{load};
+ghost use Rattle.desk_rules.specs.Memory.{Valid, linesOfDesk, view, refusedAnswer, answerOf, leavesOf, closeAnswer, lineAnswer, laneAnswer};
 ghost use Rattle.desk_rules.specs.Turnover.{netOf};
-ghost use Rattle.desk.specs.Opening.{openAnswer, openLeaves};
 
 fn refused(desk: Desk, number: u8) -> Answer
     ensures { λ r. ⌜ r ≡ refusedAnswer desk number ⌝ }
@@ -34,77 +40,45 @@ fn refused(desk: Desk, number: u8) -> Answer
     }
 }
 
-// An opening that makes the lane l and writes the command.
-fn open(
-    desk: Desk,
-    lane: u8,
-    within: bool,
-    sale: bool,
-    l: Lane,
-    command: &[u8],
-    out: &mut [u8],
-) -> Answer
+// Opens a payment.
+pub fn open(desk: Desk, lane: u8, opening: Opening, out: &mut [u8]) -> Answer
     requires { ⌜ Valid desk ⌝ }
-    ensures answer { λ r. ⌜ r ≡ openAnswer desk lane within sale l (now (command .entry)) (length (now (out .entry))) ⌝ }
-    ensures lent { λ _. ⌜ now (out .exit) ≡ openLeaves desk lane within sale (now (command .entry)) (now (out .entry)) ⌝ }
+    ensures answer { λ r. ⌜ r ≡ answerOf desk (call lane opening) (length (now (out .entry))) ⌝ }
+    ensures lent { λ _. ⌜ now (out .exit) ≡ leavesOf desk (call lane opening) (now (out .entry)) ⌝ }
+    ensures valid { λ r. ⌜ Valid (r .desk) ⌝ }
 {
-    let need = command.len();
-    let number = opening(desk, lane, within, sale, need, out.len());
-    if number != 0 {
-        return refused(desk, number);
+    if Lane::COUNT <= lane {
+        return refused(desk, 12);
     }
-    bytes::copy(command, out);
-    let d = moved(desk, lane, Moved::Becomes(l));
+    let at = lane as usize;
+    let l = desk.lanes[at];
+    let book = desk.book;
+    let m = hear::opened(l, opening, last_line(book, lane, opening.reference()));
+    if let Moved::Refused(r) = m {
+        return refused(desk, r.number);
+    }
+    if no_place(desk, opening) {
+        return refused(desk, 18);
+    }
+    let size = opening.command_size();
+    if out.len() < size {
+        return refused(desk, 11);
+    }
+    put_command(opening, out);
+    let d = moved(desk, lane, m);
     Answer {
-        reply: Reply::Written(need),
+        reply: Reply::Written(size),
         desk: d,
     }
 }
 
-// Opens a sale.
-pub fn open_sale(desk: Desk, lane: u8, amount: u64, out: &mut [u8]) -> Answer
+// Whether an opening needs a place in the book and finds none.
+fn no_place(desk: Desk, opening: Opening) -> bool
     requires { ⌜ Valid desk ⌝ }
-    ensures answer { λ r. ⌜ r ≡ answerOf desk (sale lane amount) (length (now (out .entry))) ⌝ }
-    ensures lent { λ _. ⌜ now (out .exit) ≡ leavesOf desk (sale lane amount) (now (out .entry)) ⌝ }
+    ensures { λ r. ⌜ r ≡ (booked (kindOf opening) && leb bookLines (load (view desk))) ⌝ }
 {
-    let within = Lane::amount_ok(amount);
-    let command = commands::sale_bytes(amount);
-    let l = Lane::waiting(Kind::Sale, amount, 0);
-    open(desk, lane, within, true, l, &command, out)
-}
-
-// Opens a refund.
-pub fn open_refund(desk: Desk, lane: u8, password: u32, amount: u64, out: &mut [u8]) -> Answer
-    requires { ⌜ Valid desk ⌝ }
-    ensures answer { λ r. ⌜ r ≡ answerOf desk (refund lane password amount) (length (now (out .entry))) ⌝ }
-    ensures lent { λ _. ⌜ now (out .exit) ≡ leavesOf desk (refund lane password amount) (now (out .entry)) ⌝ }
-{
-    let within = hear::both(Lane::password_ok(password), Lane::amount_ok(amount));
-    let command = commands::refund_bytes(password, amount);
-    let l = Lane::waiting(Kind::Refund, amount, 0);
-    open(desk, lane, within, true, l, &command, out)
-}
-
-// Opens the reversal of a sale, named by its receipt.
-pub fn open_reversal(desk: Desk, lane: u8, password: u32, receipt: u16, out: &mut [u8]) -> Answer
-    requires { ⌜ Valid desk ⌝ }
-    ensures answer { λ r. ⌜ r ≡ answerOf desk (reversal lane password receipt) (length (now (out .entry))) ⌝ }
-    ensures lent { λ _. ⌜ now (out .exit) ≡ leavesOf desk (reversal lane password receipt) (now (out .entry)) ⌝ }
-{
-    let within = hear::both(Lane::password_ok(password), Lane::receipt_ok(receipt));
-    let book = desk.book;
-    let last = last_line(book, lane, receipt);
-    let command = commands::reversal_bytes(password, receipt);
-    let l = Lane::waiting(Kind::Reversal, last.settled, receipt);
-    open(
-        desk,
-        lane,
-        within,
-        hear::approved_sale(last),
-        l,
-        &command,
-        out,
-    )
+    let kind = opening.kind();
+    if kind.booked() { is_full(desk) } else { false }
 }
 
 // Takes one message from a lane's terminal.
@@ -112,6 +86,7 @@ pub fn terminal(desk: Desk, lane: u8, s: &[u8], out: &mut [u8]) -> Answer
     requires { ⌜ Valid desk ⌝ }
     ensures answer { λ r. ⌜ r ≡ answerOf desk (message lane (now (s .entry))) (length (now (out .entry))) ⌝ }
     ensures lent { λ _. ⌜ now (out .exit) ≡ leavesOf desk (message lane (now (s .entry))) (now (out .entry)) ⌝ }
+    ensures valid { λ r. ⌜ Valid (r .desk) ⌝ }
 {
     if Lane::COUNT <= lane {
         return refused(desk, 12);
@@ -137,14 +112,16 @@ pub fn terminal(desk: Desk, lane: u8, s: &[u8], out: &mut [u8]) -> Answer
 // The link to a lane's terminal is lost.
 pub fn link_lost(desk: Desk, lane: u8) -> Answer
     requires { ⌜ Valid desk ⌝ }
-    ensures { λ r. ⌜ r ≡ answerOf desk (lost lane) 0 ⌝ }
+    ensures answer { λ r. ⌜ r ≡ answerOf desk (lost lane) 0 ⌝ }
+    ensures valid { λ r. ⌜ Valid (r .desk) ⌝ }
 {
     if Lane::COUNT <= lane {
         return refused(desk, 12);
     }
     let at = lane as usize;
     let l = desk.lanes[at];
-    if hear::place(l) == 0 {
+    let phase = l.phase;
+    if phase.is_idle() {
         return refused(desk, 14);
     }
     let d = moved(desk, lane, Moved::Ends(Outcome::Unclear, 0, 0));
@@ -157,9 +134,10 @@ pub fn link_lost(desk: Desk, lane: u8) -> Answer
 // Closes the day: what is left is a fresh desk.
 pub fn close(desk: Desk) -> Answer
     requires { ⌜ Valid desk ⌝ }
-    ensures { λ r. ⌜ r ≡ closeAnswer desk ⌝ }
+    ensures answer { λ r. ⌜ r ≡ closeAnswer desk ⌝ }
+    ensures valid { λ r. ⌜ Valid (r .desk) ⌝ }
 {
-    if places_in(desk) != 0 {
+    if !all_idle(desk) {
         return refused(desk, 19);
     }
     Answer {
@@ -180,8 +158,8 @@ pub fn net(desk: Desk) -> i64
     let mut i: usize = 0;
     while i < count {
         let l = book.lines[i];
-        plus += hear::gain(l);
-        minus += hear::loss(l);
+        plus += l.gain();
+        minus += l.loss();
         i += 1;
     }
     (plus as i64) - (minus as i64)

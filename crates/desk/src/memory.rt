@@ -5,16 +5,20 @@ use desk_rules::Desk;
 use desk_rules::Lane;
 use desk_rules::Line;
 use desk_rules::Moved;
+use desk_rules::Reference;
 ghost use mathlib.Core.Path.{_≡_};
+ghost use mathlib.Core.Bool.{_&&_};
 ghost use Prim.Native.Nat.{_<_, _≤_};
+ghost use lib.Dec.{leb};
 ghost use lib.ListN.{length, take};
-ghost use Rattle.desk_rules.specs.Course.{lastLine};
-ghost use Rattle.desk_rules.specs.Desk.{places};
-ghost use Rattle.desk_rules.specs.Memory.{Valid, withLine, endedDesk, movedDesk};
-ghost use Rattle.desk.specs.Opening.{openingNumber};
+ghost use Rattle.desk_rules.specs.Numbers.{laneCount, bookLines};
+ghost use Rattle.desk_rules.specs.Openings.{lastLine};
+ghost use Rattle.desk_rules.specs.Desk.{placesTaken, allIdle, load};
+ghost use Rattle.desk_rules.specs.Memory.{Valid, withLine, view, endedDesk, movedDesk};
+ghost use Rattle.desk.specs.Steps.{Sized, Placed, LineFits};
 
 pub(crate) fn with_line(b: Book, l: Line) -> Book
-    requires { ⌜ b .count < 64 ⌝ }
+    requires { ⌜ b .count < bookLines ⌝ }
     ensures { λ r. ⌜ r ≡ withLine b l ⌝ }
 {
     let at = b.count;
@@ -24,17 +28,17 @@ pub(crate) fn with_line(b: Book, l: Line) -> Book
     next
 }
 
-// The last approved sale or reversal line of a lane with that receipt, or a blank one.
-pub(crate) fn last_line(b: Book, lane: u8, receipt: u16) -> Line
-    requires { ⌜ (b .count ≤ 64) × (length (b .lines) ≡ 64) ⌝ }
-    ensures { λ r. ⌜ r ≡ lastLine lane receipt (take (b .count) (b .lines)) ⌝ }
+// The last line of a lane that a reference looks at, or a blank one.
+pub(crate) fn last_line(b: Book, lane: u8, reference: Reference) -> Line
+    requires { ⌜ (b .count ≤ bookLines) × (length (b .lines) ≡ bookLines) ⌝ }
+    ensures { λ r. ⌜ r ≡ lastLine lane reference (take (b .count) (b .lines)) ⌝ }
 {
     let count = b.count;
     let mut last = Line::blank();
     let mut i: usize = 0;
     while i < count {
         let l = b.lines[i];
-        if hear::concerns(l, lane, receipt) {
+        if l.concerns(lane, reference) {
             last = l;
         }
         i += 1;
@@ -42,67 +46,67 @@ pub(crate) fn last_line(b: Book, lane: u8, receipt: u16) -> Line
     last
 }
 
-// How many payments are open.
-pub(crate) fn places_in(d: Desk) -> usize
-    requires { ⌜ length (d .lanes) ≡ 8 ⌝ }
-    ensures { λ r. ⌜ r ≡ places (d .lanes) ⌝ }
+// How many places of the book open payments take.
+fn places_taken(d: Desk) -> usize
+    requires { ⌜ length (d .lanes) ≡ laneCount ⌝ }
+    ensures { λ r. ⌜ r ≡ placesTaken (d .lanes) ⌝ }
 {
     let mut n: usize = 0;
     let mut i: usize = 0;
-    while i < 8 {
+    while i < Lane::COUNT as usize {
         let l = d.lanes[i];
-        n += hear::place(l);
+        n += l.place_taken();
         i += 1;
     }
     n
 }
 
-// The number of refusal of an opening, 0 for none: 12, 13, 16, 17, 18, 11.
-pub(crate) fn opening(d: Desk, lane: u8, within: bool, sale: bool, need: usize, room: usize) -> u8
+// Whether lines and open payments take every place.
+pub(crate) fn is_full(d: Desk) -> bool
     requires { ⌜ Valid d ⌝ }
-    ensures { λ r. ⌜ r ≡ openingNumber d lane within sale need room ⌝ }
+    ensures { λ r. ⌜ r ≡ leb bookLines (load (view d)) ⌝ }
 {
-    if Lane::COUNT <= lane {
-        return 12;
-    }
-    let at = lane as usize;
-    let l = d.lanes[at];
-    if hear::place(l) != 0 {
-        return 13;
-    }
-    if !within {
-        return 16;
-    }
-    if !sale {
-        return 17;
-    }
-    let open = places_in(d);
+    let taken = places_taken(d);
     let count = d.book.count;
-    if Book::LINES <= count + open {
-        return 18;
-    }
-    if room < need {
-        return 11;
-    }
-    0
+    Book::LINES <= count + taken
 }
 
-// The lane's payment ends with that line, and the lane is idle.
+// Whether every lane is idle.
+pub(crate) fn all_idle(d: Desk) -> bool
+    requires { ⌜ length (d .lanes) ≡ laneCount ⌝ }
+    ensures { λ r. ⌜ r ≡ allIdle (d .lanes) ⌝ }
+{
+    let mut i: usize = 0;
+    while i < Lane::COUNT as usize {
+        let l = d.lanes[i];
+        let phase = l.phase;
+        if !phase.is_idle() {
+            return false;
+        }
+        i += 1;
+    }
+    true
+}
+
+// The lane's payment ends, with that line if it is booked, and the lane is idle.
 pub(crate) fn ended(d: Desk, lane: u8, line: Line) -> Desk
-    requires { ⌜ (lane < 8) × (length (d .lanes) ≡ 8) × (d .book .count < 64) × (length (d .book .lines) ≡ 64) ⌝ }
+    requires { ⌜ Sized d lane × Placed d line ⌝ }
     ensures { λ r. ⌜ r ≡ endedDesk d lane line ⌝ }
 {
     let at = lane as usize;
     let b = d.book;
+    let kind = line.kind;
     let mut next = d;
     next.lanes[at] = Lane::idle();
-    next.book = with_line(b, line);
+    if kind.booked() {
+        next.book = with_line(b, line);
+    }
     next
 }
 
 // What a move of a lane leaves.
 pub(crate) fn moved(d: Desk, lane: u8, m: Moved) -> Desk
-    requires { ⌜ (lane < 8) × (length (d .lanes) ≡ 8) × (d .book .count < 64) × (length (d .book .lines) ≡ 64) ⌝ }
+    requires { ⌜ Sized d lane × LineFits d lane m ⌝ }
     ensures { λ r. ⌜ r ≡ movedDesk d lane m ⌝ }
 {
     let at = lane as usize;

@@ -60,7 +60,7 @@ place-most l =
     pick-test (λ (n : ℕ). n ≤ 1) (isIdle (l .phase)) (λ _. omega arith)
     (λ _. pick-test (λ (n : ℕ). n ≤ 1) (booked (l .kind)) (λ _. omega arith) (λ _. omega arith))
 
-pub place-in : (ls : List Lane) (i : ℕ) → placeTaken (getD ls i idleLane) ≤ placesTaken ls
+place-in : (ls : List Lane) (i : ℕ) → placeTaken (getD ls i idleLane) ≤ placesTaken ls
 unfolding placesTaken placeTaken
 place-in [] i = omega arith
 place-in (l ∷ ls) zero = omega arith
@@ -192,6 +192,11 @@ module _ (d : Desk) (c : Call) (room : ℕ) where
       go true k e = omega (arith, leb-false bookLines (load (view d)) e, load-is d v)
       go false k e = omega (arith, v .room)
 
+  -- the line that an accepted call adds finds its place
+  pub taken-line : Valid d → decide (view d) c room ≡ accept
+      → d .book .count + length (linesFrom (laneOf c) (laneFor d c) (moveOf d c)) ≤ bookLines
+  taken-line v e = omega (arith, taken-roomy v (taken e), place-in (d .lanes) (laneOf c))
+
   -- ---- an answer
 
   pub refused-same : (n : ℕ) → decide (view d) c room ≡ refuse n → answerOf d c room ≡ refusedAnswer d n
@@ -231,10 +236,6 @@ module _ (d : Desk) (c : Call) (out : List ℕ) where
       → let w = writes (laneFor d c) c in leavesOf d c out ≡ w ++ drop (length w) out
   unfolding leavesOf leavesBy
   accepted-leaves e = rw (e, leavesBy)
-
--- a line that a move adds finds its place
-pub line-fits : (d : Desk) (i : ℕ) (m : Moved) → Roomy d i m → d .book .count + length (linesFrom i (laneAt (d .lanes) i) m) ≤ bookLines
-line-fits d i m r = omega (arith, place-in (d .lanes) i)
 
 pub view-fresh : view freshDesk ≡ fresh
 unfolding view fresh

@@ -1,11 +1,12 @@
 -- What the loops over lanes and lines have found at each step, and how large it is. Assumes nothing.
 use mathlib.Core.Path.{_≡_, refl}
+use mathlib.Core.Bool.{_&&_}
 use mathlib.Core.List.{List, [], _∷_, _++_}
 use Prim.Native.Nat.{ℕ, zero, suc, _+_, _*_, _≤_, _<_}
 use native.Mathlib.Numerals.{add-one}
 use native.Mathlib.Omega.{arith}
-use lib.ListN.{length, getD, take}
-use lib.Seq.{take-suc}
+use lib.ListN.{length, getD, take, drop}
+use lib.Seq.{take-suc, drop-cons}
 use Rattle.zvt_rules.specs.Reading.{pick}
 use Rattle.desk_rules.specs.declared.Kind.{Kind}
 use Rattle.desk_rules.specs.declared.Kind.the-variants.{Sale, Refund, Reversal}
@@ -16,9 +17,10 @@ use Rattle.desk_rules.specs.declared.Line.{Line}
 use Rattle.desk_rules.specs.declared.Desk.{Desk}
 use Rattle.desk_rules.specs.declared.Reference.{Reference}
 use Rattle.desk_rules.specs.Numbers.{mostAsked}
+use Rattle.desk_rules.specs.Kinds.{isIdle}
 use Rattle.desk_rules.specs.Lanes.{blankLine, idleLane, placeTaken}
 use Rattle.desk_rules.specs.Openings.{concerns, lastFrom, lastLine}
-use Rattle.desk_rules.specs.Desk.{placesTaken}
+use Rattle.desk_rules.specs.Desk.{placesTaken, allIdle}
 use Rattle.desk_rules.specs.Memory.{Valid}
 use Rattle.desk_rules.specs.Turnover.{gain, loss, gains, losses}
 use Rattle.desk_rules.proofs.Memory.{place-most}
@@ -47,6 +49,12 @@ places-take = sum-take placeTaken placesTaken refl (λ l ls. refl) idleLane
 pub places-most : (i : ℕ) (ls : List Lane) → placesTaken (take i ls) ≤ i
 unfolding placesTaken
 places-most i ls = omega (arith, sum-most placeTaken placesTaken refl (λ l ls. refl) idleLane 1 i ls (λ k. place-most (getD ls k idleLane)))
+
+-- ---- idle lanes
+pub idle-from : (ls : List Lane) (i : ℕ) → i < length ls
+    → allIdle (drop i ls) ≡ (isIdle (getD ls i idleLane .phase) && allIdle (drop (i + 1) ls))
+unfolding allIdle
+idle-from ls i h = rw (add-one, drop-cons ls i idleLane h)
 
 -- ---- the last line of a lane with a receipt
 

@@ -89,7 +89,7 @@ afterBody l (got m) = movedBy l m
 
 -- P19 to P22: the six pairs that a running lane takes; any other is R15, before the body is read
 abbrev pub runningPairs : List ℕ
-runningPairs = 0x04FF ∷ 0x06D1 ∷ 0x06D3 ∷ 0x040F ∷ 0x061E ∷ 0x060F ∷ []
+runningPairs = 0x040F ∷ 0x04FF ∷ 0x060F ∷ 0x061E ∷ 0x06D1 ∷ 0x06D3 ∷ []
 
 unfoldable pub heardRunning : Lane → List ℕ → Header → Moved
 heardRunning l s h =

@@ -1,4 +1,5 @@
--- `desk::net` meets its contract. Assumes nothing.
+-- `desk::net` meets its contract. The loop's invariant: `plus` and `minus` are the gains and the losses of the first `i` lines.
+-- Assumes nothing.
 use mathlib.Core.Path.{_≡_, _∙_}
 use Prim.Native.Nat.{_≤_, _<_, _-_, _^_}
 use native.Mathlib.Omega.{arith}
@@ -13,7 +14,6 @@ use Rattle.desk.proofs.DeskLaws.{signed, difference-fits}
 use Rattle.desk.proofs.net.Statement.{statement}
 use Rattle.desk.proofs.net.Tie as tie
 
--- plus and minus are the gains and losses of the first i lines
 abbrev Inv-loop : tie.InvT-loop
 Inv-loop book count plus₀ minus₀ i₀ plus minus i = (i ≤ count) × (plus ≡ gains (take i (book .lines))) × (minus ≡ losses (take i (book .lines)))
 

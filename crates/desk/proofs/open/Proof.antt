@@ -1,67 +1,121 @@
 -- `desk::open` meets its contract. Assumes nothing.
 use mathlib.Core.Path.{_≡_, sym, ap, _∙_}
-use mathlib.Core.List.{List, _++_}
-use Prim.Native.Nat.{ℕ}
-use native.Mathlib.Omega.{arith}
-use lib.ListN.{length, drop}
-use lib.Seq.{take-length}
-use borrow.Author.Tests.{ne-eqb}
-use Rattle.desk.specs.Opening.{openingNumber, openAnswer, openLeaves}
-use Rattle.desk.proofs.Opening.{Opens, opens-tells}
+use mathlib.Core.Bool.{false, _&&_}
+use Prim.Native.Nat.{_<_, _≤_}
+use lib.Dec.{leb}
+use lib.ListN.{length}
+use Rattle.desk_rules.specs.declared.Reference.{Reference}
+use Rattle.desk_rules.specs.declared.Reply.the-variants.{Written}
+use Rattle.desk_rules.specs.Numbers.{laneCount}
+use Rattle.desk_rules.specs.Openings.{commandBytes, lastLine}
+use Rattle.desk_rules.specs.Course.{openedBy, Call, opening, laneOf, needsPlace, NumbersFit, moves, writes}
+use Rattle.desk_rules.specs.Desk.{laneAt, accept, decide}
+use Rattle.desk_rules.specs.Memory.{linesOfDesk, view, movedDesk}
+use Rattle.desk_rules.proofs.Commands.{command-size}
+use Rattle.desk_rules.proofs.Calls.{Passes}
+use Rattle.desk_rules.proofs.Memory.{moveOf, taken-line}
+use Rattle.desk.proofs.CallLaws.{passes-tag, no-lane, not-moved, no-place, no-room, goes-on, refused-as, taken-as, written}
 use borrow.Author.Needs.{needs}
 use Rattle.desk.proofs.open.Statement.{statement}
 use Rattle.desk.proofs.open.Tie as tie
 
--- an opening that is not refused
-none : (c : tie.Else1) → let a = c .before .before .before .before .args in
-    openingNumber (a .desk) (a .lane) (a .within) (a .sale) (length (a .command .now)) (length (a .out .now)) ≡ 0
-none c = sym (c .before .opening .ensures) ∙ c .if1 .left
+abbrev call : tie.Start → Call
+call q = opening (q .args .lane) (q .args .opening)
 
-opens : (c : tie.Else1) → let a = c .before .before .before .before .args in
-    Opens (a .desk) (a .lane) (a .within) (a .sale) (length (a .command .now)) (length (a .out .now))
-opens c = opens-tells _ _ _ _ _ _ (c .before .before .before .before .pre) (none c)
+-- what is known once the lane has been asked
+abbrev begun : tie.After-opened → tie.Start
+begun c = c .before .before .before .before .before .before .before
 
-opening-requires : tie.Need-opening-requires
-opening-requires c κs = search needs
+low : (c : tie.After-opened) → begun c .args .lane < laneCount
+low c = c .before .before .before .before .before .if1 .left
 
-refused-requires : tie.Need-refused-requires
-refused-requires c κs = search needs
+-- the lane's own answer
+moves-to : (c : tie.After-opened) → moveOf (begun c .args .t1) (call (begun c)) ≡ c .opened .result
+unfolding laneOf moves
+moves-to c =
+    let a = begun c .args in
+    let found = c .before .last-line .ensures ∙ ap (λ (r : Reference). lastLine (a .lane) r (linesOfDesk (a .t1))) (c .before .before .reference .ensures) in
+    sym (c .opened .ensures ∙ ap (openedBy (laneAt (a .t1 .lanes) (a .lane)) (a .opening)) found)
+
+passes : (c : tie.At-match-keys2) → Passes (moveOf (begun (c .before) .args .t1) (call (begun (c .before))))
+passes c = rw (moves-to (c .before)) (passes-tag (c .before .opened .result) (c .match .keys2))
+
+-- a place in the book
+placed : (c : tie.Else2) → c .before .no-place .result ≡ false
+placed c = c .if2 .left
+
+-- and room for the command
+size : (c : tie.After-command-size) → length (commandBytes (begun (c .before .before .before .before) .args .opening)) ≡ c .command-size .result
+size c = command-size _ ∙ sym (c .command-size .ensures)
+
+accepts : (c : tie.Else3) → let q = begun (c .before .before .before .before .before) in
+    decide (view (q .args .t1)) (call q) (length (q .args .out .now)) ≡ accept
+unfolding laneOf needsPlace writes
+accepts c =
+    let p = c .before .before in
+    let h = p .before .before .before in
+    let q = begun h in
+    goes-on (q .args .t1) (call q) _ (low h) (passes (p .before .before)) (sym (p .before .no-place .ensures) ∙ placed p) (rw (size (c .before)) (c .if3 .left))
 
 returns : tie.Need-returns
-unfolding openAnswer openLeaves
+unfolding laneOf NumbersFit
 returns c =
-    let n : _ ≡ c .before .before .opening .result = sym (c .before .before .opening .ensures) in
-    (rw (n, ne-eqb _ 0 (c .before .if1 .taken)) (c .refused .ensures), rw (n, ne-eqb _ 0 (c .before .if1 .taken)))
-
-copy-requires : tie.Need-copy-requires
-copy-requires c κs = opens (c .before) .fits
-
-moved-requires : tie.Need-moved-requires
-moved-requires c κs =
-    let o = opens (c .before .before .before .before) in
-    let v = c .before .before .before .before .before .before .before .before .pre in
-    (o .lane, v .lanes, omega arith, v .lines)
-
-same-length : tie.Need-same-length
-same-length c = search needs
+    let q = c .before .before .before in
+    refused-as (q .args .t1) (q .pre) (call q) tt (q .args .out .now) _ 12 (no-lane (q .args .t1) (call q) _ (c .before .if1 .taken)) (c .refused .ensures)
 
 returns-2 : tie.Need-returns-2
-unfolding openAnswer openLeaves
+unfolding laneOf NumbersFit
 returns-2 c =
-    let q = c .before .before .before .before .before in
-    let n = none q in
-    let a = q .before .before .before .before .args in
-    let front : List ℕ → List ℕ = λ w. w ++ drop (length (a .command .now)) (a .out .now) in
-    (rw (n, c .moved .ensures), rw n (c .before .before .before .copy .ensures .1 ∙ ap front (take-length (a .command .now))))
+    let h = c .before .before .before .before in
+    let q = begun h in
+    refused-as (q .args .t1) (q .pre) (call q) tt (q .args .out .now) _ _
+    (not-moved (q .args .t1) (call q) _ (low h) _ (moves-to h ∙ c .before .before .m .given .1)) (c .refused2 .ensures)
+
+returns-3 : tie.Need-returns-3
+unfolding laneOf needsPlace NumbersFit
+returns-3 c =
+    let p = c .before .before in
+    let h = p .before .before in
+    let q = begun h in
+    refused-as (q .args .t1) (q .pre) (call q) tt (q .args .out .now) _ 18
+    (no-place (q .args .t1) (call q) _ (low h) (passes (p .before)) (sym (p .no-place .ensures) ∙ c .before .if2 .taken)) (c .refused3 .ensures)
+
+returns-4 : tie.Need-returns-4
+unfolding laneOf needsPlace writes NumbersFit
+returns-4 c =
+    let s = c .before .before in
+    let p = s .before in
+    let h = p .before .before .before in
+    let q = begun h in
+    refused-as (q .args .t1) (q .pre) (call q) tt (q .args .out .now) _ 11
+    (no-room (q .args .t1) (call q) _ (low h) (passes (p .before .before)) (sym (p .before .no-place .ensures) ∙ placed p) (rw (size s) (c .before .if3 .taken)))
+    (c .refused4 .ensures)
+
+put-command-requires : tie.Need-put-command-requires
+put-command-requires c κs = rw (size (c .before .before)) (c .before .if3 .left)
+
+moved-requires : tie.Need-moved-requires
+unfolding laneOf
+moved-requires c κs =
+    let e = c .before .before .before .before in
+    let h = e .before .before .before .before .before in
+    let q = begun h in
+    let v = q .pre in
+    (record { lane = low h; lanes = v .lanes; lines = v .lines }, rw (moves-to h) at (taken-line (q .args .t1) (call q) _ v (accepts e)))
+
+returns-5 : tie.Need-returns-5
+unfolding laneOf writes NumbersFit
+returns-5 c =
+    let e = c .before .before .before .before .before in
+    let h = e .before .before .before .before .before in
+    let q = begun h in
+    taken-as (q .args .t1) (q .pre) (call q) tt (q .args .out .now) (record { reply = Written (e .before .command-size .result); desk = c .moved .result }) _ (accepts e)
+    (written (sym (size (e .before))) (c .moved .ensures ∙ ap (movedDesk (q .args .t1) (q .args .lane)) (sym (moves-to h))))
+    (c .before .before .before .put-command .ensures)
 
 pub open-spec : {M : Type 1} → statement M
 open-spec =
     tie.close
-    (tie.spec
-    opening-requires
-    refused-requires
-    returns
-    copy-requires
-    moved-requires
-    same-length
-    returns-2)
+    (tie.spec (λ c κs. search needs) returns (λ c. search needs) (λ c. search needs) (λ c κs. search needs) (λ c κs. search needs)
+    (λ c κs. search needs) (λ c. search needs) (λ c κs. search needs) returns-2 (λ c κs. search needs) (λ c κs. search needs) returns-3
+    (λ c κs. search needs) (λ c κs. search needs) returns-4 put-command-requires moved-requires (λ c. search needs) returns-5)

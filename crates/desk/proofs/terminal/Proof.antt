@@ -1,113 +1,99 @@
 -- `desk::terminal` meets its contract. Assumes nothing.
-use mathlib.Core.Path.{sym, _∙_}
-use Prim.Native.Nat.{_<_}
-use Rattle.desk_rules.specs.Course.{heard}
-use Rattle.desk_rules.specs.Desk.{laneAt}
+use mathlib.Core.Path.{_≡_, refl, sym, ap, _∙_}
+use Prim.Native.Nat.{ℕ, _<_, _≤_}
+use lib.ListN.{length}
+use Rattle.zvt_rules.specs.Grammar.{Bytes}
+use Rattle.desk_rules.specs.declared.Reply.the-variants.{Written}
+use Rattle.desk_rules.specs.Numbers.{laneCount}
+use Rattle.desk_rules.specs.Course.{heard, answered, message, laneOf, needsPlace, NumbersFit, moves, writes}
+use Rattle.desk_rules.specs.Desk.{laneAt, accept, decide}
+use Rattle.desk_rules.specs.Memory.{view, movedDesk}
 use Rattle.desk_rules.proofs.Calls.{Passes}
-use Rattle.desk.proofs.Opening.{passes-tag, message-12, message-refused, message-11, message-taken, room-left, heard-open}
+use Rattle.desk_rules.proofs.Memory.{taken-line}
 use Rattle.desk.proofs.DeskLaws.{replied-is}
+use Rattle.desk.proofs.CallLaws.{passes-tag, no-lane, not-moved, no-room, goes-on, refused-as, taken-as, written}
+use Rattle.zvt.proofs.Slices.{bytes-known}
 use borrow.Author.Needs.{needs}
 use Rattle.desk.proofs.terminal.Statement.{statement}
 use Rattle.desk.proofs.terminal.Tie as tie
 
--- what is known once the lane has heard the message
-abbrev begun : tie.After-heard → tie.Start
-begun c = c .before .before .before .before .before
+-- the terminal's message is of bytes
+bytes : (c : tie.After-shared-slice-known) → Bytes (c .before .args .s .now)
+bytes c = bytes-known _ (c .shared-slice-known .given)
 
-low : (c : tie.After-heard) → begun c .args .lane < 8
+-- what is known once the lane has heard the message
+abbrev known : tie.After-heard → tie.After-shared-slice-known
+known c = c .before .before .before .before
+
+low : (c : tie.After-heard) → known c .before .args .lane < laneCount
 low c = c .before .before .if1 .left
 
-passes : (c : tie.At-match-keys2) → let a = begun (c .before) .args in Passes (heard (laneAt (a .t1 .lanes) (a .lane)) (a .s .now))
+passes : (c : tie.At-match-keys2) → let a = known (c .before) .before .args in Passes (heard (laneAt (a .t1 .lanes) (a .lane)) (a .s .now))
 passes c = rw (c .before .heard .ensures) at (passes-tag (c .before .heard .result) (c .match .keys2))
 
-refused-requires : tie.Need-refused-requires
-refused-requires c κs = search needs
+-- and that there is room for the reply
+accepts : (c : tie.Else2) → let a = known (c .before .before .before) .before .args in
+    decide (view (a .t1)) (message (a .lane) (a .s .now)) (length (a .out .now)) ≡ accept
+unfolding laneOf needsPlace moves writes
+accepts c =
+    let h = c .before .before .before in
+    let a = known h .before .args in
+    goes-on (a .t1) (message (a .lane) (a .s .now)) _ (low h) (passes (c .before .before)) refl (rw (c .before .reply-size .ensures) at (c .if2 .left))
 
 returns : tie.Need-returns
+unfolding laneOf NumbersFit
 returns c =
-    let a = c .before .before .before .before .args in
-    let m = message-12 (a .t1) (a .lane) (a .s .now) (a .out .now) (c .before .if1 .taken) in
-    (c .refused .ensures ∙ sym (m .0), sym (m .1))
-
-mul-l : tie.Need-mul-l
-mul-l c = search needs
-
-element-copy-out-l : tie.Need-element-copy-out-l
-element-copy-out-l c = search needs
-
-heard-requires : tie.Need-heard-requires
-heard-requires c κs = search needs
-
-enum-known-m : tie.Need-enum-known-m
-enum-known-m c = search needs
-
-refused-requires-2 : tie.Need-refused-requires-2
-refused-requires-2 c κs = search needs
+    let k = c .before .before .before in
+    let a = k .before .args in
+    refused-as (a .t1) (k .before .pre) (message (a .lane) (a .s .now)) (bytes k) (a .out .now) _ 12
+    (no-lane (a .t1) (message (a .lane) (a .s .now)) _ (c .before .if1 .taken)) (c .refused .ensures)
 
 returns-2 : tie.Need-returns-2
+unfolding laneOf moves NumbersFit
 returns-2 c =
     let h = c .before .before .before .before in
-    let a = begun h .args in
-    let e = sym (h .heard .ensures) ∙ c .before .before .m .given .1 in
-    let m = message-refused (a .t1) (a .lane) (a .s .now) (a .out .now) (low h) _ e in
-    (c .refused2 .ensures ∙ sym (m .0), sym (m .1))
-
-reply-size-requires : tie.Need-reply-size-requires
-reply-size-requires c κs = search needs
-
-refused-requires-3 : tie.Need-refused-requires-3
-refused-requires-3 c κs = search needs
+    let k = known h in
+    let a = k .before .args in
+    refused-as (a .t1) (k .before .pre) (message (a .lane) (a .s .now)) (bytes k) (a .out .now) _ _
+    (not-moved (a .t1) (message (a .lane) (a .s .now)) _ (low h) _ (sym (h .heard .ensures) ∙ c .before .before .m .given .1)) (c .refused2 .ensures)
 
 returns-3 : tie.Need-returns-3
+unfolding laneOf needsPlace moves writes NumbersFit
 returns-3 c =
     let r = c .before .before in
     let h = r .before .before in
-    let a = begun h .args in
-    let k = rw (r .reply-size .ensures) at (c .before .if2 .taken) in
-    let m = message-11 (a .t1) (a .lane) (a .s .now) (a .out .now) (low h) (passes (r .before)) k in
-    (c .refused3 .ensures ∙ sym (m .0), sym (m .1))
-
-put-reply-requires : tie.Need-put-reply-requires
-put-reply-requires c κs = search needs
+    let k = known h in
+    let a = k .before .args in
+    refused-as (a .t1) (k .before .pre) (message (a .lane) (a .s .now)) (bytes k) (a .out .now) _ 11
+    (no-room (a .t1) (message (a .lane) (a .s .now)) _ (low h) (passes (r .before)) refl (rw (r .reply-size .ensures) at (c .before .if2 .taken)))
+    (c .refused3 .ensures)
 
 moved-requires : tie.Need-moved-requires
+unfolding laneOf moves
 moved-requires c κs =
-    let k = c .before .before .before .before .before .before in
-    let h = k .before in
-    let v = begun h .pre in
-    (low h, v .lanes, room-left _ (begun h .args .lane) v (heard-open _ (begun h .args .s .now) (passes k)), v .lines)
-
-same-length : tie.Need-same-length
-same-length c = search needs
+    let e = c .before .before .before .before in
+    let h = e .before .before .before in
+    let k = known h in
+    let a = k .before .args in
+    let v = k .before .pre in
+    let t = taken-line (a .t1) (message (a .lane) (a .s .now)) _ v (accepts e) in
+    (record { lane = low h; lanes = v .lanes; lines = v .lines }, rw (h .heard .ensures) t)
 
 returns-4 : tie.Need-returns-4
+unfolding laneOf moves writes NumbersFit
 returns-4 c =
-    let r = c .before .before .before .before .before .before in
+    let e = c .before .before .before .before .before in
+    let r = e .before in
     let h = r .before .before in
-    let a = begun h .args in
-    let k = rw (r .reply-size .ensures) at (c .before .before .before .before .before .if2 .left) in
-    let m = message-taken (a .t1) (a .lane) (a .s .now) (a .out .now) (low h) (passes (r .before)) k in (
-      rw (c .moved .ensures, h .heard .ensures, r .reply-size .ensures) (sym (m .0)),
-      c .before .before .before .put-reply .ensures
-          ∙ rw (r .reply-size .ensures) (replied-is _ (a .out .now) ∙ sym (m .1)),
-    )
+    let k = known h in
+    let a = k .before .args in
+    taken-as (a .t1) (k .before .pre) (message (a .lane) (a .s .now)) (bytes k) (a .out .now) (record { reply = Written (r .reply-size .result); desk = c .moved .result }) _ (accepts e)
+    (written (r .reply-size .ensures) (c .moved .ensures ∙ ap (movedDesk (a .t1) (a .lane)) (h .heard .ensures)))
+    (c .before .before .before .put-reply .ensures ∙ rw (r .reply-size .ensures) (replied-is _ (a .out .now)))
 
 pub terminal-spec : {M : Type 1} → statement M
 terminal-spec =
     tie.close
-    (tie.spec
-    refused-requires
-    returns
-    mul-l
-    element-copy-out-l
-    heard-requires
-    enum-known-m
-    refused-requires-2
-    returns-2
-    reply-size-requires
-    refused-requires-3
-    returns-3
-    put-reply-requires
-    moved-requires
-    same-length
-    returns-4)
+    (tie.spec (λ c κs. search needs) returns (λ c. search needs) (λ c. search needs) (λ c κs. search needs) (λ c. search needs)
+    (λ c κs. search needs) returns-2 (λ c κs. search needs) (λ c κs. search needs) returns-3 (λ c κs. search needs) moved-requires
+    (λ c. search needs) returns-4)

@@ -1,13 +1,13 @@
 -- `desk::commands::refund_bytes` meets its contract. Assumes nothing.
 use Rattle.zvt_rules.specs.Digits.{digitBytesOf}
-use Rattle.desk_rules.proofs.Commands.{refund-bytes}
+use Rattle.desk_rules.proofs.Commands.{command-bytes, spelled}
 use borrow.Author.Needs.{needs}
 use Rattle.desk.proofs.commands.refund_bytes.Statement.{statement}
 use Rattle.desk.proofs.commands.refund_bytes.Tie as tie
 
 returns : tie.Need-returns
-unfolding digitBytesOf
-returns c = rw (c .before .password-bytes .ensures, c .amount-bytes .ensures, refund-bytes)
+unfolding digitBytesOf spelled
+returns c = rw (c .before .password-bytes .ensures, c .amount-bytes .ensures, command-bytes)
 
 pub refund-bytes-spec : {M : Type 1} → statement M
 refund-bytes-spec =

@@ -1,13 +1,13 @@
 -- `desk::commands::sale_bytes` meets its contract. Assumes nothing.
 use Rattle.zvt_rules.specs.Digits.{digitBytesOf}
-use Rattle.desk_rules.proofs.Commands.{sale-bytes}
+use Rattle.desk_rules.proofs.Commands.{command-bytes, spelled}
 use borrow.Author.Needs.{needs}
 use Rattle.desk.proofs.commands.sale_bytes.Statement.{statement}
 use Rattle.desk.proofs.commands.sale_bytes.Tie as tie
 
 returns : tie.Need-returns
-unfolding digitBytesOf
-returns c = rw (c .amount-bytes .ensures, sale-bytes)
+unfolding digitBytesOf spelled
+returns c = rw (c .amount-bytes .ensures, command-bytes)
 
 pub sale-bytes-spec : {M : Type 1} → statement M
 sale-bytes-spec =

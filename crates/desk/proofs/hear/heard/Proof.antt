@@ -1,67 +1,42 @@
 -- `desk::hear::heard` meets its contract. Assumes nothing.
+use mathlib.Core.Bool.{false}
+use Rattle.desk_rules.specs.Kinds.{isIdle}
 use mathlib.Core.Path.{_≡_, sym, _∙_}
 use Rattle.zvt.specs.declared.HeaderAnswer.the-variants.{Header}
 use Rattle.zvt.specs.Answers.{headerAnswer}
-use Rattle.desk_rules.specs.Course.{isIdle, heard}
+use Rattle.desk_rules.specs.Course.{heard}
 use Rattle.desk.proofs.HearLaws.{heard-refused, heard-running, heard-waiting}
 use borrow.Author.Needs.{needs}
 use Rattle.desk.proofs.hear.heard.Statement.{statement}
 use Rattle.desk.proofs.hear.heard.Tie as tie
 
-header-got : (c : tie.After-h) → headerAnswer (c .before .before .before .before .before .args .s .now) ≡ Header (c .h .given .0 .0)
+open-lane : (c : tie.Else1) → isIdle (c .before .before .before .args .l .phase) ≡ false
+open-lane c = sym (c .before .is-idle .ensures) ∙ c .if1 .left
+
+header-got : (c : tie.After-h) → headerAnswer (c .before .before .before .before .before .before .args .s .now) ≡ Header (c .h .given .0 .0)
 header-got c = sym (c .before .before .read-header .ensures) ∙ c .h .given .1
 
-enum-told : tie.Need-enum-told
-enum-told c = search needs
-
 returns : tie.Need-returns
-unfolding heard isIdle
-returns c = rw (c .enum-told .given .1)
-
-read-header-requires : tie.Need-read-header-requires
-read-header-requires c κs = search needs
-
-enum-known-r : tie.Need-enum-known-r
-enum-known-r c = search needs
-
-enum-known-h : tie.Need-enum-known-h
-enum-known-h c = search needs
-
-enum-told-2 : tie.Need-enum-told-2
-enum-told-2 c = search needs
-
-heard-running-requires : tie.Need-heard-running-requires
-heard-running-requires c κs = search needs
-
-heard-waiting-requires : tie.Need-heard-waiting-requires
-heard-waiting-requires c κs = search needs
+unfolding heard
+returns c = c .refused .ensures ∙ rw (sym (c .before .before .is-idle .ensures) ∙ c .before .if1 .taken)
 
 returns-2 : tie.Need-returns-2
 returns-2 c =
-    sym (heard-refused _ _ (c .before .before .before .before .match .keys2) _ (sym (c .before .before .before .read-header .ensures) ∙ c .before .r .given .1))
+    let h = c .before .before .before in
+    sym (heard-refused _ _ (open-lane (h .before)) _ (sym (h .read-header .ensures) ∙ c .before .r .given .1))
 
 returns-3 : tie.Need-returns-3
 returns-3 c =
     let h = c .before .before .before .before in
-    c .heard-running .ensures ∙ sym (heard-running _ _ (h .before .before .before .match .keys2) _ (header-got h) (c .before .enum-told2 .given .1))
+    c .heard-running .ensures ∙ sym (heard-running _ _ (open-lane (h .before .before .before)) _ (header-got h) (c .before .enum-told .given .1))
 
 returns-4 : tie.Need-returns-4
 returns-4 c =
     let h = c .before .before .before in
-    c .heard-waiting .ensures ∙ sym (heard-waiting _ _ (h .before .before .before .match .keys2) _ (header-got h) (c .before .match3 .keys2))
+    c .heard-waiting .ensures ∙ sym (heard-waiting _ _ (open-lane (h .before .before .before)) _ (header-got h) (c .before .match2 .keys2))
 
 pub heard-spec : {M : Type 1} → statement M
 heard-spec =
     tie.close
-    (tie.spec
-    enum-told
-    returns
-    read-header-requires
-    enum-known-r
-    enum-known-h
-    enum-told-2
-    heard-running-requires
-    heard-waiting-requires
-    returns-2
-    returns-3
-    returns-4)
+    (tie.spec (λ c κs. search needs) (λ c κs. search needs) returns (λ c κs. search needs) (λ c. search needs)
+    (λ c. search needs) (λ c. search needs) (λ c κs. search needs) (λ c κs. search needs) returns-2 returns-3 returns-4)

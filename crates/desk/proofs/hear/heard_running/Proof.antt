@@ -20,7 +20,7 @@ in-course-requires : tie.Need-in-course-requires
 in-course-requires c κs = search needs
 
 returns : tie.Need-returns
-returns c = sym (running-refused _ _ _ (sym (c .before .in-course .ensures) ∙ not-true _ (c .if1 .taken)))
+returns c = c .refused .ensures ∙ sym (running-refused _ _ _ (sym (c .before .before .in-course .ensures) ∙ not-true _ (c .before .if1 .taken)))
 
 read-requires : tie.Need-read-requires
 read-requires c κs = search needs
@@ -49,6 +49,7 @@ heard-running-spec =
     tie.close
     (tie.spec
     in-course-requires
+    (λ c κs. search needs)
     returns
     read-requires
     enum-known-r

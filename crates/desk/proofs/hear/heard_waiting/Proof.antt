@@ -2,13 +2,14 @@
 use borrow.Author.Tests.{ne-eqb}
 use Rattle.desk_rules.specs.Course.{heardWaiting}
 use Rattle.desk.specs.Hear.{headerBy, waitingMoved}
+use mathlib.Core.Path.{_∙_}
 use borrow.Author.Needs.{needs}
 use Rattle.desk.proofs.hear.heard_waiting.Statement.{statement}
 use Rattle.desk.proofs.hear.heard_waiting.Tie as tie
 
 returns : tie.Need-returns
 unfolding waitingMoved heardWaiting headerBy
-returns c = rw (ne-eqb _ _ (c .if1 .taken))
+returns c = c .refused .ensures ∙ rw (ne-eqb _ _ (c .before .if1 .taken))
 
 returns-2 : tie.Need-returns-2
 unfolding waitingMoved heardWaiting headerBy
@@ -16,14 +17,15 @@ returns-2 c = rw (c .before .before .if1 .left, c .if2 .taken)
 
 returns-3 : tie.Need-returns-3
 unfolding waitingMoved heardWaiting headerBy
-returns-3 c = rw (c .before .before .before .before .if1 .left, ne-eqb _ _ (c .if3 .taken), ne-eqb _ _ (c .before .before .if2 .left))
+returns-3 c =
+    let q = c .before in
+    c .refused2 .ensures ∙ rw (q .before .before .before .before .if1 .left, ne-eqb _ _ (q .if3 .taken), ne-eqb _ _ (q .before .before .if2 .left))
 
 returns-4 : tie.Need-returns-4
 unfolding waitingMoved heardWaiting headerBy
-returns-4 c = rw (c .before .before .before .before .before .before .if1 .left, c .before .before .if3 .left, ne-eqb _ _ (c .if4 .taken))
-
-running-requires : tie.Need-running-requires
-running-requires c κs = search needs
+returns-4 c =
+    let q = c .before in
+    c .refused3 .ensures ∙ rw (q .before .before .before .before .before .before .if1 .left, q .before .before .if3 .left, ne-eqb _ _ (q .if4 .taken))
 
 returns-5 : tie.Need-returns-5
 unfolding waitingMoved heardWaiting headerBy
@@ -33,4 +35,6 @@ returns-5 c =
 
 pub heard-waiting-spec : {M : Type 1} → statement M
 heard-waiting-spec =
-    tie.close (tie.spec returns returns-2 returns-3 returns-4 running-requires returns-5)
+    tie.close
+    (tie.spec (λ c κs. search needs) returns returns-2 (λ c κs. search needs) returns-3 (λ c κs. search needs) returns-4
+    (λ c κs. search needs) returns-5)

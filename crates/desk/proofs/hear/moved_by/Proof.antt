@@ -1,52 +1,33 @@
 -- `desk::hear::moved_by` meets its contract. Assumes nothing.
+use mathlib.Core.Path.{sym, _∙_}
 use borrow.Author.Tests.{ne-eqb}
 use Rattle.desk.specs.Hear.{movedAs}
 use borrow.Author.Needs.{needs}
 use Rattle.desk.proofs.hear.moved_by.Statement.{statement}
 use Rattle.desk.proofs.hear.moved_by.Tie as tie
 
-completed-requires : tie.Need-completed-requires
-completed-requires c κs = search needs
-
 returns : tie.Need-returns
 unfolding movedAs
-returns c = rw (c .completed .ensures, c .before .before .before .if1 .taken, c .before .if2 .taken)
-
-aborted-requires : tie.Need-aborted-requires
-aborted-requires c κs = search needs
+returns c = rw (c .completed .ensures, sym (c .before .before .pair-of .ensures) ∙ c .before .match .keys1)
 
 returns-2 : tie.Need-returns-2
 unfolding movedAs
-returns-2 c = rw (c .aborted .ensures, c .before .before .before .before .before .if1 .taken, c .before .if3 .taken)
+returns-2 c = rw (c .aborted .ensures, sym (c .before .before .pair-of .ensures) ∙ c .before .match .keys2)
 
 returns-3 : tie.Need-returns-3
 unfolding movedAs
-returns-3 c = rw (c .before .before .before .before .if1 .taken, ne-eqb _ _ (c .before .before .if2 .left), ne-eqb _ _ (c .if3 .left))
-
-read-status-requires : tie.Need-read-status-requires
-read-status-requires c κs = search needs
-
-reported-requires : tie.Need-reported-requires
-reported-requires c κs = search needs
+returns-3 c =
+    let q = c .before in
+    rw (c .reported .ensures, q .read-status .ensures, sym (q .before .before .pair-of .ensures) ∙ q .before .match .keys3)
 
 returns-4 : tie.Need-returns-4
 unfolding movedAs
-returns-4 c = rw (c .reported .ensures, c .before .read-status .ensures, ne-eqb _ _ (c .before .before .before .before .if1 .left), c .before .before .if4 .taken)
-
-returns-5 : tie.Need-returns-5
-unfolding movedAs
-returns-5 c = rw (ne-eqb _ _ (c .before .before .if1 .left), ne-eqb _ _ (c .if4 .left))
+returns-4 c =
+    let n = c .match .rest in
+    rw (← c .before .pair-of .ensures, ne-eqb _ 0x060F (n .0 .0 .1), ne-eqb _ 0x061E (n .0 .1), ne-eqb _ 0x040F (n .1))
 
 pub moved-by-spec : {M : Type 1} → statement M
 moved-by-spec =
     tie.close
-    (tie.spec
-    completed-requires
-    returns
-    aborted-requires
-    returns-2
-    returns-3
-    read-status-requires
-    reported-requires
-    returns-4
-    returns-5)
+    (tie.spec (λ c κs. search needs) (λ c κs. search needs) (λ c κs. search needs) (λ c κs. search needs) (λ c κs. search needs)
+    returns returns-2 returns-3 returns-4)

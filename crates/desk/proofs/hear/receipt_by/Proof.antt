@@ -1,6 +1,5 @@
 -- `desk::hear::receipt_by` meets its contract. Assumes nothing.
 use mathlib.Core.Path.{sym, _∙_}
-use Rattle.desk_rules.specs.Lanes.{toldReceipt}
 use Rattle.desk.proofs.HearLaws.{receipt-kind}
 use borrow.Author.Needs.{needs}
 use Rattle.desk.proofs.hear.receipt_by.Statement.{statement}
@@ -10,12 +9,10 @@ returns : tie.Need-returns
 returns c = rw (receipt-kind, sym (c .before .is-reversal .ensures) ∙ c .if1 .taken)
 
 returns-2 : tie.Need-returns-2
-unfolding toldReceipt
 returns-2 c =
     let i = c .before .before in rw (receipt-kind, sym (i .before .is-reversal .ensures) ∙ i .if1 .left, c .enum-told .given .1)
 
 returns-3 : tie.Need-returns-3
-unfolding toldReceipt
 returns-3 c =
     let i = c .before .before .before in rw (receipt-kind, sym (i .before .is-reversal .ensures) ∙ i .if1 .left, c .before .told .given .1)
 

@@ -1,21 +1,21 @@
--- `desk::memory::last_line` meets its contract. Assumes nothing.
+-- `desk::memory::last_line` meets its contract. The loop's invariant: `last` is the last line that the reference looks at among the
+-- first `i`, or blank. Assumes nothing.
 use mathlib.Core.Path.{_≡_, sym, _∙_}
 use mathlib.Core.Logic.{⊎-elim}
 use Prim.Native.Nat.{_≤_, _<_, _-_}
 use native.Mathlib.Omega.{arith}
 use lib.ListN.{length, getD, take}
 use Rattle.desk_rules.specs.Lanes.{blankLine}
-use Rattle.desk_rules.specs.Course.{concerns, lastFrom, lastLine}
+use Rattle.desk_rules.specs.Openings.{concerns, lastFrom, lastLine}
 use Rattle.desk_rules.proofs.Sums.{last-take}
 use Rattle.desk.proofs.memory.last_line.Statement.{statement}
 use Rattle.desk.proofs.memory.last_line.Tie as tie
 
--- last is the last line among the first i
 abbrev Inv-loop : tie.InvT-loop
-Inv-loop lane receipt b count last₀ i₀ last i = (i ≤ count) × (last ≡ lastLine lane receipt (take i (b .lines)))
+Inv-loop lane reference b count last₀ i₀ last i = (i ≤ count) × (last ≡ lastLine lane reference (take i (b .lines)))
 
 abbrev μ-loop : tie.MeasureT-loop
-μ-loop lane receipt b count last₀ i₀ last i = count - i
+μ-loop lane reference b count last₀ i₀ last i = count - i
 
 blank-requires : tie.Need-blank-requires Inv-loop μ-loop
 blank-requires c κs = tt
@@ -46,9 +46,9 @@ loop-again c =
     let i = q .loop .i in
     let l = getD (a .t1 .lines) i blankLine in
     let h : i < length (a .t1 .lines) = omega arith in
-    let e : concerns (a .lane) (a .receipt) l ≡ c .before .concerns .result = sym (c .before .concerns .ensures) in (
+    let e : concerns (a .lane) (a .reference) l ≡ c .before .concerns .result = sym (c .before .concerns .ensures) in (
       omega arith,
-      rw (last-take (a .lane) (a .receipt) (a .t1 .lines) i h, e)
+      rw (last-take (a .lane) (a .reference) (a .t1 .lines) i h, e)
           (⊎-elim (λ w. rw (w .0 .taken) (w .1)) (λ w. rw (w .0 .left) (w .1 ∙ q .loop .inv .1)) (c .if1 .came)),
     )
 

@@ -1,4 +1,5 @@
 -- `desk::memory::moved` meets its contract. Assumes nothing.
+use Rattle.desk.proofs.CallLaws.{line-placed}
 use Rattle.desk_rules.specs.Memory.{movedDesk}
 use borrow.Author.Needs.{needs}
 use Rattle.desk.proofs.memory.moved.Statement.{statement}
@@ -32,7 +33,11 @@ ending-line-requires : tie.Need-ending-line-requires
 ending-line-requires c κs = search needs
 
 ended-requires : tie.Need-ended-requires
-ended-requires c κs = search needs
+ended-requires c κs =
+    let m = c .before .before .before in
+    let q = m .before .before in
+    let e = m .m2 .given .0 in
+    (q .pre .0, λ b. line-placed (q .args .t1) (q .args .lane) (e .0) (e .1 .0) (e .1 .1 .0) (rw (m .m2 .given .1) at (q .pre .1)) (rw (c .ending-line .ensures) at b))
 
 returns : tie.Need-returns
 unfolding movedDesk

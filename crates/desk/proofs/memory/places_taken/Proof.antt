@@ -1,25 +1,30 @@
--- `desk::memory::places_in` meets its contract. Assumes nothing.
+-- `desk::memory::places_taken` meets its contract. The loop's invariant: `n` is the places that the first `i` lanes take. Assumes
+-- nothing.
 use mathlib.Core.Path.{_≡_, _∙_, ap}
 use Prim.Native.Nat.{_≤_, _-_}
 use native.Mathlib.Omega.{arith}
 use lib.ListN.{take}
 use lib.Seq.{take-all}
-use Rattle.desk_rules.specs.Desk.{laneAt, place, places}
+use Rattle.desk_rules.specs.Desk.{laneAt, placesTaken}
+use Rattle.desk_rules.specs.Lanes.{placeTaken}
+use Rattle.desk_rules.specs.Numbers.{laneCount}
 use Rattle.desk_rules.proofs.Memory.{place-most}
 use Rattle.desk_rules.proofs.Sums.{places-take, places-most}
-use Rattle.desk.proofs.memory.places_in.Statement.{statement}
-use Rattle.desk.proofs.memory.places_in.Tie as tie
+use Rattle.desk.proofs.memory.places_taken.Statement.{statement}
+use Rattle.desk.proofs.memory.places_taken.Tie as tie
 
--- n is the places of the first i lanes
 abbrev Inv-loop : tie.InvT-loop
-Inv-loop d n₀ i₀ n i = (i ≤ 8) × (n ≡ places (take i (d .lanes)))
+Inv-loop d n₀ i₀ n i = (i ≤ laneCount) × (n ≡ placesTaken (take i (d .lanes)))
 
 abbrev μ-loop : tie.MeasureT-loop
-μ-loop d n₀ i₀ n i = 8 - i
+μ-loop d n₀ i₀ n i = laneCount - i
 
 loop-holds : tie.Need-loop-holds Inv-loop μ-loop
-unfolding places
+unfolding placesTaken
 loop-holds c = omega arith
+
+cast-loop : tie.Need-cast-loop Inv-loop μ-loop
+cast-loop c = omega arith
 
 mul-l : tie.Need-mul-l Inv-loop μ-loop
 mul-l c = omega arith
@@ -27,14 +32,14 @@ mul-l c = omega arith
 element-copy-out-l : tie.Need-element-copy-out-l Inv-loop μ-loop
 element-copy-out-l c = omega arith
 
-place-requires : tie.Need-place-requires Inv-loop μ-loop
-place-requires c κs = tt
+place-taken-requires : tie.Need-place-taken-requires Inv-loop μ-loop
+place-taken-requires c κs = tt
 
 add-n : tie.Need-add-n Inv-loop μ-loop
 add-n c =
     let d = c .before .before .before .before .args .t1 in
     let i = c .before .before .before .loop .i in
-    let e : c .place .result ≡ place (laneAt (d .lanes) i) = c .place .ensures in
+    let e : c .place-taken .result ≡ placeTaken (laneAt (d .lanes) i) = c .place-taken .ensures in
     omega (arith, place-most (laneAt (d .lanes) i), places-most i (d .lanes))
 
 add-i : tie.Need-add-i Inv-loop μ-loop
@@ -47,24 +52,25 @@ loop-again : tie.Need-loop-again Inv-loop μ-loop
 loop-again c =
     let d = c .before .before .before .before .args .t1 in
     let i = c .before .before .before .loop .i in
-    let e : c .place .result ≡ place (laneAt (d .lanes) i) = c .place .ensures in
+    let e : c .place-taken .result ≡ placeTaken (laneAt (d .lanes) i) = c .place-taken .ensures in
     omega (arith, places-take (d .lanes) i (omega arith))
 
 returns : tie.Need-returns Inv-loop μ-loop
 returns c =
     let ls = c .before .before .args .t1 .lanes in
-    c .before .loop .inv .1 ∙ ap places (take-all (c .before .loop .i) ls (omega arith))
+    c .before .loop .inv .1 ∙ ap placesTaken (take-all (c .before .loop .i) ls (omega arith))
 
-pub places-in-spec : {M : Type 1} → statement M
-places-in-spec =
+pub places-taken-spec : {M : Type 1} → statement M
+places-taken-spec =
     tie.close
     (tie.spec
     Inv-loop
     μ-loop
     loop-holds
+    cast-loop
     mul-l
     element-copy-out-l
-    place-requires
+    place-taken-requires
     add-n
     add-i
     loop-less

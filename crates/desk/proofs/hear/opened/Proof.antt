@@ -1,0 +1,36 @@
+-- `desk::hear::opened` meets its contract. Assumes nothing.
+use mathlib.Core.Path.{_≡_, sym, _∙_}
+use mathlib.Core.Bool.{true}
+use borrow.Author.Tests.{not-true, not-false}
+use Rattle.desk_rules.specs.Kinds.{isIdle}
+use Rattle.desk_rules.specs.Course.{openedBy}
+use borrow.Author.Needs.{needs}
+use Rattle.desk.proofs.hear.opened.Statement.{statement}
+use Rattle.desk.proofs.hear.opened.Tie as tie
+
+idle : (c : tie.Else1) → isIdle (c .before .before .args .l .phase) ≡ true
+idle c = sym (c .before .is-idle .ensures) ∙ not-false _ (c .if1 .left)
+
+returns : tie.Need-returns
+unfolding openedBy
+returns c = c .refused .ensures ∙ rw (sym (c .before .before .is-idle .ensures) ∙ not-true _ (c .before .if1 .taken))
+
+returns-2 : tie.Need-returns-2
+unfolding openedBy
+returns-2 c =
+    let q = c .before .before in
+    c .refused2 .ensures ∙ rw (idle (q .before), sym (q .within-limits .ensures) ∙ not-true _ (c .before .if2 .taken))
+
+returns-3 : tie.Need-returns-3
+unfolding openedBy
+returns-3 c =
+    let q = c .before .before .before in
+    let w = q .before in
+    c .standing .ensures
+    ∙ rw (idle (w .before), sym (w .within-limits .ensures) ∙ not-false _ (q .if2 .left), c .before .before .reference .ensures, c .before .lane .ensures)
+
+pub opened-spec : {M : Type 1} → statement M
+opened-spec =
+    tie.close
+    (tie.spec (λ c κs. search needs) (λ c κs. search needs) returns (λ c κs. search needs) (λ c κs. search needs) returns-2
+    (λ c κs. search needs) (λ c κs. search needs) (λ c κs. search needs) returns-3)
