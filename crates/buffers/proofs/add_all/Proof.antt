@@ -15,9 +15,6 @@ Inv-loop v at out₀ to₀ i₀ out to i = (length out ≡ length out₀) × (wr
 abbrev μ-loop : tie.MeasureT-loop
 μ-loop v at out₀ to₀ i₀ out to i = length v - i
 
-loop-holds : tie.Need-loop-holds Inv-loop μ-loop
-loop-holds c = (refl, refl)
-
 loop-again : tie.Need-loop-again Inv-loop μ-loop
 loop-again c =
     let at = c .before .before .before .before .before .before in
@@ -27,23 +24,11 @@ loop-again c =
     let k = c .before .before .add .ensures in
     (ap (λ (x : Text). length (x .bytes)) k ∙ write-room _ t ∙ at .loop .inv .0, cc (k, write-step v (at .loop .i) t h))
 
-same-length : tie.Need-same-length Inv-loop μ-loop
-same-length c = c .before .loop .inv .0
-
 returns : tie.Need-returns Inv-loop μ-loop
 returns c = let at = c .before in sym (write-none (at .before .before .before .args .v .now) (at .loop .i) _ (omega arith)) ∙ at .loop .inv .1
 
 pub add-all-spec : {M : Type 1} → statement M
 add-all-spec =
     tie.close
-    (tie.spec
-    Inv-loop
-    μ-loop
-    loop-holds
-    (λ c. search needs)
-    (λ c κs. search needs)
-    (λ c. search needs)
-    (λ c. search needs)
-    loop-again
-    same-length
-    returns)
+    (tie.spec Inv-loop μ-loop (λ c. (refl, refl)) (λ c. search needs) (λ c κs. search needs) (λ c. search needs)
+    (λ c. search needs) loop-again (λ c. c .before .loop .inv .0) returns)

@@ -17,12 +17,6 @@ returns c =
     let n : length (linesOfDesk d) ≡ d .book .count = length-take-le _ _ (omega arith) in
     rw (n, le-ltb (c .before .before .args .k) (d .book .count) (c .if1 .taken))
 
-mul-t4 : tie.Need-mul-t4
-mul-t4 c = search needs
-
-element-copy-out-t8 : tie.Need-element-copy-out-t8
-element-copy-out-t8 c = search needs
-
 returns-2 : tie.Need-returns-2
 unfolding lineAnswer
 returns-2 c =
@@ -32,4 +26,4 @@ returns-2 c =
     rw (n, lt-ltb k (d .book .count) (c .before .if1 .left), getD-take (d .book .count) (d .book .lines) k blankLine (c .before .if1 .left))
 
 pub line-at-spec : {M : Type 1} → statement M
-line-at-spec = tie.close (tie.spec returns mul-t4 element-copy-out-t8 returns-2)
+line-at-spec = tie.close (tie.spec returns (λ c. search needs) (λ c. search needs) returns-2)

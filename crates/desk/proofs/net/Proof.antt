@@ -40,15 +40,6 @@ loop-holds : tie.Need-loop-holds Inv-loop μ-loop
 unfolding gains losses
 loop-holds c = omega arith
 
-mul-l : tie.Need-mul-l Inv-loop μ-loop
-mul-l c = omega arith
-
-element-copy-out-l : tie.Need-element-copy-out-l Inv-loop μ-loop
-element-copy-out-l c = omega arith
-
-gain-requires : tie.Need-gain-requires Inv-loop μ-loop
-gain-requires c κs = tt
-
 add-plus : tie.Need-add-plus Inv-loop μ-loop
 add-plus c =
     let q = c .before .before .before in
@@ -56,21 +47,12 @@ add-plus c =
     let e : c .gain .result ≡ gainOf (getD (desk q .book .lines) i blankLine) = c .gain .ensures in
     omega (arith, gain-small (desk q) (valid q) i, gains-most (desk q) (valid q) i)
 
-loss-requires : tie.Need-loss-requires Inv-loop μ-loop
-loss-requires c κs = tt
-
 add-minus : tie.Need-add-minus Inv-loop μ-loop
 add-minus c =
     let q = c .before .before .before .before in
     let i = q .loop .i in
     let e : c .loss .result ≡ lossOf (getD (desk q .book .lines) i blankLine) = c .loss .ensures in
     omega (arith, loss-small (desk q) (valid q) i, losses-most (desk q) (valid q) i)
-
-add-i : tie.Need-add-i Inv-loop μ-loop
-add-i c = omega arith
-
-loop-less : tie.Need-loop-less Inv-loop μ-loop
-loop-less c = omega arith
 
 loop-again : tie.Need-loop-again Inv-loop μ-loop
 loop-again c =
@@ -80,12 +62,6 @@ loop-again c =
     let e : c .loss .result ≡ lossOf (getD ls i blankLine) = c .loss .ensures in
     let e′ : c .before .gain .result ≡ gainOf (getD ls i blankLine) = c .before .gain .ensures in
     omega (arith, gains-take ls i (omega arith), losses-take ls i (omega arith))
-
-cast-result : tie.Need-cast-result Inv-loop μ-loop
-cast-result c = record { sfits = small c .0 }
-
-cast-result-2 : tie.Need-cast-result-2 Inv-loop μ-loop
-cast-result-2 c = record { sfits = small c .1 }
 
 sub-result : tie.Need-sub-result Inv-loop μ-loop
 sub-result c =
@@ -105,20 +81,6 @@ returns c =
 pub net-spec : {M : Type 1} → statement M
 net-spec =
     tie.close
-    (tie.spec
-    Inv-loop
-    μ-loop
-    loop-holds
-    mul-l
-    element-copy-out-l
-    gain-requires
-    add-plus
-    loss-requires
-    add-minus
-    add-i
-    loop-less
-    loop-again
-    cast-result
-    cast-result-2
-    sub-result
-    returns)
+    (tie.spec Inv-loop μ-loop loop-holds (λ c. omega arith) (λ c. omega arith) (λ c κs. tt) add-plus (λ c κs. tt)
+    add-minus (λ c. omega arith) (λ c. omega arith) loop-again (λ c. record { sfits = small c .0 })
+    (λ c. record { sfits = small c .1 }) sub-result returns)

@@ -1,8 +1,7 @@
 -- `desk::open` meets its contract. Assumes nothing.
 use mathlib.Core.Path.{_≡_, sym, ap, _∙_}
-use mathlib.Core.Bool.{false, _&&_}
-use Prim.Native.Nat.{_<_, _≤_}
-use lib.Dec.{leb}
+use mathlib.Core.Bool.{false}
+use Prim.Native.Nat.{_<_}
 use lib.ListN.{length}
 use Rattle.desk_rules.specs.declared.Reference.{Reference}
 use Rattle.desk_rules.specs.declared.Reply.the-variants.{Written}

@@ -1,11 +1,11 @@
 -- `desk::terminal` meets its contract. Assumes nothing.
 use mathlib.Core.Path.{_≡_, refl, sym, ap, _∙_}
-use Prim.Native.Nat.{ℕ, _<_, _≤_}
+use Prim.Native.Nat.{_<_}
 use lib.ListN.{length}
 use Rattle.zvt_rules.specs.Grammar.{Bytes}
 use Rattle.desk_rules.specs.declared.Reply.the-variants.{Written}
 use Rattle.desk_rules.specs.Numbers.{laneCount}
-use Rattle.desk_rules.specs.Course.{heard, answered, message, laneOf, needsPlace, NumbersFit, moves, writes}
+use Rattle.desk_rules.specs.Course.{heard, message, laneOf, needsPlace, NumbersFit, moves, writes}
 use Rattle.desk_rules.specs.Desk.{laneAt, accept, decide}
 use Rattle.desk_rules.specs.Memory.{view, movedDesk}
 use Rattle.desk_rules.proofs.Calls.{Passes}

@@ -24,9 +24,6 @@ Inv-loop s at out₀ to₀ k₀ out to k =
 abbrev μ-loop : tie.MeasureT-loop
 μ-loop s at out₀ to₀ k₀ out to k = length s - k
 
-loop-holds : tie.Need-loop-holds Inv-loop μ-loop
-loop-holds c = (refl, rw (message-ids _))
-
 returns : tie.Need-returns Inv-loop μ-loop
 unfolding fieldAnswer
 returns c =
@@ -58,19 +55,6 @@ returns-2 c =
 pub add-ids-spec : {M : Type 1} → statement M
 add-ids-spec =
     tie.close
-    (tie.spec
-    Inv-loop
-    μ-loop
-    loop-holds
-    (λ c κs. search needs)
-    (λ c. search needs)
-    (λ c. search needs)
-    returns
-    (λ c. search needs)
-    (λ c κs. search needs)
-    (λ c κs. search needs)
-    (λ c. search needs)
-    (λ c. search needs)
-    loop-again
-    (λ c. search needs)
-    returns-2)
+    (tie.spec Inv-loop μ-loop (λ c. (refl, rw (message-ids _))) (λ c κs. search needs) (λ c. search needs)
+    (λ c. search needs) returns (λ c. search needs) (λ c κs. search needs) (λ c κs. search needs) (λ c. search needs)
+    (λ c. search needs) loop-again (λ c. search needs) returns-2)

@@ -5,21 +5,9 @@ use borrow.Author.Needs.{needs}
 use Rattle.desk.proofs.hear.completed.Statement.{statement}
 use Rattle.desk.proofs.hear.completed.Tie as tie
 
-enum-told : tie.Need-enum-told
-enum-told c = search needs
-
-enum-known-code : tie.Need-enum-known-code
-enum-known-code c = search needs
-
 returns : tie.Need-returns
 unfolding completedBy
 returns c = rw (c .before .before .code .given .1, ne-eqb _ _ (c .if1 .taken))
-
-amount-by-requires : tie.Need-amount-by-requires
-amount-by-requires c κs = search needs
-
-settled-as-requires : tie.Need-settled-as-requires
-settled-as-requires c κs = search needs
 
 returns-2 : tie.Need-returns-2
 unfolding completedBy
@@ -32,11 +20,5 @@ returns-3 c = rw (c .settled-as .ensures, c .before .amount-by .ensures, c .befo
 pub completed-spec : {M : Type 1} → statement M
 completed-spec =
     tie.close
-    (tie.spec
-    enum-told
-    enum-known-code
-    returns
-    amount-by-requires
-    settled-as-requires
-    returns-2
+    (tie.spec (λ c. search needs) (λ c. search needs) returns (λ c κs. search needs) (λ c κs. search needs) returns-2
     returns-3)

@@ -4,12 +4,9 @@ use borrow.Author.Needs.{needs}
 use Rattle.desk.proofs.hear.ending_line.Statement.{statement}
 use Rattle.desk.proofs.hear.ending_line.Tie as tie
 
-receipt-by-requires : tie.Need-receipt-by-requires
-receipt-by-requires c κs = search needs
-
 returns : tie.Need-returns
 unfolding lineAt
 returns c = rw (c .receipt-by .ensures)
 
 pub ending-line-spec : {M : Type 1} → statement M
-ending-line-spec = tie.close (tie.spec receipt-by-requires returns)
+ending-line-spec = tie.close (tie.spec (λ c κs. search needs) returns)

@@ -16,23 +16,8 @@ read-got : (c : tie.After-m) → ReadIn (c .m .given .0 .0) (c .before .before .
 unfolding ReadIn
 read-got c = sym (c .before .before .read .ensures) ∙ c .m .given .1
 
-in-course-requires : tie.Need-in-course-requires
-in-course-requires c κs = search needs
-
 returns : tie.Need-returns
 returns c = c .refused .ensures ∙ sym (running-refused _ _ _ (sym (c .before .before .in-course .ensures) ∙ not-true _ (c .before .if1 .taken)))
-
-read-requires : tie.Need-read-requires
-read-requires c κs = search needs
-
-enum-known-r : tie.Need-enum-known-r
-enum-known-r c = search needs
-
-enum-known-m : tie.Need-enum-known-m
-enum-known-m c = search needs
-
-moved-by-requires : tie.Need-moved-by-requires
-moved-by-requires c κs = read-got (c .before)
 
 returns-2 : tie.Need-returns-2
 returns-2 c =
@@ -47,13 +32,5 @@ returns-3 c =
 pub heard-running-spec : {M : Type 1} → statement M
 heard-running-spec =
     tie.close
-    (tie.spec
-    in-course-requires
-    (λ c κs. search needs)
-    returns
-    read-requires
-    enum-known-r
-    enum-known-m
-    moved-by-requires
-    returns-2
-    returns-3)
+    (tie.spec (λ c κs. search needs) (λ c κs. search needs) returns (λ c κs. search needs) (λ c. search needs)
+    (λ c. search needs) (λ c κs. read-got (c .before)) returns-2 returns-3)

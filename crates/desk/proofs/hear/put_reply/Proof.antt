@@ -5,15 +5,6 @@ use borrow.Author.Needs.{needs}
 use Rattle.desk.proofs.hear.put_reply.Statement.{statement}
 use Rattle.desk.proofs.hear.put_reply.Tie as tie
 
-slice-aggregate-copy : tie.Need-slice-aggregate-copy
-slice-aggregate-copy c = search needs
-
-copy-requires : tie.Need-copy-requires
-copy-requires c κs = search needs
-
-same-length : tie.Need-same-length
-same-length c = search needs
-
 returns : tie.Need-returns
 unfolding replied
 returns c = rw (c .before .before .before .before .before .if1 .taken) (c .before .before .copy .ensures .1)
@@ -23,5 +14,4 @@ unfolding replied
 returns-2 c = rw (ne-eqb _ _ (c .if1 .left))
 
 pub put-reply-spec : {M : Type 1} → statement M
-put-reply-spec =
-    tie.close (tie.spec slice-aggregate-copy copy-requires same-length returns returns-2)
+put-reply-spec = tie.close (tie.spec (λ c. search needs) (λ c κs. search needs) (λ c. search needs) returns returns-2)

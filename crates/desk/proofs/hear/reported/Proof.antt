@@ -8,15 +8,6 @@ use borrow.Author.Needs.{needs}
 use Rattle.desk.proofs.hear.reported.Statement.{statement}
 use Rattle.desk.proofs.hear.reported.Tie as tie
 
-enum-told : tie.Need-enum-told
-enum-told c = search needs
-
-enum-told-2 : tie.Need-enum-told-2
-enum-told-2 c = search needs
-
-reported-requires : tie.Need-reported-requires
-reported-requires c κs = search needs
-
 returns : tie.Need-returns
 unfolding reportedAs reportedBy
 returns c = rw (c .enum-told .given .1)
@@ -25,4 +16,4 @@ returns-2 : tie.Need-returns-2
 returns-2 c = ap Becomes (c .reported .ensures) ∙ sym (reported-code _ _ _ (c .before .enum-told2 .given .1))
 
 pub reported-spec : {M : Type 1} → statement M
-reported-spec = tie.close (tie.spec enum-told enum-told-2 reported-requires returns returns-2)
+reported-spec = tie.close (tie.spec (λ c. search needs) (λ c. search needs) (λ c κs. search needs) returns returns-2)

@@ -17,27 +17,9 @@ Inv-loop lane reference b count last₀ i₀ last i = (i ≤ count) × (last ≡
 abbrev μ-loop : tie.MeasureT-loop
 μ-loop lane reference b count last₀ i₀ last i = count - i
 
-blank-requires : tie.Need-blank-requires Inv-loop μ-loop
-blank-requires c κs = tt
-
 loop-holds : tie.Need-loop-holds Inv-loop μ-loop
 unfolding lastLine lastFrom
 loop-holds c = (omega arith, c .blank .ensures)
-
-mul-l : tie.Need-mul-l Inv-loop μ-loop
-mul-l c = omega arith
-
-element-copy-out-l : tie.Need-element-copy-out-l Inv-loop μ-loop
-element-copy-out-l c = omega arith
-
-concerns-requires : tie.Need-concerns-requires Inv-loop μ-loop
-concerns-requires c κs = tt
-
-add-i : tie.Need-add-i Inv-loop μ-loop
-add-i c = omega arith
-
-loop-less : tie.Need-loop-less Inv-loop μ-loop
-loop-less c = omega arith
 
 loop-again : tie.Need-loop-again Inv-loop μ-loop
 loop-again c =
@@ -60,15 +42,5 @@ returns c =
 pub last-line-spec : {M : Type 1} → statement M
 last-line-spec =
     tie.close
-    (tie.spec
-    Inv-loop
-    μ-loop
-    blank-requires
-    loop-holds
-    mul-l
-    element-copy-out-l
-    concerns-requires
-    add-i
-    loop-less
-    loop-again
-    returns)
+    (tie.spec Inv-loop μ-loop (λ c κs. tt) loop-holds (λ c. omega arith) (λ c. omega arith) (λ c κs. tt)
+    (λ c. omega arith) (λ c. omega arith) loop-again returns)

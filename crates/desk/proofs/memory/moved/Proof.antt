@@ -5,33 +5,6 @@ use borrow.Author.Needs.{needs}
 use Rattle.desk.proofs.memory.moved.Statement.{statement}
 use Rattle.desk.proofs.memory.moved.Tie as tie
 
-enum-told : tie.Need-enum-told
-enum-told c = search needs
-
-enum-told-2 : tie.Need-enum-told-2
-enum-told-2 c = search needs
-
-enum-known-m : tie.Need-enum-known-m
-enum-known-m c = search needs
-
-mul-l : tie.Need-mul-l
-mul-l c = search needs
-
-element-set-from-l : tie.Need-element-set-from-l
-element-set-from-l c = search needs
-
-enum-known-m-2 : tie.Need-enum-known-m-2
-enum-known-m-2 c = search needs
-
-mul-l-2 : tie.Need-mul-l-2
-mul-l-2 c = search needs
-
-element-copy-out-l : tie.Need-element-copy-out-l
-element-copy-out-l c = search needs
-
-ending-line-requires : tie.Need-ending-line-requires
-ending-line-requires c κs = search needs
-
 ended-requires : tie.Need-ended-requires
 ended-requires c κs =
     let m = c .before .before .before in
@@ -58,18 +31,6 @@ returns-4 c = rw (c .before .before .before .before .m2 .given .1, c .ended .ens
 pub moved-spec : {M : Type 1} → statement M
 moved-spec =
     tie.close
-    (tie.spec
-    enum-told
-    enum-told-2
-    enum-known-m
-    mul-l
-    element-set-from-l
-    enum-known-m-2
-    mul-l-2
-    element-copy-out-l
-    ending-line-requires
-    ended-requires
-    returns
-    returns-2
-    returns-3
-    returns-4)
+    (tie.spec (λ c. search needs) (λ c. search needs) (λ c. search needs) (λ c. search needs) (λ c. search needs)
+    (λ c. search needs) (λ c. search needs) (λ c. search needs) (λ c κs. search needs) ended-requires returns returns-2
+    returns-3 returns-4)

@@ -23,30 +23,12 @@ loop-holds : tie.Need-loop-holds Inv-loop μ-loop
 unfolding placesTaken
 loop-holds c = omega arith
 
-cast-loop : tie.Need-cast-loop Inv-loop μ-loop
-cast-loop c = omega arith
-
-mul-l : tie.Need-mul-l Inv-loop μ-loop
-mul-l c = omega arith
-
-element-copy-out-l : tie.Need-element-copy-out-l Inv-loop μ-loop
-element-copy-out-l c = omega arith
-
-place-taken-requires : tie.Need-place-taken-requires Inv-loop μ-loop
-place-taken-requires c κs = tt
-
 add-n : tie.Need-add-n Inv-loop μ-loop
 add-n c =
     let d = c .before .before .before .before .args .t1 in
     let i = c .before .before .before .loop .i in
     let e : c .place-taken .result ≡ placeTaken (laneAt (d .lanes) i) = c .place-taken .ensures in
     omega (arith, place-most (laneAt (d .lanes) i), places-most i (d .lanes))
-
-add-i : tie.Need-add-i Inv-loop μ-loop
-add-i c = omega arith
-
-loop-less : tie.Need-loop-less Inv-loop μ-loop
-loop-less c = omega arith
 
 loop-again : tie.Need-loop-again Inv-loop μ-loop
 loop-again c =
@@ -63,16 +45,5 @@ returns c =
 pub places-taken-spec : {M : Type 1} → statement M
 places-taken-spec =
     tie.close
-    (tie.spec
-    Inv-loop
-    μ-loop
-    loop-holds
-    cast-loop
-    mul-l
-    element-copy-out-l
-    place-taken-requires
-    add-n
-    add-i
-    loop-less
-    loop-again
-    returns)
+    (tie.spec Inv-loop μ-loop loop-holds (λ c. omega arith) (λ c. omega arith) (λ c. omega arith) (λ c κs. tt) add-n
+    (λ c. omega arith) (λ c. omega arith) loop-again returns)
