@@ -46,7 +46,7 @@ abbrev pub toldReceipt : ToldReceipt → ℕ
 toldReceipt no-receipt = 0
 toldReceipt (Receipt r) = r
 
--- P32: "The receipt of a reversal is the one it named; of another kind, .."
+-- P32: "its receipt is the one that a reversal named or, for another kind, field 87"
 unfoldable pub receiptBy : Kind → ℕ → ToldReceipt → ℕ
 receiptBy Sale named told = toldReceipt told
 receiptBy Refund named told = toldReceipt told

@@ -59,7 +59,7 @@ unfoldable pub lastFrom : ℕ → Reference → Line → List Line → Line
 lastFrom i r last [] = last
 lastFrom i r last (l ∷ ls) = lastFrom i r (pick (concerns i r l) l last) ls
 
--- "the last" of them, or a blank one where there is none
+-- P12: "the last" of them, or a blank one where there is none
 unfoldable pub lastLine : ℕ → Reference → List Line → Line
 lastLine i r ls = lastFrom i r blankLine ls
 

@@ -60,8 +60,8 @@ unfoldable pub flattened : List (List Call) → List Call
 flattened [] = []
 flattened (cs ∷ css) = cs ++ flattened css
 
--- The third demand: "each payment's calls in their own order, first the ended payments one after another in the order in which they ended, then the
--- calls of each payment still open, lane by lane"
+-- The third demand: "each payment's calls in their own order, first the ended payments one after another in the order in which they
+-- ended, then the calls of each payment still open, lane by lane"
 unfoldable pub oneByOne : List Call → List Call
 oneByOne cs = flattened (paymentsOf cs .ended) ++ flattened (paymentsOf cs .ongoing)
 

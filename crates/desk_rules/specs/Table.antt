@@ -140,7 +140,7 @@ Row s (lost i) room = LosingRow s i room
 abbrev pub FieldIs : List Field → ℕ → ℕ → Type 0
 FieldIs fs id n = (value : List ℕ) × (valueIn id fs ≡ found value) × (numberOf value ≡ n)
 
--- P7: "fields 04 and 49", "Commands name the currency 0978."
+-- P9: "fields 04 and 49". P7: "Commands name the currency 0978."
 abbrev pub MoneyIs : List Field → ℕ → Type 0
 MoneyIs fs amount = FieldIs fs 0x04 amount × (valueIn 0x49 fs ≡ found (0x09 ∷ (0x78 ∷ [])))
 

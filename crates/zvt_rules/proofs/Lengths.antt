@@ -69,7 +69,7 @@ len-sound at (v ∷ s) l b e =
     (λ w f. absurd (got-not-refused (sym f))))) e
 
 -- ---- the shortest form
--- "81 is shortest from 128, 82 from 256.", as the three cases
+-- O7: "Shortest is one byte under 128, 81 from there to 255, 82 from 256.", as the three cases
 for-cases : (P : Form → Type 0) (v : ℕ) → (v < 128 → P bare) → (128 ≤ v → v < 256 → P one) → (256 ≤ v → P two) → P (formFor v)
 unfolding formFor
 for-cases P v a b c =

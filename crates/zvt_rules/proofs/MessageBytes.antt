@@ -217,7 +217,7 @@ read-complete m ok =
 pub read-exactly : (s : List ℕ) (m : Message) → Bytes s → (readOf s ≡ got m) ↔ ((messageBytes m ≡ s) × MessageOk m)
 read-exactly s m b = (read-sound s m b, λ k. rw (← (k .0)) (read-complete m (k .1)))
 
--- "Data objects in one message at most 64, inner ones counted."
+-- O10: "A message has at most 64 objects, inner ones counted"
 few : (l : Layout) (b : Body) → LayoutOk l b → countBody b ≤ 64
 unfolding LayoutOk FieldsOk countBody
 few l (bytes s) ok = omega arith

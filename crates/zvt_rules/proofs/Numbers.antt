@@ -1,4 +1,4 @@
--- A reading is refused with one of document 01's numbers 1 to 10. Assumes nothing.
+-- A reading is refused with one of the numbers 1 to 10. Assumes nothing.
 use mathlib.Core.Path.{_≡_, refl}
 use mathlib.Core.Bool.{Bool, true, false, _&&_}
 use mathlib.Core.List.{List, [], _∷_}

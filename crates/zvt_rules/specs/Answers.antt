@@ -1,5 +1,4 @@
--- What the functions of crate zvt answer of a message: the definitions of reading and writing, with document 01's numbers. Definitions
--- only.
+-- What the functions of crate zvt answer of a message, by the definitions of reading and writing. Definitions only.
 use Prim.Native.Nat.{ℕ}
 use mathlib.Core.List.{List}
 use lib.ListN.{length}
@@ -22,7 +21,7 @@ use Rattle.zvt_rules.specs.Message.{Heading, headerSize, start, wholeHea
 use Rattle.zvt_rules.specs.Writing.{bodyBytes, messageBytes}
 use Rattle.zvt_rules.specs.Shortest.{isShort, shorten}
 
--- "Each refusal returns its number only"
+-- R31: "A refusal answers its number and nothing else."
 unfoldable pub refusalOf : Fault → Refusal
 refusalOf f = record { number = f .number }
 
@@ -37,7 +36,8 @@ asHeaderAnswer (refused f) = header-refused (refusalOf f)
 unfoldable pub headerAnswer : List ℕ → HeaderAnswer
 headerAnswer s = asHeaderAnswer (wholeHeader s)
 
--- a message in outline. "The reader reports the number of objects, and it is the number that the definition counts."
+-- M9: "The reader reports pair, length of the body, number of data objects (O11), and whether the message is shortest." O11: "The
+-- reported number of objects is what O10 counts."
 unfoldable pub outlineOf : Message → Outline
 outlineOf m =
     record {
@@ -64,7 +64,7 @@ asFirstAnswer (refused f) = first-refused (refusalOf f)
 unfoldable pub firstAnswer : List ℕ → FirstAnswer
 firstAnswer s = asFirstAnswer (firstOf s)
 
--- "Reading and shortening: header, body, 11." What is written into so much room
+-- R37: "Shortening: header, body, 11." R38: "shortening needs as many as it writes". What is written into so much room
 unfoldable pub shortened : ℕ → List ℕ → Reading (List ℕ)
 shortened room s = andThen (shorten s) λ w. unless (ltb room (length w)) (noHeader 11) (got w)
 

@@ -1,5 +1,5 @@
--- What a function leaves in a buffer that it is lent: "desk and buffers are unchanged" by a refusal; "Where a call succeeds, buffer
--- bytes beyond those written are unchanged." Definitions only.
+-- What a function leaves in a buffer that it is lent. R32: "A refusal leaves the desk and all lent buffers as they were." R33:
+-- "Success leaves the bytes of a lent buffer behind those written as they were." Definitions only.
 use Prim.Native.Nat.{ℕ}
 use mathlib.Core.List.{List, _++_}
 use lib.ListN.{length, drop}

@@ -6,7 +6,7 @@ use mathlib.Core.List.{List, [], _∷_, _++_}
 abbrev pub twoDigits : ℕ → ℕ
 twoDigits v = v / 10 * 16 + v % 10
 
--- the last digits of n, in so many bytes
+-- P14: "decimal digits, two to a byte, high first, leading zeros kept": the last digits of n, in so many bytes
 unfoldable pub digitBytesOf : ℕ → ℕ → List ℕ
 digitBytesOf zero n = []
 digitBytesOf (suc k) n = digitBytesOf k (n / 100) ++ (twoDigits (n % 100) ∷ [])

@@ -1,5 +1,5 @@
--- Document 01, 'Fields': the format of each id, a field, a list of fields. Definitions only.
--- In every reading, at is the place in the message of the first byte of s.
+-- Fields: the format of each id, a field, a list of fields. Definitions only. In every reading, at is the place in the message of
+-- the first byte of s.
 use Prim.Native.Nat.{ℕ, zero, suc, _+_, _-_, _*_, _/_, _%_}
 use mathlib.Core.Bool.{Bool, true, false, not, _&&_, _||_}
 use mathlib.Core.List.{List, [], _∷_}
@@ -13,8 +13,8 @@ use Rattle.zvt_rules.specs.Objects.{Form, formSize, lenOf, Objs, countOb
 abbrev fromTo : ℕ → ℕ → ℕ → Bool
 fromTo a e id = leb a id && leb id e
 
--- "The format follows from the id over its whole range". Beside document 01's list stand 70 71, 72 to 75, FA FD and 4C, which
--- PA00P015 lays out (chapters 13 and 3.1.1): it decides where the two differ.
+-- F2: "The id alone decides the format. 76 ids are known, every other is unknown". Where PA00P015 13.11 lays a field out (chapters
+-- 13 and 3.1.1), this is its format.
 unfoldable pub formatOf : ℕ → Format
 formatOf id =
     pick (among (0x01 ∷ 0x02 ∷ 0x03 ∷ 0x05 ∷ 0x19 ∷ 0x27 ∷ 0x8A ∷ 0x8C ∷ 0xA0 ∷ 0xD0 ∷ 0xD2 ∷ 0xD3 ∷ 0xE0 ∷ 0xE9 ∷ 0xEA ∷ 0xF0 ∷ 0xF9 ∷ 0xFB ∷ 0xFC ∷ []) id) (Fixed 1)
@@ -37,33 +37,33 @@ unknown (Fixed k) = false
 unknown (Digits d) = false
 unknown Container = false
 
--- "A length digit is a byte F0 to F9, so F1 F6 is 16."
+-- F3: "A length digit is one of the bytes F0 to F9; F1 F6 says 16, and the length may be 0."
 abbrev pub lengthDigit : ℕ → Bool
 lengthDigit b = leb 0xF0 b && leb b 0xF9
 
--- "length 1 or 4": d digits more behind those that gave v
+-- R42: "length 1 or 4": d digits more behind those that gave v
 unfoldable pub digitsOf : ℕ → ℕ → ℕ → List ℕ → Reading ℕ
 digitsOf zero v at s = got v
 digitsOf (suc d) v at [] = refused (no 1 at)
 digitsOf (suc d) v at (b ∷ s) = unless (not (lengthDigit b)) (no 4 at) (digitsOf d (v * 10 + (b - 0xF0)) (at + 1) s)
 
--- "decimal digits in both halves of each byte"
+-- F5: "a decimal digit in each half of each byte"
 abbrev pub decimal : ℕ → Bool
 decimal b = leb (b / 16) 9 && leb (b % 16) 9
 
--- 6 at the first byte that is not, else as what follows says
+-- R6 at the first byte that is not, else as what follows says
 unfoldable pub unlessUndecimal : {A : Type 0} → ℕ → List ℕ → Reading A → Reading A
 unlessUndecimal at [] x = x
 unlessUndecimal at (b ∷ s) x = unless (not (decimal b)) (no 6 at) (unlessUndecimal (at + 1) s x)
 
--- "Fields 04, 0B, 37, 49, 87, 88 .. must hold decimal digits .. other values stand as bytes"
+-- F5: "Fields 04, 0B, 37, 49, 87 and 88 .. All other values are just bytes."
 abbrev pub holdsDigits : ℕ → Bool
 holdsDigits id = among (0x04 ∷ 0x0B ∷ 0x37 ∷ 0x49 ∷ 0x87 ∷ 0x88 ∷ []) id
 
 unfoldable pub digitsIn : {A : Type 0} → ℕ → ℕ → List ℕ → Reading A → Reading A
 digitsIn id at value x = pick (holdsDigits id) (unlessUndecimal at value x) x
 
--- A field is its id and its value, or field 06, "container", with the form of its length and its run.
+-- F1: "A field is an id byte and a value." Of field 06, the container, these are the form of its length and its run.
 pub data Field : Type 0 where
   plain : ℕ → List ℕ → Field
   container : Form → Objs → Field
@@ -90,17 +90,18 @@ pub record ListRead : Type 0 where
   pub fields : List Field
   pub count : ℕ
 
--- "value 1": v bytes, which begin at element a of s and end within s
+-- R42: "value 1": v bytes, which begin at element a of s and end within s
 unfoldable pub valueOf : ℕ → ℕ → ℕ → List ℕ → Reading (List ℕ)
 valueOf at a v s = unless (ltb (length s) (a + v)) (no 1 (at + length s)) (got (part a (a + v) s))
 
--- "value 1, digits 6"
+-- R42: "value 1, digits 6"
 unfoldable pub plainOf : ℕ → ℕ → ℕ → ℕ → ℕ → List ℕ → Reading FieldRead
 plainOf id n at a v s =
     andThen (valueOf at a v s) λ value.
     digitsIn id (at + a) value (got (record { field = plain id value; size = a + v; count = n }))
 
--- "A container is a length and that many bytes of objects"; "Objects directly in the container have depth 1", of 4
+-- O1: "A container is a length and a run of objects, none or more, that fills that many bytes." O9: "Objects of the container
+-- itself are at depth 1 .. down to depth 4."
 unfoldable pub containerOf : ℕ → ℕ → List ℕ → Reading FieldRead
 containerOf n at s =
     andThen (lenOf (at + 1) (drop 1 s)) λ l.
@@ -108,20 +109,20 @@ containerOf n at s =
     andThen (runOf 4 n (at + (1 + formSize (l .form))) value) λ r.
     got (record { field = container (l .form) (r .objs); size = 1 + formSize (l .form) + l .value; count = r .count })
 
--- "length 1 or 4, value 1, digits 6, then the container's inside"
+-- R42: "length 1 or 4, value 1, digits 6, then the inside of a container"
 unfoldable pub fieldBy : ℕ → ℕ → ℕ → List ℕ → Format → Reading FieldRead
 fieldBy id n at s Unknown = refused (no 5 at)
 fieldBy id n at s (Fixed k) = plainOf id n at 1 k s
 fieldBy id n at s (Digits d) = andThen (digitsOf d 0 (at + 1) (drop 1 s)) λ v. plainOf id n at (1 + d) v s
 fieldBy id n at s Container = containerOf n at s
 
--- "One id byte, then the value." "A field: 5, 7, .."; seen are the ids of the fields before it
+-- R42: "A field: 5, 7". F4: "No id stands twice in a list."; seen are the ids of the fields before it
 unfoldable pub fieldOf : List ℕ → ℕ → ℕ → List ℕ → Reading FieldRead
 fieldOf seen n at s =
     let id = getD s 0 0 in
     unless (unknown (formatOf id)) (no 5 at) (unless (among seen id) (no 7 at) (fieldBy id n at s (formatOf id)))
 
--- one field after the other, left to right; f bounds their number, which the bytes bound too
+-- F1: "A list is any number of fields, also none." R40: "from left to right"; f bounds their number, which the bytes bound too
 unfoldable pub listBy : ℕ → List ℕ → ℕ → ℕ → List ℕ → Reading ListRead
 listBy zero seen n at s = got (record { fields = []; count = n })
 listBy (suc f) seen n at [] = got (record { fields = []; count = n })

@@ -1,4 +1,4 @@
--- What document 01 says of a message. A reader has to believe these files; they are in the order in which one needs the other.
+-- What the rules say of a message. A reader has to believe these files; they are in the order in which one needs the other.
 pub mod Reading
 pub mod Buffers
 pub mod Objects

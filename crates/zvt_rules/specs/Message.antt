@@ -1,4 +1,4 @@
--- Document 01, 'A message': class byte, instruction byte, length, body. Definitions only.
+-- A message: its header, its body, and what is read of both. Definitions only.
 use Prim.Native.Nat.{ℕ, _+_, _*_}
 use mathlib.Core.Bool.{Bool, true, false}
 use mathlib.Core.List.{List, [], _∷_}
@@ -14,13 +14,13 @@ pub record BodyLength : Type 0 where
   pub long : Bool
   pub value : ℕ
 
--- "FF means that two more bytes hold it, low byte first."
+-- M2: "After FF the next two bytes are the length, low byte first."
 unfoldable pub longLength : List ℕ → Reading BodyLength
 longLength [] = refused (noHeader 1)
 longLength (l ∷ []) = refused (noHeader 1)
 longLength (l ∷ (h ∷ s)) = got (record { long = true; value = h * 256 + l })
 
--- "A length byte 00 to FE is the length."
+-- M2: "A length byte 00 to FE is itself the length."
 unfoldable pub lengthOf : List ℕ → Reading BodyLength
 lengthOf [] = refused (noHeader 1)
 lengthOf (b ∷ s) = pick (eqb b 0xFF) (longLength s) (got (record { long = false; value = b }))
@@ -42,20 +42,21 @@ start h = headerSize (h .long)
 abbrev pub end : Heading → ℕ
 end h = start h + h .size
 
--- "2, 1 for a body cut short"
+-- R39: "2, 1 for a body cut short"
 unfoldable pub headerWith : ℕ → ℕ → List ℕ → BodyLength → Reading Heading
 headerWith class instruction s l =
     unless (ltb 4096 (l .value)) (noHeader 2)
     (unless (ltb (length s) (headerSize (l .long) + l .value)) (noHeader 1)
     (got (record { class = class; instruction = instruction; long = l .long; size = l .value })))
 
--- "A header: 1 for a missing header byte, 2, 1 for a body cut short"
+-- R39: "A header: 1 for a missing byte of pair or length, 2, 1 for a body cut short"
 unfoldable pub headerOf : List ℕ → Reading Heading
 headerOf [] = refused (noHeader 1)
 headerOf (c ∷ []) = refused (noHeader 1)
 headerOf (c ∷ (i ∷ s)) = andThen (lengthOf s) λ l. headerWith c i (c ∷ (i ∷ s)) l
 
--- "A body is a field list after nothing (..), a field list after a 3-byte password of decimal digits (..), or plain bytes"
+-- M5: "The body of 06 01, 04 0F, 06 0F and 06 D3 is a field list." M6: "The body of 06 21, 06 30, 06 31 and 06 50 is a password of
+-- three bytes, then a field list." M7: "The body of every other pair is plain"
 unfoldable pub layoutOf : ℕ → ℕ → Layout
 layoutOf class instruction =
     let pair = class * 256 + instruction in
@@ -67,7 +68,7 @@ pub data Body : Type 0 where
   bytes : List ℕ → Body
   listed : List ℕ → List Field → Body
 
--- "A password: 1, 6."
+-- R41: "A password: 1 where three bytes are not there, then 6."
 unfoldable pub securedOf : ℕ → List ℕ → Reading Body
 securedOf at s =
     unless (ltb (length s) 3) (no 1 (at + length s))
@@ -89,19 +90,19 @@ messageOf s h =
     andThen (bodyOf (start h) (part (start h) (end h) s) (layoutOf (h .class) (h .instruction))) λ b.
     got (record { class = h .class; instruction = h .instruction; long = h .long; body = b })
 
--- the message that s begins with: "header, body"
+-- the message that s begins with. R37: "header, body"
 unfoldable pub firstOf : List ℕ → Reading Message
 firstOf s = andThen (headerOf s) λ h. messageOf s h
 
--- ".., 3": a header behind whose body nothing is left over
+-- R3: "bytes are left over behind the one message": a header behind whose body there are none
 unfoldable pub wholeHeader : List ℕ → Reading Heading
 wholeHeader s = andThen (headerOf s) λ h. unless (ltb (end h) (length s)) (noHeader 3) (got h)
 
--- the message that s is
+-- M8: "Reading takes all the bytes as one message."
 unfoldable pub readOf : List ℕ → Reading Message
 readOf s = andThen (wholeHeader s) λ h. messageOf s h
 
--- "Data objects in one message .. inner ones counted"
+-- O10: "inner ones counted"
 unfoldable pub countBody : Body → ℕ
 countBody (bytes s) = 0
 countBody (listed password fs) = countFields fs

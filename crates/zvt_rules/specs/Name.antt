@@ -1,4 +1,4 @@
--- Document 01, 'Data objects': "The card name for a receipt". Definitions only.
+-- The card name for a receipt. Definitions only.
 use Prim.Native.Nat.{ℕ, _+_}
 use mathlib.Core.List.{List, [], _∷_}
 use lib.ListN.{length}
@@ -10,7 +10,7 @@ use Rattle.zvt_rules.specs.declared.FieldAnswer.the-variants.{Field as l
 use Rattle.zvt_rules.specs.Values.{isStatus}
 use Rattle.zvt_rules.specs.Listed.{listedMessage, namedListed}
 
--- "up to its first zero byte"
+-- M13: "up to its first zero byte, or all of it where there is none"
 unfoldable pub upToZero : List ℕ → List ℕ
 upToZero [] = []
 upToZero (b ∷ s) = pick (eqb b 0) [] (b ∷ upToZero s)
@@ -20,7 +20,7 @@ pub data NameAt : Type 0 where
   own : NameAt
   between : ℕ → ℕ → NameAt
 
--- "the list has no field 8B or the name is empty"
+-- M14: "or have no field 8B, or its name is empty"
 unfoldable pub sizedName : ℕ → ℕ → NameAt
 sizedName a k = pick (eqb k 0) own (between a (a + k))
 
@@ -28,7 +28,7 @@ unfoldable pub nameIn : List ℕ → FieldAnswer → NameAt
 nameIn s End = own
 nameIn s (listed-field l) = sizedName (l .from) (length (upToZero (part (l .from) (l .to) s)))
 
--- "When the bytes are not an accepted 04 0F message .."
+-- M14: "Where the bytes are no accepted 04 0F message". M13: "the value of field 8B of a status information"
 unfoldable pub nameOf : List ℕ → Reading Message → NameAt
 nameOf s (got m) = pick (isStatus m) (nameIn s (namedListed 0x8B (listedMessage (got m)))) own
 nameOf s (refused f) = own
@@ -36,7 +36,7 @@ nameOf s (refused f) = own
 unfoldable pub nameAt : List ℕ → NameAt
 nameAt s = nameOf s (readOf s)
 
--- "the whole of the till's own name, lent beside the message, is the answer"
+-- M14: "the answer is the till's own name, whole, which is lent with the message and may be empty"
 unfoldable pub nameBytes : List ℕ → List ℕ → NameAt → List ℕ
 nameBytes s till own = till
 nameBytes s till (between a e) = part a e s
@@ -44,8 +44,8 @@ nameBytes s till (between a e) = part a e s
 unfoldable pub cardName : List ℕ → List ℕ → List ℕ
 cardName s till = nameBytes s till (nameAt s)
 
--- "Thus the part handed back lies in the status information or in the till's own name, never in a copy." Where it lies, from where
--- those two lie: a block of memory, and a place in it
+-- M15: "What is handed back is a part of the message or of the own name, never a copy." Where it lies, from where those two lie: a
+-- block of memory, and a place in it
 unfoldable pub namePlace : ℕ × ℕ → ℕ × ℕ → NameAt → ℕ × ℕ
 namePlace s till own = till
 namePlace s till (between a e) = (s .0, a + s .1)

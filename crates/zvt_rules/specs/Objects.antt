@@ -1,5 +1,5 @@
--- Document 01, 'Data objects': tag, length, value, and the runs of objects in a container and in an object. Definitions only.
--- In every reading, at is the place in the message of the first byte of s.
+-- Data objects: tag, length, value, and the runs of objects in a container and in an object. Definitions only. In every reading, at
+-- is the place in the message of the first byte of s.
 use Prim.Native.Nat.{ℕ, zero, suc, _+_, _-_, _*_, _/_, _%_}
 use mathlib.Core.Bool.{Bool}
 use mathlib.Core.List.{List, [], _∷_}
@@ -7,19 +7,19 @@ use lib.ListN.{length, getD, take, drop}
 use lib.Dec.{ltb, leb, eqb}
 use Rattle.zvt_rules.specs.Reading.{Reading, got, refused, no, pick, unless, andThen, part}
 
--- "The tag is one byte, or two when the low five bits of the first are all ones"
+-- O3: "A tag has two bytes where the low five bits of its first byte are ones, else one."
 abbrev pub longTag : ℕ → Bool
 longTag b = eqb (b % 32) 31
 
--- "a second byte with its top bit set is refused"
+-- O4: "A second tag byte with its top bit set is refused (8)."
 abbrev pub topBit : ℕ → Bool
 topBit b = leb 128 b
 
--- "Bit 20 (hex) of the first byte says that the value is again a run of objects"
+-- O5: "Bit 20 of the first tag byte, and nothing else, makes the value a run of objects again"
 abbrev pub nested : ℕ → Bool
 nested b = eqb (b / 32 % 2) 1
 
--- "tag 1, 8": how many bytes the tag takes
+-- R43: "tag 1, 8": how many bytes the tag takes
 unfoldable pub secondTag : ℕ → List ℕ → Reading ℕ
 secondTag at [] = refused (no 1 at)
 secondTag at (b ∷ s) = unless (topBit b) (no 8 at) (got 2)
@@ -28,7 +28,7 @@ unfoldable pub tagSize : ℕ → List ℕ → Reading ℕ
 tagSize at [] = refused (no 1 at)
 tagSize at (b ∷ s) = pick (longTag b) (secondTag (at + 1) s) (got 1)
 
--- "A length is 00 to 7F; or 81 and one byte; or 82 and two bytes, high first."
+-- O6: "A length is one byte 00 to 7F; or 81 and one byte; or 82 and two bytes, high byte first."
 pub data Form : Type 0 where
   bare one two : Form
 
@@ -51,7 +51,7 @@ twoByteLen at [] = refused (no 1 at)
 twoByteLen at (h ∷ []) = refused (no 1 (at + 1))
 twoByteLen at (h ∷ (l ∷ s)) = got (record { form = two; value = h * 256 + l })
 
--- "length 1 or 4", "lengths byte by byte"; 4 is "a first length byte 80, 83 to FF"
+-- R43: "length 1 or 4". R40: "a length byte by byte". O8: "A first length byte 80 or 83 to FF is refused (4)."
 unfoldable pub lenOf : ℕ → List ℕ → Reading Len
 lenOf at [] = refused (no 1 at)
 lenOf at (b ∷ s) =
@@ -70,17 +70,17 @@ from h = h .tag + formSize (h .form)
 abbrev pub to : Head → ℕ
 to h = from h + h .value
 
--- "value 1": a value ends within its run
+-- R43: "value 1". O13: "Tag, length and value end within the nearest run or container around them."
 unfoldable pub headWith : ℕ → List ℕ → ℕ → Len → Reading Head
 headWith at s tag l =
     unless (ltb (length s) (tag + formSize (l .form) + l .value)) (no 1 (at + length s))
     (got (record { tag = tag; form = l .form; value = l .value }))
 
--- "An object is tag, length, value."
+-- O2: "An object is a tag, a length and a value of that many bytes."
 unfoldable pub headOf : ℕ → List ℕ → Reading Head
 headOf at s = andThen (tagSize at s) λ tag. andThen (lenOf (at + tag) (drop tag s)) λ l. headWith at s tag l
 
--- An object is the bytes of its tag, the form of its length, and plain bytes or a run of objects. A run may be empty.
+-- An object is the bytes of its tag, the form of its length, and plain bytes or a run of objects, "none or more" (O1).
 mutual
   pub data Obj : Type 0 where
     leaf : List ℕ → Form → List ℕ → Obj
@@ -104,7 +104,7 @@ pub record RunRead : Type 0 where
 abbrev pub RunReader : Type 0
 RunReader = ℕ → ℕ → ℕ → List ℕ → Reading RunRead
 
--- "then its inside"
+-- R43: "then its inside". O5: "read as a part of the same bytes. A value without that bit is never looked into."
 unfoldable pub insideOf : RunReader → ℕ → ℕ → ℕ → List ℕ → Head → Reading OneRead
 insideOf run left n at s h =
     pick (nested (getD s 0 0))
@@ -112,12 +112,12 @@ insideOf run left n at s h =
     got (record { obj = branch (take (h .tag) s) (h .form) (r .objs); size = to h; count = r .count }))
     (got (record { obj = leaf (take (h .tag) s) (h .form) (part (from h) (to h) s); size = to h; count = n + 1 }))
 
--- "An object: 10, 9, tag 1, 8, length 1 or 4, value 1, then its inside."
+-- R43: "An object: 10, 9, tag 1, 8, length 1 or 4, value 1, then its inside."
 unfoldable pub oneBy : RunReader → ℕ → ℕ → ℕ → List ℕ → Reading OneRead
 oneBy run left n at s =
     unless (leb 64 n) (no 10 at) (unless (eqb left 0) (no 9 at) (andThen (headOf at s) λ h. insideOf run left n at s h))
 
--- one object after the other, left to right; f bounds their number, which the bytes bound too
+-- one object after the other, left to right (R40), whatever their tags (O12); f bounds their number, which the bytes bound too
 unfoldable pub runBy : ℕ → ℕ → ℕ → ℕ → List ℕ → Reading RunRead
 runBy zero left n at s = got (record { objs = none; count = n })
 runBy (suc f) left n at [] = got (record { objs = none; count = n })
@@ -134,7 +134,7 @@ runOf left n at s = runBy (length s) left n at s
 unfoldable pub oneOf : ℕ → ℕ → ℕ → List ℕ → Reading OneRead
 oneOf left n at s = oneBy (λ l m p t. runOf l m p t) left n at s
 
--- "inner ones counted"
+-- O10: "inner ones counted"
 unfoldable mutual
   pub countObj : Obj → ℕ
   countObj (leaf tag form value) = 1

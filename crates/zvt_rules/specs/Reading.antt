@@ -11,8 +11,8 @@ pub data Reading (A : Type 0) : Type 0 where
   got : A → Reading A
   refused : Fault → Reading A
 
--- document 01's number, at a place in the message. The places are those of document 02's first request; until it lands the
--- public answers leave them out, as document 01 says: "Each refusal returns its number only".
+-- a number of refusal, at a place in the message. Readings carry the place, so that it is known where the fault lies; the public
+-- answers leave it out. R31: "A refusal answers its number and nothing else."
 abbrev pub no : ℕ → ℕ → Fault
 no number at = record { number = number; place = At at }
 
@@ -30,7 +30,7 @@ unfoldable pub unless : {A : Type 0} → Bool → Fault → Reading A → Readin
 unless true r x = refused r
 unless false r x = x
 
--- what follows uses what was read; the first refusal is the answer
+-- what follows uses what was read. R40: "the first refusal is the answer"
 unfoldable pub andThen : {A B : Type 0} → Reading A → (A → Reading B) → Reading B
 andThen (got a) f = f a
 andThen (refused r) f = refused r

@@ -11,7 +11,7 @@ use Rattle.zvt_rules.specs.Fields.{Field, plain, container}
 use Rattle.zvt_rules.specs.Message.{Body, bytes, listed, Message, readOf}
 use Rattle.zvt_rules.specs.Writing.{runBytes, bodyBytes, messageBytes}
 
--- "81 is shortest from 128, 82 from 256."
+-- O7: "Shortest is one byte under 128, 81 from there to 255, 82 from 256."
 unfoldable pub formFor : ℕ → Form
 formFor v = pick (ltb v 128) bare (pick (ltb v 256) one two)
 
@@ -20,7 +20,7 @@ isShortest bare v = true
 isShortest one v = leb 128 v
 isShortest two v = leb 256 v
 
--- "the same message with every length shortest, inner ones first"
+-- M10: "the same message with each length, of header, containers and objects, in its shortest form, inner lengths first"
 unfoldable mutual
   pub shortObj : Obj → Obj
   shortObj (leaf tag form value) = leaf tag (formFor (length value)) value
@@ -30,6 +30,7 @@ unfoldable mutual
   shortRun none = none
   shortRun (more o os) = more (shortObj o) (shortRun os)
 
+-- F3: a length in digits "has one form only, which shortening keeps"
 unfoldable pub shortField : Field → Field
 shortField (plain id value) = plain id value
 shortField (container form os) = container (formFor (length (runBytes (shortRun os)))) (shortRun os)
@@ -42,7 +43,7 @@ unfoldable pub shortBody : Body → Body
 shortBody (bytes s) = bytes s
 shortBody (listed password fs) = listed password (shortList fs)
 
--- "FF with a value under 255 is readable but not shortest."
+-- M4: "A length under 255 behind FF can be read, but is not shortest."
 unfoldable pub shortMessage : Message → Message
 shortMessage m =
     record {
@@ -52,7 +53,7 @@ shortMessage m =
       body = shortBody (m .body);
     }
 
--- every length shortest, as the message was sent
+-- every length shortest, as the message was sent: by the laws just where "shortening would change nothing" (M11)
 unfoldable mutual
   pub isShortObj : Obj → Bool
   isShortObj (leaf tag form value) = isShortest form (length value)

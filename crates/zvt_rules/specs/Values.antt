@@ -22,7 +22,7 @@ unfoldable pub fieldValue : Field → List ℕ
 fieldValue (plain id value) = value
 fieldValue (container form os) = runBytes os
 
--- "status information": 04 0F
+-- M13: "a status information (04 0F)"
 abbrev pub isStatus : Message → Bool
 isStatus m = eqb (m .class) 0x04 && eqb (m .instruction) 0x0F
 
@@ -47,7 +47,7 @@ unfoldable pub receiptOf : Found → ToldReceipt
 receiptOf missing = no-receipt
 receiptOf (found value) = Receipt (numberOf value)
 
--- "field 27", "field 04", "field 87"
+-- P20: "code 27, amount 04, receipt 87"
 unfoldable pub codeIn : List Field → ToldCode
 codeIn fs = codeOf (valueIn 0x27 fs)
 

@@ -9,7 +9,7 @@ use Rattle.zvt_rules.specs.Objects.{Form, bare, one, two, Obj, leaf, bra
 use Rattle.zvt_rules.specs.Fields.{formatOf, Field, plain, container}
 use Rattle.zvt_rules.specs.Message.{Body, bytes, listed, Message}
 
--- "A length is 00 to 7F; or 81 and one byte; or 82 and two bytes, high first."
+-- O6: "A length is one byte 00 to 7F; or 81 and one byte; or 82 and two bytes, high byte first."
 unfoldable pub lenBytes : Form → ℕ → List ℕ
 lenBytes bare v = v ∷ []
 lenBytes one v = 0x81 ∷ (v ∷ [])
@@ -28,7 +28,7 @@ unfoldable mutual
   runBytes none = []
   runBytes (more o os) = objBytes o ++ runBytes os
 
--- "A length digit is a byte F0 to F9, so F1 F6 is 16.": the last d digits of v
+-- F3: "A length digit is one of the bytes F0 to F9; F1 F6 says 16": the last d digits of v
 unfoldable pub digitBytes : ℕ → ℕ → List ℕ
 digitBytes zero v = []
 digitBytes (suc d) v = digitBytes d (v / 10) ++ ((0xF0 + v % 10) ∷ [])
@@ -52,11 +52,11 @@ unfoldable pub bodyBytes : Body → List ℕ
 bodyBytes (bytes s) = s
 bodyBytes (listed password fs) = password ++ listBytes fs
 
--- "FF means that two more bytes hold it, low byte first."
+-- M2: "After FF the next two bytes are the length, low byte first."
 unfoldable pub lengthBytes : Bool → ℕ → List ℕ
 lengthBytes false v = v ∷ []
 lengthBytes true v = 0xFF ∷ ((v % 256) ∷ ((v / 256) ∷ []))
 
--- "Class byte, instruction byte, length, body."
+-- M1: "A message is a class byte, an instruction byte, a length and a body of that many bytes."
 unfoldable pub messageBytes : Message → List ℕ
 messageBytes m = m .class ∷ (m .instruction ∷ (lengthBytes (m .long) (length (bodyBytes (m .body))) ++ bodyBytes (m .body)))

@@ -1,20 +1,20 @@
 // The types that the definitions of a message and the code that reads one both name. The definitions stand in specs/, their laws
 // in proofs/; the code stands in crate zvt.
 
-// A place in the message, counted from 0 at its start; number 1 names the place behind the last byte that was there. A refusal of
-// a header names none. The public answers have the number only: document 02's first request asks for the place.
+// A place in the message, counted from 0 at its start; number 1 names the place behind the last byte that was there. A refusal of a
+// header names none. The readers of a body carry it; the public answers have the number only (R31).
 pub enum Place {
     Nowhere,
     At(usize),
 }
 
-// Why bytes are refused: document 01's number, and the place.
+// Why bytes are refused: the number of refusal, and the place.
 pub struct Fault {
     pub number: u8,
     pub place: Place,
 }
 
-// How a field's value follows its id: so many bytes, that many length digits, a container's length, or no such field.
+// F2: how a field's value follows its id: so many bytes, that many length digits, a container's length, or no such field.
 pub enum Format {
     Unknown,
     Fixed(usize),
@@ -22,19 +22,19 @@ pub enum Format {
     Container,
 }
 
-// What a body is: plain bytes, a field list, or a field list after a password.
+// What a body is: plain bytes (M7), a field list (M5), or a field list after a password (M6).
 pub enum Layout {
     Plain,
     List,
     Secured,
 }
 
-// Document 01's number of refusal: all that a public answer says of one.
+// R31: "A refusal answers its number and nothing else."
 pub struct Refusal {
     pub number: u8,
 }
 
-// What a status information tells: field 27, field 04, field 87.
+// What a status information tells. P20: "code 27, amount 04, receipt 87"
 pub enum ToldCode {
     Missing,
     Code(u8),
@@ -75,12 +75,13 @@ pub struct Outline {
 }
 
 impl Outline {
+    // M3: "A body has at most 4,096 bytes."
     pub const MOST_BODY: usize = 4096;
 
-    // Inner ones counted.
+    // O10: "A message has at most 64 objects, inner ones counted"
     pub const MOST_OBJECTS: u8 = 64;
 
-    // Objects directly in a container have depth 1.
+    // O9: "Objects of the container itself are at depth 1 .. down to depth 4."
     pub const LEVELS: u8 = 4;
 }
 
