@@ -230,7 +230,7 @@ pub fill-one : (κs : _) (a : _) → Only nothing (λ e. now (e .0)) (buffers.fi
 fill-one κs a = only _ _ (λ r e h. (refl, h))
 
 pub text-upto-one : (κs : _) (a : _) → Only itself nothing (buffers.upto.Reads.Learnt κs a)
-text-upto-one κs a = only _ _ (λ r e h. (h, refl))
+text-upto-one κs a = only _ _ (λ r e h. (h .0, refl))
 
 pub text-add-one : (κs : _) (a : _) → Only itself (λ e. now (e .1 .1 .0)) (buffers.add.Reads.Learnt κs a)
 text-add-one κs a = only _ _ (λ r e h. (ap (λ (t : Text). t .at) h, ap (λ (t : Text). t .bytes) h))

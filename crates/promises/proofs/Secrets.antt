@@ -35,7 +35,7 @@ use Rattle.tape_rules.specs.declared.Taped.{Taped}
 use Rattle.tape_rules.specs.Records.{secret, maskField, maskList, maskBody, maskMessage, masked, HiddenBody, Hidden, Record, replyEntry, entriesBy, entriesOf}
 use Rattle.tape_rules.specs.Recording.{callBytes, decideTaped, usedBy, tapedBy, tapedAnswer, tapeBy, tapedLeaves}
 use Rattle.tape_rules.specs.Taping.{TapeTurn, Day, afterTurn, tapedRun}
-use Rattle.tape_rules.proofs.Masks.{mask-same, mask-reads, mask-hides, masked-refused, alike-recorded, command-masked, opening-masked}
+use Rattle.tape_rules.proofs.Masks.{mask-same, mask-reads, mask-hides, masked-refused, alike-recorded, withoutPassword, command-masked, opening-masked}
 use Rattle.tape_rules.proofs.Unseen.{alike-heard, heard-reads}
 use Rattle.promises.specs.Days.{OfBytes}
 use Rattle.promises.specs.TapeDays.{Hiding, AlikeOpening, refunds, reversals, AlikeCall, unchanged, openings, messages, AlikeDays}
