@@ -1,6 +1,6 @@
 -- A block and a tape are refused as one of their rows says, and as no other. Assumes nothing.
 use mathlib.Core.Path.{_≡_, refl, sym, ap, _∙_}
-use mathlib.Core.Bool.{Bool, true, false, not, _||_, or-true, and-eq-true-iff}
+use mathlib.Core.Bool.{Bool, true, false, not, _&&_, _||_, and-eq-true-iff}
 use mathlib.Core.Logic.{_↔_, _⊎_, inl, inr, ⊎-elim, Iff·rfl}
 use mathlib.Core.List.{List, [], _∷_, _++_}
 use Prim.Native.Nat.{ℕ, zero, suc, _+_, _-_, _*_, _^_, _<_, _≤_}
@@ -8,17 +8,17 @@ use native.Mathlib.Omega.{arith}
 use lib.ListN.{length, getD, take, drop, length-take, length-drop, length-append}
 use lib.Seq.{drop-drop, getD-drop, getD-take, take-at, drop-at}
 use lib.Dec.{ltb, leb, eqb}
-use borrow.Author.Tests.{lt-ltb, le-ltb, ltb-true, ltb-false, eq-eqb, eqb-true, eqb-false, leb-true, leb-false, le-leb, lt-leb, not-true}
+use borrow.Author.Tests.{lt-ltb, le-ltb, ltb-true, ltb-false, eqb-true, eqb-false, leb-true, leb-false, le-leb, lt-leb, not-true, not-false}
 use Rattle.zvt_rules.specs.declared.Fault.{Fault}
 use Rattle.zvt_rules.specs.Reading.{Reading, got, refused, noHeader, unless, part}
 use Rattle.zvt_rules.specs.Grammar.{Bytes}
 use Rattle.zvt_rules.proofs.ObjectBytes.{bytes-drop, bytes-take}
 use Rattle.zvt_rules.proofs.Readings.{got-same, got-not-refused, unless-got, unless-on, then-got, then-on}
 use Rattle.zvt_rules.proofs.Tests.{true-false, by-test, either}
-use Rattle.tape_rules.specs.Block.{checkOf, numberIn, usedIn, payloadIn, checkIn, allZero, wrongNumber, wrongCount, wrongFilling, blockBytes, writeBlock, readBlock}
+use Rattle.tape_rules.specs.Block.{numberOk, payloadOk, checkOf, numberIn, usedIn, payloadIn, checkIn, allZero, wrongNumber, wrongCount, wrongFilling, blockBytes, writeBlock, readBlock}
 use Rattle.tape_rules.specs.Tape.{cut, blocksFor, blocksFrom, tapeBytes, payloadOf}
 use Rattle.tape_rules.specs.Recording.{writeTape, readTape}
-use Rattle.tape_rules.proofs.BlockLaws.{block-size, BlockRead, read-got, outside-refused, room-refused, block-written, short-refused, long-refused, check-refused, wrong-refused, right-read, block-sound, block-exactly}
+use Rattle.tape_rules.proofs.BlockLaws.{block-size, number-test, count-test, limits-test, BlockRead, read-got, outside-refused, room-refused, block-written, short-refused, long-refused, check-refused, wrong-refused, right-read, block-sound, block-exactly}
 use Rattle.tape_rules.proofs.Cutting.{cut-step, cut-count, tape-size, joinFrom, join-none, join-step, join-got, tape-reads, tape-sound}
 use Rattle.promises.specs.TapeRows.{Outside, number-0, payload-0, payload-over, WriteNo, outside, too-small}
 use Rattle.promises.specs.TapeRows.{Wrong, always-wrong, other-number, count-0, count-over, short-before-last, filling}
@@ -40,47 +40,62 @@ module _ {A : Type 0} (x : Reading A) (Row : ℕ → Type 0) (given : (m : ℕ) 
           rw same at (k .1)
 
 -- ---- writing a block
+pub in-limits : (number : ℕ) (p : List ℕ) → 1 ≤ number → 1 ≤ length p → length p ≤ 504 → Outside number p → ⊥
+in-limits number p one some most (number-0 e) = omega arith
+in-limits number p one some most (payload-0 e) = omega arith
+in-limits number p one some most (payload-over l) = omega arith
+
 module _ (number : ℕ) (p : List ℕ) (room : ℕ) where
   abbrev test : Bool
-  test = eqb number 0 || (eqb (length p) 0 || ltb 504 (length p))
-
-  tested : test ≡ true → Outside number p
-  tested e =
-      ⊎-elim (λ a. number-0 (eqb-true number 0 a))
-      (λ b. ⊎-elim (λ c. payload-0 (eqb-true (length p) 0 c)) (λ c. payload-over (ltb-true 504 (length p) c)) (either _ _ b)) (either _ _ e)
-
-  tests : Outside number p → test ≡ true
-  tests (number-0 e) = rw (eq-eqb number 0 e)
-  tests (payload-0 e) = rw (eq-eqb (length p) 0 e) (or-true (eqb number 0))
-  tests (payload-over l) = rw (lt-ltb 504 (length p) l, or-true (eqb (length p) 0)) (or-true (eqb number 0))
+  test = numberOk number && payloadOk (length p)
 
   -- within its limits
-  pub within : (Outside number p → ⊥) → (number ≡ 0 → ⊥) × (length p ≡ 0 → ⊥) × (length p ≤ 504)
+  pub within : (Outside number p → ⊥) → (1 ≤ number) × (1 ≤ length p) × (length p ≤ 504)
   within n =
+      let one : number ≡ 0 → ⊥ = λ e. n (number-0 e) in
+      let some : length p ≡ 0 → ⊥ = λ e. n (payload-0 e) in
       let most : 504 < length p → ⊥ = λ l. n (payload-over l) in
-      (λ e. n (number-0 e), λ e. n (payload-0 e), omega arith)
+      omega arith
+
+  inside : (Outside number p → ⊥) → test ≡ true
+  inside n = limits-test number (length p) .1 (within n)
+
+  not-outside : test ≡ true → Outside number p → ⊥
+  not-outside e = let k = limits-test number (length p) .0 e in in-limits number p (k .0) (k .1) (k .2)
+
+  tested : test ≡ false → Outside number p
+  tested e =
+      by-test (leb 1 number)
+      (λ a.
+      by-test (leb 1 (length p))
+      (λ b.
+      by-test (ltb 504 (length p)) (λ c. payload-over (ltb-true 504 (length p) c))
+      (λ c.
+      absurd (true-false (limits-test number (length p) .1 (leb-true 1 number a, leb-true 1 (length p) b, ltb-false 504 (length p) c)) e)))
+      (λ b. payload-0 (omega (arith, leb-false 1 (length p) b))))
+      (λ a. number-0 (omega (arith, leb-false 1 number a)))
 
   pub block-fits : (Outside number p → ⊥) → 512 ≤ room → writeBlock number p room ≡ got (blockBytes number p)
-  block-fits n h = let w = within n in block-written number p room (w .0) (w .1) (w .2) h
+  block-fits n = block-written number p room (inside n)
 
   pub block-got : (w : List ℕ) → writeBlock number p room ≡ got w → (Outside number p → ⊥) × (512 ≤ room) × (blockBytes number p ≡ w)
   unfolding writeBlock
   block-got w e =
-      let limits = unless-got test _ _ w e in
+      let limits = unless-got (not test) _ _ w e in
       let fits = unless-got (ltb room 512) _ _ w (limits .1) in
-      (λ o. true-false (tests o) (limits .0), ltb-false room 512 (fits .0), got-same (fits .1))
+      (not-outside (not-false _ (limits .0)), ltb-false room 512 (fits .0), got-same (fits .1))
 
   given-write : (m : ℕ) → WriteNo number p room m → writeBlock number p room ≡ refused (noHeader m)
-  given-write _ (outside o) = outside-refused number p room (tests o)
-  given-write _ (too-small n h) = let w = within n in room-refused number p room (w .0) (w .1) (w .2) h
+  given-write _ (outside o) = by-test test (λ e. absurd (not-outside e o)) (outside-refused number p room)
+  given-write _ (too-small n h) = room-refused number p room (inside n) h
 
   found-write : ((w : List ℕ) × (writeBlock number p room ≡ got w)) ⊎ ((m : ℕ) × WriteNo number p room m)
   found-write =
-      by-test test (λ e. inr (16, outside (tested e)))
+      by-test test
       (λ e.
-      let n : Outside number p → ⊥ = λ o. true-false (tests o) e in
-      by-test (ltb room 512) (λ f. inr (11, too-small n (ltb-true room 512 f)))
-      (λ f. inl (blockBytes number p, block-fits n (ltb-false room 512 f))))
+      by-test (ltb room 512) (λ f. inr (11, too-small (not-outside e) (ltb-true room 512 f)))
+      (λ f. inl (blockBytes number p, block-written number p room e (ltb-false room 512 f))))
+      (λ e. inr (16, outside (tested e)))
 
   pub write-no : (n : ℕ) → No (writeBlock number p room) n ↔ WriteNo number p room n
   write-no = by-rows (writeBlock number p room) (WriteNo number p room) given-write found-write
@@ -114,18 +129,26 @@ module _ (due : ℕ) (last : Bool) (s : List ℕ) where
 
   wrong-number : wrongNumber due s ≡ true → Wrong due last s
   wrong-number e =
-      ⊎-elim (λ a. always-wrong (eqb-true (numberIn s) 0 a)) (λ a. other-number (eqb-false (numberIn s) due (not-true _ a))) (either _ _ e)
+      by-test (numberOk (numberIn s))
+      (λ a.
+      let one = leb-true 1 (numberIn s) a in
+      other-number (λ same. true-false (number-test (numberIn s) due .1 (same, omega arith)) (not-true _ e)))
+      (λ a. always-wrong (omega (arith, leb-false 1 (numberIn s) a)))
 
   wrong-count : wrongCount last s ≡ true → Wrong due last s
   wrong-count e =
-      ⊎-elim (λ a. count-0 (eqb-true used 0 a))
+      by-test (leb 1 used)
       (λ a.
-      by-test (ltb 504 used) (λ f. count-over (ltb-true 504 used f))
-      (λ f.
-      let b = ⊎-elim (λ k. absurd (true-false k f)) (and-eq-true-iff (not last) _ .0) (either _ _ a) in
-      let other = eqb-false used 504 (not-true _ (b .1)) in
-      short-before-last (not-true last (b .0)) (omega (arith, ltb-false 504 used f))))
-      (either _ _ e)
+      by-test (ltb 504 used) (λ b. count-over (ltb-true 504 used b))
+      (λ b.
+      let most = ltb-false 504 used b in
+      let right = count-test last used .1 in
+      by-test last (λ l. absurd (true-false (right (leb-true 1 used a, most, λ f. absurd (true-false l f))) (not-true _ e)))
+      (λ l.
+      by-test (eqb used 504)
+      (λ f. absurd (true-false (right (leb-true 1 used a, most, λ _. eqb-true used 504 f)) (not-true _ e)))
+      (λ f. let other = eqb-false used 504 f in short-before-last l (omega arith)))))
+      (λ a. count-0 (omega (arith, leb-false 1 used a)))
 
   wrong-filling : wrongFilling s ≡ true → Wrong due last s
   wrong-filling e =
@@ -175,11 +198,6 @@ module _ (due : ℕ) (last : Bool) (s : List ℕ) where
   block-no = by-rows (readBlock due last s) (BlockNo due last s) given-read found-read
 
 -- ---- a block that is read was written, and one that was written is read
-pub in-limits : (number : ℕ) (p : List ℕ) → 1 ≤ number → 1 ≤ length p → length p ≤ 504 → Outside number p → ⊥
-in-limits number p one some most (number-0 e) = omega arith
-in-limits number p one some most (payload-0 e) = omega arith
-in-limits number p one some most (payload-over l) = omega arith
-
 pub block-back-and-forth : (due : ℕ) (last : Bool) (s p : List ℕ) → Bytes s → due < 2 ^ 32
     → (readBlock due last s ≡ got p) ↔ ((writeBlock due p 512 ≡ got s) × (last ≡ false → length p ≡ 504))
 block-back-and-forth due last s p b fits =
