@@ -9,7 +9,7 @@ ghost use mathlib.Core.Path.{_≡_};
 ghost use mathlib.Core.Bool.{_&&_};
 ghost use Rattle.desk_rules.specs.Kinds.{isSale, isReversal, booked, isApproved, isIdle};
 ghost use Rattle.desk_rules.specs.Lanes.{noStatus, blankLine, idleLane, waitingLane, runningLane, reportedLane, placeTaken};
-ghost use Rattle.desk_rules.specs.Memory.{emptyBook, freshDesk};
+ghost use Rattle.desk_rules.specs.Memory.{emptyBook, freshDesk, Valid};
 ghost use Rattle.desk_rules.specs.Numbers.{amountOk, receiptOk, passwordOk};
 ghost use Rattle.desk_rules.specs.Openings.{kindOf, withinLimits, refersTo, askedBy, namedBy, commandSize, looksAt, receiptNamed, concerns, sold, openedLane};
 ghost use Rattle.desk_rules.specs.Turnover.{gain, loss};
@@ -479,7 +479,8 @@ impl Book {
 
 impl Desk {
     pub fn fresh() -> Self
-        ensures { λ r. ⌜ r ≡ freshDesk ⌝ }
+        ensures answer { λ r. ⌜ r ≡ freshDesk ⌝ }
+        ensures valid { λ r. ⌜ Valid r ⌝ }
     {
         let l = Lane::idle();
         let b = Book::empty();

@@ -80,7 +80,7 @@ lane-at-one κs a = only _ _ (λ r e h. (h, refl))
 
 -- ---- what a desk is made of, and the questions to it
 pub desk-fresh-one : (κs : _) (a : _) → Only itself nothing (desk_rules.Desk.fresh.Reads.Learnt κs a)
-desk-fresh-one κs a = only _ _ (λ r e h. (h, refl))
+desk-fresh-one κs a = only _ _ (λ r e h. (h .0, refl))
 
 pub book-empty-one : (κs : _) (a : _) → Only itself nothing (desk_rules.Book.empty.Reads.Learnt κs a)
 book-empty-one κs a = only _ _ (λ r e h. (h, refl))
@@ -186,7 +186,7 @@ pub block-payload-ok-one : (κs : _) (a : _) → Only itself nothing (tape_rules
 block-payload-ok-one κs a = only _ _ (λ r e h. (h, refl))
 
 pub taped-fresh-one : (κs : _) (a : _) → Only itself nothing (tape_rules.Taped.fresh.Reads.Learnt κs a)
-taped-fresh-one κs a = only _ _ (λ r e h. (h, refl))
+taped-fresh-one κs a = only _ _ (λ r e h. (h .0, refl))
 
 -- ---- the tape
 both : {o o′ t t′ : List ℕ} → o ≡ o′ → t ≡ t′ → _≡_ {A = List ℕ × List ℕ} (o, t) (o′, t′)

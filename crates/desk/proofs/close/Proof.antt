@@ -2,7 +2,6 @@
 use mathlib.Core.Path.{sym, _∙_}
 use borrow.Author.Tests.{not-true, not-false}
 use Rattle.desk_rules.specs.Memory.{closeAnswer}
-use Rattle.desk_rules.proofs.Memory.{fresh-valid}
 use Rattle.desk.proofs.CallLaws.{valid-refused}
 use borrow.Author.Needs.{needs}
 use Rattle.desk.proofs.close.Statement.{statement}
@@ -20,7 +19,7 @@ unfolding closeAnswer
 returns-2 c =
     let q = c .before .before in
     let e = sym (q .all-idle .ensures) ∙ not-false _ (c .before .if1 .left) in
-    (rw (e, c .fresh .ensures), rw (c .fresh .ensures) fresh-valid)
+    (rw (e, c .fresh .ensures .0), c .fresh .ensures .1)
 
 pub close-spec : {M : Type 1} → statement M
 close-spec =
