@@ -28,30 +28,16 @@ fn sale_bytes(amount: u64) -> [u8; 13]
     ]
 }
 
-// 06 31: password, amount, currency.
-fn refund_bytes(password: u32, amount: u64) -> [u8; 16]
+// 06 31: password, and behind it what a sale has behind its header.
+fn refund_bytes(password: u32, amount: u64) -> [u8; Opening::MOST_COMMAND]
     ensures { λ r. ⌜ r ≡ commandBytes (Opening.Refund password amount) ⌝ }
 {
     let p = zvt::password_bytes(password);
-    let a = zvt::amount_bytes(amount);
-    [
-        0x06,
-        0x31,
-        0x0D,
-        p[0],
-        p[1],
-        p[2],
-        0x04,
-        a[0],
-        a[1],
-        a[2],
-        a[3],
-        a[4],
-        a[5],
-        0x49,
-        0x09,
-        0x78,
-    ]
+    let sale = sale_bytes(amount);
+    let mut b = [0u8; Opening::MOST_COMMAND];
+    bytes::copy(&[0x06, 0x31, 0x0D, p[0], p[1], p[2]], &mut b);
+    bytes::copy(&sale[3..], &mut b[6..]);
+    b
 }
 
 // 06 30: password, receipt.

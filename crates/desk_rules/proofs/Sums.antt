@@ -8,21 +8,21 @@ use native.Mathlib.Omega.{arith}
 use lib.ListN.{length, getD, take, drop}
 use lib.Seq.{take-suc, drop-cons}
 use Rattle.zvt_rules.specs.Reading.{pick}
+use Rattle.zvt_rules.proofs.Tests.{pick-test}
 use Rattle.desk_rules.specs.declared.Kind.{Kind}
 use Rattle.desk_rules.specs.declared.Kind.the-variants.{Sale, Refund, Reversal}
-use Rattle.desk_rules.specs.declared.Outcome.{Outcome}
-use Rattle.desk_rules.specs.declared.Outcome.the-variants.{Unclear, Declined, Approved}
 use Rattle.desk_rules.specs.declared.Lane.{Lane}
 use Rattle.desk_rules.specs.declared.Line.{Line}
 use Rattle.desk_rules.specs.declared.Desk.{Desk}
 use Rattle.desk_rules.specs.declared.Reference.{Reference}
 use Rattle.desk_rules.specs.Numbers.{mostAsked}
-use Rattle.desk_rules.specs.Kinds.{isIdle}
+use Rattle.desk_rules.specs.Kinds.{isApproved, isIdle}
 use Rattle.desk_rules.specs.Lanes.{blankLine, idleLane, placeTaken}
 use Rattle.desk_rules.specs.Openings.{concerns, lastFrom, lastLine}
 use Rattle.desk_rules.specs.Desk.{placesTaken, allIdle}
+use Rattle.desk_rules.specs.Runs.{total}
 use Rattle.desk_rules.specs.Memory.{Valid}
-use Rattle.desk_rules.specs.Turnover.{gain, loss, gains, losses}
+use Rattle.desk_rules.specs.Turnover.{counted, adds, takes, gain, loss, gains, losses}
 use Rattle.desk_rules.proofs.Memory.{place-most}
 
 -- ---- a sum over a list
@@ -71,45 +71,33 @@ last-take i r ls k h = rw (add-one, take-suc ls k blankLine h) (last-last i r bl
 
 -- ---- the net turnover
 
-abbrev pub gainOf : Line → ℕ
-gainOf l = gain (l .outcome) (l .kind) (l .settled)
+pub gains-take : (ls : List Line) (i : ℕ) → i < length ls → gains (take (i + 1) ls) ≡ gains (take i ls) + gain (getD ls i blankLine)
+unfolding total
+gains-take = sum-take gain gains refl (λ l ls. refl) blankLine
 
-abbrev pub lossOf : Line → ℕ
-lossOf l = loss (l .outcome) (l .kind) (l .settled)
+pub losses-take : (ls : List Line) (i : ℕ) → i < length ls → losses (take (i + 1) ls) ≡ losses (take i ls) + loss (getD ls i blankLine)
+unfolding total
+losses-take = sum-take loss losses refl (λ l ls. refl) blankLine
 
-pub gains-take : (ls : List Line) (i : ℕ) → i < length ls → gains (take (i + 1) ls) ≡ gains (take i ls) + gainOf (getD ls i blankLine)
-unfolding gains
-gains-take = sum-take gainOf gains refl (λ l ls. refl) blankLine
+counted-most : (l : Line) → counted l ≤ l .settled
+counted-most l = pick-test (λ (n : ℕ). n ≤ l .settled) (isApproved (l .outcome)) (λ _. omega arith) (λ _. omega arith)
 
-pub losses-take : (ls : List Line) (i : ℕ) → i < length ls → losses (take (i + 1) ls) ≡ losses (take i ls) + lossOf (getD ls i blankLine)
-unfolding losses
-losses-take = sum-take lossOf losses refl (λ l ls. refl) blankLine
-
-gain-most : (o : Outcome) (k : Kind) (n : ℕ) → gain o k n ≤ n
-gain-most Unclear k n = omega arith
-gain-most Declined k n = omega arith
-gain-most Approved Sale n = omega arith
-gain-most Approved Refund n = omega arith
-gain-most Approved Reversal n = omega arith
-
-loss-most : (o : Outcome) (k : Kind) (n : ℕ) → loss o k n ≤ n
-loss-most Unclear k n = omega arith
-loss-most Declined k n = omega arith
-loss-most Approved Sale n = omega arith
-loss-most Approved Refund n = omega arith
-loss-most Approved Reversal n = omega arith
+by-kind : (k : Kind) (n : ℕ) → (adds k n ≤ n) × (takes k n ≤ n)
+by-kind Sale n = (omega arith, omega arith)
+by-kind Refund n = (omega arith, omega arith)
+by-kind Reversal n = (omega arith, omega arith)
 
 module _ (d : Desk) (v : Valid d) where
-  pub gain-small : (k : ℕ) → gainOf (getD (d .book .lines) k blankLine) ≤ mostAsked
-  gain-small k = let l = getD (d .book .lines) k blankLine in omega (arith, gain-most (l .outcome) (l .kind) (l .settled), v .settled k)
-
-  pub loss-small : (k : ℕ) → lossOf (getD (d .book .lines) k blankLine) ≤ mostAsked
-  loss-small k = let l = getD (d .book .lines) k blankLine in omega (arith, loss-most (l .outcome) (l .kind) (l .settled), v .settled k)
+  pub small : (k : ℕ) → let l = getD (d .book .lines) k blankLine in (gain l ≤ mostAsked) × (loss l ≤ mostAsked)
+  small k =
+      let l = getD (d .book .lines) k blankLine in
+      let m = by-kind (l .kind) (counted l) in
+      (omega (arith, m .0, counted-most l, v .settled k), omega (arith, m .1, counted-most l, v .settled k))
 
   pub gains-most : (i : ℕ) → gains (take i (d .book .lines)) ≤ i * mostAsked
-  unfolding gains
-  gains-most i = sum-most gainOf gains refl (λ l ls. refl) blankLine mostAsked i (d .book .lines) gain-small
+  unfolding total
+  gains-most i = sum-most gain gains refl (λ l ls. refl) blankLine mostAsked i (d .book .lines) (λ k. small k .0)
 
   pub losses-most : (i : ℕ) → losses (take i (d .book .lines)) ≤ i * mostAsked
-  unfolding losses
-  losses-most i = sum-most lossOf losses refl (λ l ls. refl) blankLine mostAsked i (d .book .lines) loss-small
+  unfolding total
+  losses-most i = sum-most loss losses refl (λ l ls. refl) blankLine mostAsked i (d .book .lines) (λ k. small k .1)

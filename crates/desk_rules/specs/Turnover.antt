@@ -1,36 +1,41 @@
 -- P34: "Net turnover is the settled amounts of approved sales less those of approved refunds and reversals. It may be negative."
 -- Definitions only.
-use mathlib.Core.List.{List, [], _∷_}
-use Prim.Native.Nat.{ℕ, _+_}
+use mathlib.Core.List.{List}
+use Prim.Native.Nat.{ℕ}
 use lib.IntN.{ℤ, pos, _-ℤ_}
+use Rattle.zvt_rules.specs.Reading.{pick}
 use Rattle.desk_rules.specs.declared.Kind.{Kind}
 use Rattle.desk_rules.specs.declared.Kind.the-variants.{Sale, Refund, Reversal}
-use Rattle.desk_rules.specs.declared.Outcome.{Outcome}
-use Rattle.desk_rules.specs.declared.Outcome.the-variants.{Unclear, Declined, Approved}
 use Rattle.desk_rules.specs.declared.Line.{Line}
+use Rattle.desk_rules.specs.Kinds.{isApproved}
+use Rattle.desk_rules.specs.Runs.{total}
 
--- the settled amount of an approved line of a kind that adds, and of one that takes away
-abbrev pub gain : Outcome → Kind → ℕ → ℕ
-gain Approved Sale settled = settled
-gain Approved Refund settled = 0
-gain Approved Reversal settled = 0
-gain Declined kind settled = 0
-gain Unclear kind settled = 0
+-- "the settled amounts of approved" lines
+abbrev pub counted : Line → ℕ
+counted l = pick (isApproved (l .outcome)) (l .settled) 0
 
-abbrev pub loss : Outcome → Kind → ℕ → ℕ
-loss Approved Sale settled = 0
-loss Approved Refund settled = settled
-loss Approved Reversal settled = settled
-loss Declined kind settled = 0
-loss Unclear kind settled = 0
+-- what so much adds to the turnover, and what it takes away, by the kind of its line
+abbrev pub adds : Kind → ℕ → ℕ
+adds Sale n = n
+adds Refund n = 0
+adds Reversal n = 0
 
-unfoldable pub gains : List Line → ℕ
-gains [] = 0
-gains (l ∷ ls) = gain (l .outcome) (l .kind) (l .settled) + gains ls
+abbrev pub takes : Kind → ℕ → ℕ
+takes Sale n = 0
+takes Refund n = n
+takes Reversal n = n
 
-unfoldable pub losses : List Line → ℕ
-losses [] = 0
-losses (l ∷ ls) = loss (l .outcome) (l .kind) (l .settled) + losses ls
+abbrev pub gain : Line → ℕ
+gain l = adds (l .kind) (counted l)
+
+abbrev pub loss : Line → ℕ
+loss l = takes (l .kind) (counted l)
+
+abbrev pub gains : List Line → ℕ
+gains ls = total gain ls
+
+abbrev pub losses : List Line → ℕ
+losses ls = total loss ls
 
 unfoldable pub netOf : List Line → ℤ
 netOf ls = pos (gains ls) -ℤ pos (losses ls)

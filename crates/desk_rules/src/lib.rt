@@ -12,7 +12,7 @@ ghost use Rattle.desk_rules.specs.Lanes.{noStatus, blankLine, idleLane, 
 ghost use Rattle.desk_rules.specs.Memory.{emptyBook, freshDesk, Valid};
 ghost use Rattle.desk_rules.specs.Numbers.{amountOk, receiptOk, passwordOk};
 ghost use Rattle.desk_rules.specs.Openings.{kindOf, withinLimits, refersTo, askedBy, namedBy, commandSize, looksAt, receiptNamed, concerns, sold, openedLane};
-ghost use Rattle.desk_rules.specs.Turnover.{gain, loss};
+ghost use Rattle.desk_rules.specs.Turnover.{counted, gain, loss};
 
 pub enum Kind {
     Sale,
@@ -417,37 +417,34 @@ impl Line {
         reference.looks_at(kind)
     }
 
+    // The settled amount, where it is approved.
+    pub fn counted(self) -> u64
+        ensures { λ r. ⌜ r ≡ counted self ⌝ }
+    {
+        if self.is_approved() { self.settled } else { 0 }
+    }
+
     // What it adds to the turnover.
     pub fn gain(self) -> u64
-        ensures { λ r. ⌜ r ≡ gain (self .outcome) (self .kind) (self .settled) ⌝ }
+        ensures { λ r. ⌜ r ≡ gain self ⌝ }
     {
-        let outcome = self.outcome;
         let kind = self.kind;
-        match outcome {
-            Outcome::Unclear => 0,
-            Outcome::Declined => 0,
-            Outcome::Approved => match kind {
-                Kind::Sale => self.settled,
-                Kind::Refund => 0,
-                Kind::Reversal => 0,
-            },
+        match kind {
+            Kind::Sale => self.counted(),
+            Kind::Refund => 0,
+            Kind::Reversal => 0,
         }
     }
 
     // What it takes off the turnover.
     pub fn loss(self) -> u64
-        ensures { λ r. ⌜ r ≡ loss (self .outcome) (self .kind) (self .settled) ⌝ }
+        ensures { λ r. ⌜ r ≡ loss self ⌝ }
     {
-        let outcome = self.outcome;
         let kind = self.kind;
-        match outcome {
-            Outcome::Unclear => 0,
-            Outcome::Declined => 0,
-            Outcome::Approved => match kind {
-                Kind::Sale => 0,
-                Kind::Refund => self.settled,
-                Kind::Reversal => self.settled,
-            },
+        match kind {
+            Kind::Sale => 0,
+            Kind::Refund => self.counted(),
+            Kind::Reversal => self.counted(),
         }
     }
 }

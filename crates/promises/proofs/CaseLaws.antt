@@ -23,7 +23,8 @@ use Rattle.desk_rules.specs.Course.{heardBy, afterHeader, heard, openedBy}
 use Rattle.desk_rules.specs.Course.{laneOf, needsPlace, moves, answered, writes}
 use Rattle.desk_rules.specs.Desk.{placesTaken, load, unlessRefused, decide}
 use Rattle.desk_rules.specs.Memory.{view, endedDesk, movedDesk, refusedAnswer, answerBy, answerOf, leavesBy, leavesOf}
-use Rattle.desk_rules.specs.Turnover.{gains, losses, netOf}
+use Rattle.desk_rules.specs.Runs.{total}
+use Rattle.desk_rules.specs.Turnover.{netOf}
 use Rattle.promises.specs.Days.{buffer}
 use Rattle.promises.specs.Asking.{readSays, listSays, shortSays, callSays, status, output, unlessNo, afterDay, answerTo, computed, stated}
 use Rattle.promises.specs.Cases.{hex, plainBody, twoSales, twoLines, soldOnce, table}
@@ -42,7 +43,7 @@ unfolding unless andThen among secondTag tagSize formSize oneByteLen twoByteLen 
     heardWaiting amountBy settledAs completedBy abortedBy reportedBy movedBy afterBody heardRunning heardBy afterHeader heard
     concerns lastFrom lastLine openedBy laneOf needsPlace moves answered writes
     placeTaken placesTaken load unlessRefused decide view endedDesk movedDesk refusedAnswer answerBy answerOf leavesBy leavesOf
-    gains losses netOf
+    total netOf
     readSays listSays shortSays callSays status output unlessNo afterDay answerTo computed stated buffer
     hex plainBody twoSales twoLines soldOnce table
 cases = refl

@@ -37,6 +37,7 @@ pub every-call-ends : {M : Type 1}
     × desk_rules.Line.is_approved.Statement.statement M
     × desk_rules.Line.is_sold.Statement.statement M
     × desk_rules.Line.concerns.Statement.statement M
+    × desk_rules.Line.counted.Statement.statement M
     × desk_rules.Line.gain.Statement.statement M
     × desk_rules.Line.loss.Statement.statement M
     × desk_rules.Lane.idle.Statement.statement M
@@ -112,6 +113,7 @@ every-call-ends = (
   desk_rules.Line.is_approved.Met.met,
   desk_rules.Line.is_sold.Met.met,
   desk_rules.Line.concerns.Met.met,
+  desk_rules.Line.counted.Met.met,
   desk_rules.Line.gain.Met.met,
   desk_rules.Line.loss.Met.met,
   desk_rules.Lane.idle.Met.met,
@@ -190,6 +192,7 @@ pub nothing-to-test :
     × ((κs : _) (a : _) → desk_rules.Line.is_approved.Reads.Asked κs a ≡ Unit {0})
     × ((κs : _) (a : _) → desk_rules.Line.is_sold.Reads.Asked κs a ≡ Unit {0})
     × ((κs : _) (a : _) → desk_rules.Line.concerns.Reads.Asked κs a ≡ Unit {0})
+    × ((κs : _) (a : _) → desk_rules.Line.counted.Reads.Asked κs a ≡ Unit {0})
     × ((κs : _) (a : _) → desk_rules.Line.gain.Reads.Asked κs a ≡ Unit {0})
     × ((κs : _) (a : _) → desk_rules.Line.loss.Reads.Asked κs a ≡ Unit {0})
     × ((κs : _) (a : _) → desk_rules.Lane.idle.Reads.Asked κs a ≡ Unit {0})
@@ -240,6 +243,7 @@ pub nothing-to-test :
     × ((κs : _) (a : _) → buffers.add_decimal.Reads.Asked κs a ≡ Unit {0})
     × ((κs : _) (a : _) → buffers.hex_value.Reads.Asked κs a ≡ Unit {0})
 nothing-to-test = (
+  λ κs a. refl,
   λ κs a. refl,
   λ κs a. refl,
   λ κs a. refl,

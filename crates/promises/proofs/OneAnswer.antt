@@ -97,6 +97,9 @@ line-is-sold-one κs a = only _ _ (λ r e h. (h, refl))
 pub line-concerns-one : (κs : _) (a : _) → Only itself nothing (desk_rules.Line.concerns.Reads.Learnt κs a)
 line-concerns-one κs a = only _ _ (λ r e h. (h, refl))
 
+pub line-counted-one : (κs : _) (a : _) → Only itself nothing (desk_rules.Line.counted.Reads.Learnt κs a)
+line-counted-one κs a = only _ _ (λ r e h. (h, refl))
+
 pub line-gain-one : (κs : _) (a : _) → Only itself nothing (desk_rules.Line.gain.Reads.Learnt κs a)
 line-gain-one κs a = only _ _ (λ r e h. (h, refl))
 

@@ -8,8 +8,9 @@ use mir.Facts.{toZ-ofZ}
 use Rattle.desk_rules.specs.declared.Desk.{Desk}
 use Rattle.desk_rules.specs.Lanes.{blankLine}
 use Rattle.desk_rules.specs.Memory.{Valid}
-use Rattle.desk_rules.specs.Turnover.{gains, losses, netOf}
-use Rattle.desk_rules.proofs.Sums.{gainOf, lossOf, gains-take, losses-take, gain-small, loss-small, gains-most, losses-most}
+use Rattle.desk_rules.specs.Runs.{total}
+use Rattle.desk_rules.specs.Turnover.{gain, loss, gains, losses, netOf}
+use Rattle.desk_rules.proofs.Sums.{gains-take, losses-take, small as amounts-small, gains-most, losses-most}
 use Rattle.desk.proofs.DeskLaws.{signed, difference-fits}
 use Rattle.desk.proofs.net.Statement.{statement}
 use Rattle.desk.proofs.net.Tie as tie
@@ -37,30 +38,30 @@ small c =
     (omega (arith, gains-most (desk q) v (q .loop .i)), omega (arith, losses-most (desk q) v (q .loop .i)))
 
 loop-holds : tie.Need-loop-holds Inv-loop μ-loop
-unfolding gains losses
+unfolding total
 loop-holds c = omega arith
 
 add-plus : tie.Need-add-plus Inv-loop μ-loop
 add-plus c =
     let q = c .before .before .before in
     let i = q .loop .i in
-    let e : c .gain .result ≡ gainOf (getD (desk q .book .lines) i blankLine) = c .gain .ensures in
-    omega (arith, gain-small (desk q) (valid q) i, gains-most (desk q) (valid q) i)
+    let e : c .gain .result ≡ gain (getD (desk q .book .lines) i blankLine) = c .gain .ensures in
+    omega (arith, amounts-small (desk q) (valid q) i .0, gains-most (desk q) (valid q) i)
 
 add-minus : tie.Need-add-minus Inv-loop μ-loop
 add-minus c =
     let q = c .before .before .before .before in
     let i = q .loop .i in
-    let e : c .loss .result ≡ lossOf (getD (desk q .book .lines) i blankLine) = c .loss .ensures in
-    omega (arith, loss-small (desk q) (valid q) i, losses-most (desk q) (valid q) i)
+    let e : c .loss .result ≡ loss (getD (desk q .book .lines) i blankLine) = c .loss .ensures in
+    omega (arith, amounts-small (desk q) (valid q) i .1, losses-most (desk q) (valid q) i)
 
 loop-again : tie.Need-loop-again Inv-loop μ-loop
 loop-again c =
     let q = c .before .before .before .before in
     let i = q .loop .i in
     let ls = desk q .book .lines in
-    let e : c .loss .result ≡ lossOf (getD ls i blankLine) = c .loss .ensures in
-    let e′ : c .before .gain .result ≡ gainOf (getD ls i blankLine) = c .before .gain .ensures in
+    let e : c .loss .result ≡ loss (getD ls i blankLine) = c .loss .ensures in
+    let e′ : c .before .gain .result ≡ gain (getD ls i blankLine) = c .before .gain .ensures in
     omega (arith, gains-take ls i (omega arith), losses-take ls i (omega arith))
 
 sub-result : tie.Need-sub-result Inv-loop μ-loop

@@ -7,10 +7,14 @@ use Rattle.desk.proofs.commands.refund_bytes.Tie as tie
 
 returns : tie.Need-returns
 unfolding digitBytesOf spelled
-returns c = rw (c .before .password-bytes .ensures, c .amount-bytes .ensures, command-bytes)
+returns c =
+    let q = c .before .before .before .before .before .before in
+    let s = q .before .before .before in
+    rw (c .before .copy2 .ensures .1, q .copy .ensures .1, s .sale-bytes .ensures, s .before .password-bytes .ensures, command-bytes, command-bytes)
 
 pub refund-bytes-spec : {M : Type 1} → statement M
 refund-bytes-spec =
     tie.close
     (tie.spec (λ c κs. search needs) (λ c κs. search needs) (λ c. search needs) (λ c. search needs) (λ c. search needs)
-    (λ c. search needs) (λ c. search needs) (λ c. search needs) (λ c. search needs) (λ c. search needs) (λ c. search needs) returns)
+    (λ c. search needs) (λ c. search needs) (λ c κs. search needs) (λ c. search needs) (λ c. search needs) (λ c. search needs)
+    (λ c. search needs) (λ c. search needs) (λ c. search needs) (λ c κs. search needs) returns)
