@@ -75,7 +75,7 @@ pub(crate) fn cut(n: u64, greatest: u64) -> u64
     if greatest < n { greatest } else { n }
 }
 
-fn numbers(s: &[u8]) -> Numbers {
+fn numbers_of(s: &[u8]) -> Numbers {
     let count = following(s);
     if count == 0 {
         return Numbers::Nothing;
@@ -141,7 +141,7 @@ fn with_three(name: &[u8], lane: u64, password: u64, n: u64) -> Order {
 // A line without bytes.
 fn plain(s: &[u8]) -> Order {
     let name = word(s, 0);
-    match numbers(s) {
+    match numbers_of(s) {
         Numbers::Bad => Order::Bad,
         Numbers::Nothing => alone(name),
         Numbers::One(n) => with_one(name, n),

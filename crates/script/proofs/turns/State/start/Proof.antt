@@ -4,11 +4,8 @@ use borrow.Author.Needs.{needs}
 use Rattle.script.proofs.turns.State.start.Statement.{statement}
 use Rattle.script.proofs.turns.State.start.Tie as tie
 
-fresh-requires : tie.Need-fresh-requires
-fresh-requires c κs = search needs
-
 returns : tie.Need-returns
-returns c = record { valid = rw (c .fresh .ensures) fresh-valid; room = search needs }
+returns c = rw (c .fresh .ensures) fresh-valid
 
 pub start-spec : {M : Type 1} → statement M
-start-spec = tie.close (tie.spec fresh-requires returns)
+start-spec = tie.close (tie.spec (λ c κs. search needs) returns)
