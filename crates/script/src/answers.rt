@@ -1,9 +1,11 @@
 // The text of answers, each line with its end. Text goes behind the first at bytes of out; each function answers where it then ends.
+use crate::words::word;
 use buffers::add;
 use buffers::add_all;
 use buffers::add_bytes;
 use buffers::add_decimal;
 use buffers::add_hex;
+use buffers::upto;
 use desk_rules::Kind;
 use desk_rules::Lane;
 use desk_rules::Line;
@@ -56,31 +58,37 @@ fn magnitude(n: i64) -> u64
 }
 
 pub(crate) fn signed(n: i64, out: &mut [u8]) -> usize {
-    let mut to: usize = 0;
     if n < 0 {
-        to = add(b'-', 0, out);
+        let minus = add(b'-', 0, out);
+        let to = add_decimal(magnitude(n), minus, out);
+        return add(b'\n', to, out);
     }
-    to = add_decimal(magnitude(n), to, out);
+    let to = add_decimal(magnitude(n), 0, out);
     add(b'\n', to, out)
 }
 
 // Kind and amount asked.
 fn add_asked(kind: Kind, asked: u64, at: usize, out: &mut [u8]) -> usize {
-    let to = match kind {
-        Kind::Sale => add_all(b" sale", at, out),
-        Kind::Refund => add_all(b" refund", at, out),
-        Kind::Reversal => add_all(b" reversal", at, out),
+    let k = match kind {
+        Kind::Sale => 0,
+        Kind::Refund => 1,
+        Kind::Reversal => 2,
     };
+    let mut to = add(b' ', at, out);
+    to = add_all(word(b"sale refund reversal", k), to, out);
     add_number(asked, to, out)
 }
 
 // Outcome and code, and the line's end.
 fn add_ending(outcome: Outcome, code: u8, at: usize, out: &mut [u8]) -> usize {
-    let mut to = match outcome {
-        Outcome::Unclear => add_all(b" unclear ", at, out),
-        Outcome::Declined => add_all(b" declined ", at, out),
-        Outcome::Approved => add_all(b" approved ", at, out),
+    let k = match outcome {
+        Outcome::Unclear => 0,
+        Outcome::Declined => 1,
+        Outcome::Approved => 2,
     };
+    let mut to = add(b' ', at, out);
+    to = add_all(word(b"unclear declined approved", k), to, out);
+    to = add(b' ', to, out);
     to = add_hex(code, to, out);
     add(b'\n', to, out)
 }
@@ -110,23 +118,36 @@ pub(crate) fn tape(blocks: &[u8], out: &mut [u8]) -> usize {
     counted(b"end", (at / Block::SIZE) as u64, to, out)
 }
 
-// What a status information told: code, amount and receipt.
+fn add_code(c: ToldCode, at: usize, out: &mut [u8]) -> usize {
+    match c {
+        ToldCode::Missing => add(b'-', at, out),
+        ToldCode::Code(b) => add_hex(b, at, out),
+    }
+}
+
+fn add_amount(a: ToldAmount, at: usize, out: &mut [u8]) -> usize {
+    match a {
+        ToldAmount::Missing => add_all(b" -", at, out),
+        ToldAmount::Amount(n) => add_number(n, at, out),
+    }
+}
+
+fn add_receipt(r: ToldReceipt, at: usize, out: &mut [u8]) -> usize {
+    match r {
+        ToldReceipt::Missing => add_all(b" -", at, out),
+        ToldReceipt::Receipt(n) => add_number(n as u64, at, out),
+    }
+}
+
+// What a status information told, and the line's end.
 pub(crate) fn add_status(s: Status, at: usize, out: &mut [u8]) -> usize {
     let code = s.code;
     let amount = s.amount;
     let receipt = s.receipt;
-    let mut to = match code {
-        ToldCode::Missing => add(b'-', at, out),
-        ToldCode::Code(b) => add_hex(b, at, out),
-    };
-    to = match amount {
-        ToldAmount::Missing => add_all(b" -", to, out),
-        ToldAmount::Amount(n) => add_number(n, to, out),
-    };
-    match receipt {
-        ToldReceipt::Missing => add_all(b" -", to, out),
-        ToldReceipt::Receipt(n) => add_number(n as u64, to, out),
-    }
+    let mut to = add_code(code, at, out);
+    to = add_amount(amount, to, out);
+    to = add_receipt(receipt, to, out);
+    add(b'\n', to, out)
 }
 
 // 0000 from a terminal is none too.
@@ -146,7 +167,7 @@ fn remembered(s: Status) -> Status {
     s
 }
 
-// What a lane that is not idle does, kind, amount asked and receipt named.
+// The phase of a lane that is not idle, kind, amount asked and receipt named.
 fn add_payment(phase: &[u8], l: Lane, at: usize, out: &mut [u8]) -> usize {
     let kind = l.kind;
     let mut to = add_all(phase, at, out);
@@ -158,21 +179,19 @@ fn add_payment(phase: &[u8], l: Lane, at: usize, out: &mut [u8]) -> usize {
 pub(crate) fn add_lane(lane: u8, l: Lane, at: usize, out: &mut [u8]) -> usize {
     let p = l.phase;
     let status = l.status;
-    let mut to = add_decimal(lane as u64, at, out);
+    let to = add_decimal(lane as u64, at, out);
     match p {
-        Phase::Idle => {
-            to = add_all(b" idle", to, out);
-        }
+        Phase::Idle => add_all(b" idle\n", to, out),
         Phase::Waiting => {
-            to = add_payment(b" waiting", l, to, out);
+            let end = add_payment(b" waiting", l, to, out);
+            add(b'\n', end, out)
         }
         Phase::Running => {
-            to = add_payment(b" running", l, to, out);
-            to = add(b' ', to, out);
-            to = add_status(remembered(status), to, out);
+            let mut end = add_payment(b" running", l, to, out);
+            end = add(b' ', end, out);
+            add_status(remembered(status), end, out)
         }
     }
-    add(b'\n', to, out)
 }
 
 // The message that s is, read as m.
@@ -184,11 +203,20 @@ pub(crate) fn message(s: &[u8], m: Outline, out: &mut [u8]) -> usize {
     listing::add_ids(s, to, out)
 }
 
+// Bytes as a line of hex.
+pub(crate) fn bytes_line(v: &[u8], out: &mut [u8]) -> usize {
+    let to = add_bytes(v, 0, out);
+    add(b'\n', to, out)
+}
+
 // What every byte of the lent room is before a call.
 pub(crate) const BLANK: u8 = 0xC3;
 
-// Whether a call changed a byte behind the first n.
-fn changed(lent: &[u8], n: usize) -> bool {
+// Whether a call that wrote n bytes changed one behind them, or claims more than there are.
+fn changed(n: usize, lent: &[u8]) -> bool {
+    if lent.len() < n {
+        return true;
+    }
     let mut i = n;
     while i < lent.len() {
         if lent[i] != BLANK {
@@ -199,28 +227,29 @@ fn changed(lent: &[u8], n: usize) -> bool {
     false
 }
 
-// A call wrote the first n bytes of the lent room and should have left the others alone.
-fn written(n: usize, lent: &[u8], out: &mut [u8]) -> usize {
-    if lent.len() < n || changed(lent, n) {
-        return add_all(b"buffer changed\n", 0, out);
-    }
-    if n == 0 {
+fn written(v: &[u8], out: &mut [u8]) -> usize {
+    if v.len() == 0 {
         return add_all(b"ok\n", 0, out);
     }
     let mut to = add_all(b"ok ", 0, out);
-    to = add_bytes(&lent[..n], to, out);
+    to = add_bytes(v, to, out);
     add(b'\n', to, out)
 }
 
-// What a call answered that had this room to write into.
+// What a call answered that had this room to write into, and should have left the rest of it alone.
 pub(crate) fn reply(r: Reply, lent: &[u8], out: &mut [u8]) -> usize {
+    let n = match r {
+        Reply::Written(size) => size,
+        Reply::Refused(_) => 0,
+    };
+    if changed(n, lent) {
+        return add_all(b"buffer changed\n", 0, out);
+    }
     match r {
-        Reply::Written(n) => written(n, lent, out),
-        Reply::Refused(f) => {
-            if changed(lent, 0) {
-                return add_all(b"buffer changed\n", 0, out);
-            }
-            refused(f.number, out)
+        Reply::Written(size) => {
+            let end = upto(size, lent);
+            written(&lent[..end], out)
         }
+        Reply::Refused(f) => refused(f.number, out),
     }
 }

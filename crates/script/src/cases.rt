@@ -1,5 +1,6 @@
 // Files of cases: script lines, each with its answer behind it on lines that begin with `= `. A blank line ends a case, and the next
 // one starts with a fresh desk. The word `added`, in a line or in an answer, stands for the bytes that the lines `add` put together.
+use crate::answers::BLANK;
 use crate::answers::counted;
 use crate::further;
 use crate::further::Further;
@@ -44,7 +45,7 @@ enum Outcome {
 }
 
 // A line with its answer: where the case then stands, and how many bytes and lines of the file it takes.
-struct Entry {
+struct Checked {
     turn: Turn,
     used: usize,
     lines: u64,
@@ -54,17 +55,21 @@ struct Entry {
 // Room for a line: two digits for each added byte, and some words.
 const LINE: usize = BYTES * 2 + 256;
 
+// The word w; for `added` the digits of these bytes.
+fn add_word(w: &[u8], bytes: &[u8], at: usize, out: &mut [u8]) -> usize {
+    if same(w, b"added") {
+        return add_bytes(bytes, at, out);
+    }
+    add_all(w, at, out)
+}
+
 // The line s with the digits of these bytes for each word `added`, as text behind the first at bytes of out.
 fn add_expanded(s: &[u8], bytes: &[u8], at: usize, out: &mut [u8]) -> usize {
     let mut to = at;
     let mut from: usize = 0;
     while from < s.len() {
         let end = bytes::scan::find(s, from, s.len(), b' ');
-        if same(&s[from..end], b"added") {
-            to = add_bytes(bytes, to, out);
-        } else {
-            to = add_all(&s[from..end], to, out);
-        }
+        to = add_word(&s[from..end], bytes, to, out);
         if end == s.len() {
             return to;
         }
@@ -75,7 +80,7 @@ fn add_expanded(s: &[u8], bytes: &[u8], at: usize, out: &mut [u8]) -> usize {
 }
 
 // The lines at the start of s that begin with `= `, as text.
-fn wanted(s: &[u8], bytes: &[u8], out: &mut [u8]) -> Wanted
+fn wants(s: &[u8], bytes: &[u8], out: &mut [u8]) -> Wanted
     ensures { λ r. ⌜ r .used ≤ length (now (s .entry)) ⌝ }
 {
     let mut size: usize = 0;
@@ -142,11 +147,13 @@ fn line(turn: Turn, s: &[u8], payload: &mut [u8], added: &mut [u8], out: &mut [u
             after.added = end;
             next(after, counted(b"bytes", end as u64, 0, out))
         }
-        Further::Digits(d, k) => next(begun(state), further::digits(d, k, out)),
-        Further::Ask(a) => next(
-            begun(state),
-            further::answer(a, state.room, &mut bytes[..n], out),
-        ),
+        Further::Digits(d, k) => next(begun(state), further::digits_line(d, k, out)),
+        Further::Ask(a) => {
+            let mut lent = [BLANK; State::ROOM];
+            let room = upto(state.room, &lent);
+            let size = further::answer(a, &mut bytes[..n], &mut lent[..room], out);
+            next(begun(state), size)
+        }
     }
 }
 
@@ -160,40 +167,65 @@ fn compared(got: &[u8], want: &[u8]) -> Outcome {
     Outcome::Differs(got.len())
 }
 
-// The line that the rest of a file begins with, and its answer behind it.
-fn entry(turn: Turn, rest: &[u8], payload: &mut [u8], added: &mut [u8], out: &mut [u8]) -> Entry
-    requires { ⌜ Valid (turn .state .taped .desk) × (0 < length (now rest)) ⌝ }
-    ensures { λ r. ⌜ Valid (r .turn .state .taped .desk) × (0 < r .used) × (r .used ≤ length (now (rest .entry))) ⌝ }
+// Where the line behind one begins that ends there.
+fn behind(end: usize, s: &[u8]) -> usize
+    requires { ⌜ (end ≤ length (now s)) × (0 < length (now s)) ⌝ }
+    ensures { λ r. ⌜ (0 < r) × (r ≤ length (now (s .entry))) ⌝ }
 {
-    let end = bytes::scan::find(rest, 0, rest.len(), b'\n');
-    let mut behind = end;
-    if end < rest.len() {
-        behind = end + 1;
+    if end == s.len() {
+        return end;
     }
-    if end == 0 {
-        return Entry {
-            turn: next(State::start(), 0),
-            used: behind,
-            lines: 1,
-            outcome: Outcome::Silent,
-        };
-    }
+    end + 1
+}
+
+// The line s, with its answer at the start of rest.
+fn answered(
+    turn: Turn,
+    s: &[u8],
+    rest: &[u8],
+    payload: &mut [u8],
+    added: &mut [u8],
+    out: &mut [u8],
+) -> Checked
+    requires { ⌜ Valid (turn .state .taped .desk) ⌝ }
+    ensures { λ r. ⌜ Valid (r .turn .state .taped .desk) × (r .used ≤ length (now (rest .entry))) ⌝ }
+{
     let mut full = [0u8; LINE];
     let mut want = [0u8; TEXT];
     let state = turn.state;
     let n = upto(state.added, added);
-    let to = add_expanded(&rest[..end], &added[..n], 0, &mut full);
+    let to = add_expanded(s, &added[..n], 0, &mut full);
+    let w = wants(rest, &added[..n], &mut want);
     let size = upto(to, &full);
-    let w = wanted(&rest[behind..], &added[..n], &mut want);
-    let due = upto(w.size, &want);
     let t = line(turn, &full[..size], payload, added, out);
     let given = upto(t.size, out);
-    Entry {
+    let due = upto(w.size, &want);
+    Checked {
         turn: t,
-        used: behind + w.used,
+        used: w.used,
         lines: wrapping_add_u64(w.lines, 1),
         outcome: compared(&out[..given], &want[..due]),
     }
+}
+
+// The line that the rest of a file begins with, and its answer behind it.
+fn entry(turn: Turn, rest: &[u8], payload: &mut [u8], added: &mut [u8], out: &mut [u8]) -> Checked
+    requires { ⌜ Valid (turn .state .taped .desk) × (0 < length (now rest)) ⌝ }
+    ensures { λ r. ⌜ Valid (r .turn .state .taped .desk) × (0 < r .used) × (r .used ≤ length (now (rest .entry))) ⌝ }
+{
+    let end = bytes::scan::find(rest, 0, rest.len(), b'\n');
+    let start = behind(end, rest);
+    if end == 0 {
+        return Checked {
+            turn: next(State::start(), 0),
+            used: start,
+            lines: 1,
+            outcome: Outcome::Silent,
+        };
+    }
+    let mut c = answered(turn, &rest[..end], &rest[start..], payload, added, out);
+    c.used = start + c.used;
+    c
 }
 
 // What became of a line is counted, and told where it differs.

@@ -1,19 +1,17 @@
 // Words that the files of cases have beyond a script's: what the reader, the lister and the blocks of a tape are asked.
 use crate::answers;
-use crate::answers::BLANK;
+use crate::answers::bytes_line;
 use crate::notation::Number;
 use crate::notation::bytes_of;
 use crate::notation::number_of;
 use crate::orders::SHORT;
 use crate::orders::WORD;
 use crate::orders::cut;
-use crate::turns::State;
 use crate::words::following;
 use crate::words::place;
 use crate::words::word;
 use buffers::add;
 use buffers::add_all;
-use buffers::add_bytes;
 use buffers::add_decimal;
 use buffers::add_hex;
 use buffers::upto;
@@ -155,13 +153,12 @@ pub(crate) fn further_of(s: &[u8], bytes: &mut [u8]) -> Found
     }
 }
 
-pub(crate) fn digits(d: Digits, n: u64, out: &mut [u8]) -> usize {
-    let to = match d {
-        Digits::Amount => add_bytes(&zvt::amount_bytes(n), 0, out),
-        Digits::Password => add_bytes(&zvt::password_bytes(cut(n, WORD) as u32), 0, out),
-        Digits::Receipt => add_bytes(&zvt::receipt_bytes(cut(n, SHORT) as u16), 0, out),
-    };
-    add(b'\n', to, out)
+pub(crate) fn digits_line(d: Digits, n: u64, out: &mut [u8]) -> usize {
+    match d {
+        Digits::Amount => bytes_line(&zvt::amount_bytes(n), out),
+        Digits::Password => bytes_line(&zvt::password_bytes(cut(n, WORD) as u32), out),
+        Digits::Receipt => bytes_line(&zvt::receipt_bytes(cut(n, SHORT) as u16), out),
+    }
 }
 
 fn header(s: &[u8], out: &mut [u8]) -> usize {
@@ -191,11 +188,6 @@ fn first(s: &[u8], out: &mut [u8]) -> usize {
     }
 }
 
-fn status(s: &[u8], out: &mut [u8]) -> usize {
-    let to = answers::add_status(zvt::read_status(s), 0, out);
-    add(b'\n', to, out)
-}
-
 fn field(k: usize, s: &[u8], out: &mut [u8]) -> usize {
     match zvt::field_at(s, k) {
         FieldAnswer::End => add_all(b"end\n", 0, out),
@@ -208,7 +200,7 @@ fn field(k: usize, s: &[u8], out: &mut [u8]) -> usize {
     }
 }
 
-fn verdict(s: &[u8]) -> Verdict {
+fn judged(s: &[u8]) -> Verdict {
     match zvt::read(s) {
         ReadAnswer::Refused(f) => Verdict::Refused(f.number),
         ReadAnswer::Accepted(_) => Verdict::Accepted,
@@ -228,13 +220,18 @@ fn agree(a: Verdict, b: Verdict) -> bool {
     }
 }
 
+fn add_span(first: u8, last: u8, at: usize, out: &mut [u8]) -> usize {
+    let to = add_hex(first, at, out);
+    if last <= first {
+        return to;
+    }
+    let end = add(b'-', to, out);
+    add_hex(last, end, out)
+}
+
 // The values from first up to last, which all came to the same.
 fn add_range(first: u8, last: u8, v: Verdict, at: usize, out: &mut [u8]) -> usize {
-    let mut to = add_hex(first, at, out);
-    if first < last {
-        to = add(b'-', to, out);
-        to = add_hex(last, to, out);
-    }
+    let to = add_span(first, last, at, out);
     match v {
         Verdict::Accepted => add_all(b":ok", to, out),
         Verdict::Refused(n) => {
@@ -253,12 +250,12 @@ fn each(place: usize, s: &mut [u8], out: &mut [u8]) -> usize {
     let mut first: u8 = 0;
     let mut value: u8 = 0;
     s[place] = 0;
-    let mut v = verdict(s);
+    let mut v = judged(s);
     while value < 255 {
         let last = value;
         value += 1;
         s[place] = value;
-        let next = verdict(s);
+        let next = judged(s);
         if !agree(v, next) {
             to = add_range(first, last, v, to, out);
             to = add(b' ', to, out);
@@ -332,30 +329,28 @@ fn damage(due: Block, s: &mut [u8], out: &mut [u8]) -> usize {
     add_all(b" refused 20\n", to, out)
 }
 
-// What is asked of the bytes s, with so much room for a call that writes.
-pub(crate) fn answer(a: Ask, room: usize, s: &mut [u8], out: &mut [u8]) -> usize {
-    let mut lent = [BLANK; State::ROOM];
-    let n = upto(room, &lent);
+// What is asked of the bytes s, with this room for a call that writes.
+pub(crate) fn answer(a: Ask, s: &mut [u8], lent: &mut [u8], out: &mut [u8]) -> usize {
     match a {
         Ask::Header => header(s, out),
         Ask::First => first(s, out),
-        Ask::Status => status(s, out),
+        Ask::Status => answers::add_status(zvt::read_status(s), 0, out),
         Ask::List => listing::list(s, out),
         Ask::Field(k) => field(k, s, out),
         Ask::Each(k) => each(k, s, out),
         Ask::Block(due) => block(due, s, out),
         Ask::Damage(due) => damage(due, s, out),
         Ask::Records => {
-            let r = tape::read_tape(s, &mut lent[..n]);
-            answers::reply(r, &lent[..n], out)
+            let r = tape::read_tape(s, lent);
+            answers::reply(r, lent, out)
         }
         Ask::Blocks => {
-            let r = tape::write_tape(s, &mut lent[..n]);
-            answers::reply(r, &lent[..n], out)
+            let r = tape::write_tape(s, lent);
+            answers::reply(r, lent, out)
         }
         Ask::Write(number) => {
-            let r = tape::write_block(number, s, &mut lent[..n]);
-            answers::reply(r, &lent[..n], out)
+            let r = tape::write_block(number, s, lent);
+            answers::reply(r, lent, out)
         }
     }
 }

@@ -7,14 +7,13 @@ use crate::words::following;
 use crate::words::place;
 use crate::words::word;
 use check::same;
+use desk_rules::Opening;
 ghost use Prim.Native.Nat.{_≤_};
 ghost use lib.ListN.{length};
 
 // A call for the desk.
 pub(crate) enum Call {
-    Sale(u8, u64),
-    Refund(u8, u32, u64),
-    Reversal(u8, u32, u16),
+    Open(u8, Opening),
     Terminal(u8),
     Lost(u8),
     Close,
@@ -75,7 +74,7 @@ pub(crate) fn cut(n: u64, greatest: u64) -> u64
     if greatest < n { greatest } else { n }
 }
 
-fn numbers(s: &[u8]) -> Numbers {
+fn numbers_of(s: &[u8]) -> Numbers {
     let count = following(s);
     if count == 0 {
         return Numbers::Nothing;
@@ -132,8 +131,8 @@ fn with_three(name: &[u8], lane: u64, password: u64, n: u64) -> Order {
     let l = cut(lane, BYTE) as u8;
     let p = cut(password, WORD) as u32;
     match place(name, b"refund reversal") {
-        0 => Order::Call(Call::Refund(l, p, n)),
-        1 => Order::Call(Call::Reversal(l, p, cut(n, SHORT) as u16)),
+        0 => Order::Call(Call::Open(l, Opening::Refund(p, n))),
+        1 => Order::Call(Call::Open(l, Opening::Reversal(p, cut(n, SHORT) as u16))),
         _ => Order::Bad,
     }
 }
@@ -141,13 +140,13 @@ fn with_three(name: &[u8], lane: u64, password: u64, n: u64) -> Order {
 // A line without bytes.
 fn plain(s: &[u8]) -> Order {
     let name = word(s, 0);
-    match numbers(s) {
+    match numbers_of(s) {
         Numbers::Bad => Order::Bad,
         Numbers::Nothing => alone(name),
         Numbers::One(n) => with_one(name, n),
         Numbers::Two(lane, amount) => {
             if same(name, b"sale") {
-                return Order::Call(Call::Sale(cut(lane, BYTE) as u8, amount));
+                return Order::Call(Call::Open(cut(lane, BYTE) as u8, Opening::Sale(amount)));
             }
             Order::Bad
         }

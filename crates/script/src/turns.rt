@@ -8,7 +8,6 @@ use crate::orders::Question;
 use crate::orders::Reading;
 use buffers::add;
 use buffers::add_all;
-use buffers::add_bytes;
 use buffers::upto;
 use desk_rules::Book;
 use desk_rules::Desk;
@@ -132,16 +131,14 @@ fn question(taped: Taped, q: Question, payload: &[u8], out: &mut [u8]) -> usize
     }
 }
 
-fn shorten(s: &[u8], room: usize, out: &mut [u8]) -> usize {
-    let mut lent = [answers::BLANK; State::ROOM];
-    let n = upto(room, &lent);
-    match zvt::shorten(s, &mut lent[..n]) {
-        ShortenAnswer::Refused(r) => answers::reply(Reply::Refused(r), &lent[..n], out),
-        ShortenAnswer::Written(size) => answers::reply(Reply::Written(size), &lent[..n], out),
+fn shorten(s: &[u8], lent: &mut [u8], out: &mut [u8]) -> usize {
+    match zvt::shorten(s, lent) {
+        ShortenAnswer::Refused(r) => answers::reply(Reply::Refused(r), lent, out),
+        ShortenAnswer::Written(size) => answers::reply(Reply::Written(size), lent, out),
     }
 }
 
-fn reading<'a>(r: Reading, s: &'a [u8], own: &'a [u8], room: usize, out: &mut [u8]) -> usize {
+fn reading<'a>(r: Reading, s: &'a [u8], own: &'a [u8], lent: &mut [u8], out: &mut [u8]) -> usize {
     match r {
         Reading::Read => match zvt::read(s) {
             ReadAnswer::Refused(f) => answers::refused(f.number, out),
@@ -150,11 +147,8 @@ fn reading<'a>(r: Reading, s: &'a [u8], own: &'a [u8], room: usize, out: &mut [u
                 add(b'\n', to, out)
             }
         },
-        Reading::Shorten => shorten(s, room, out),
-        Reading::Name => {
-            let to = add_bytes(zvt::card_name(s, own), 0, out);
-            add(b'\n', to, out)
-        }
+        Reading::Shorten => shorten(s, lent, out),
+        Reading::Name => answers::bytes_line(zvt::card_name(s, own), out),
     }
 }
 
@@ -164,23 +158,7 @@ fn called(taped: Taped, c: Call, s: &[u8], lent: &mut [u8], payload: &mut [u8]) 
     ensures { λ r. ⌜ Valid (r .taped .desk) ⌝ }
 {
     match c {
-        Call::Sale(lane, amount) => tape::open_sale(taped, lane, amount, lent, payload),
-        Call::Refund(lane, password, amount) => tape::open_refund(
-            taped,
-            lane,
-            password,
-            amount,
-            lent,
-            payload,
-        ),
-        Call::Reversal(lane, password, receipt) => tape::open_reversal(
-            taped,
-            lane,
-            password,
-            receipt,
-            lent,
-            payload,
-        ),
+        Call::Open(lane, opening) => tape::open(taped, lane, opening, lent, payload),
         Call::Terminal(lane) => tape::terminal(taped, lane, s, lent, payload),
         Call::Lost(lane) => tape::link_lost(taped, lane, payload),
         Call::Close => tape::close(taped),
@@ -196,7 +174,14 @@ fn roomy(used: usize, size: usize) -> bool {
 }
 
 // The call and its answer. A script cannot fill the payload; were it full, no call would be made.
-fn call(state: State, c: Call, s: &[u8], payload: &mut [u8], out: &mut [u8]) -> Turn
+fn call(
+    state: State,
+    c: Call,
+    s: &[u8],
+    lent: &mut [u8],
+    payload: &mut [u8],
+    out: &mut [u8],
+) -> Turn
     requires { ⌜ Valid (state .taped .desk) ⌝ }
     ensures { λ r. ⌜ Valid (r .state .taped .desk) ⌝ }
 {
@@ -204,14 +189,12 @@ fn call(state: State, c: Call, s: &[u8], payload: &mut [u8], out: &mut [u8]) -> 
     if !roomy(before.used, payload.len()) {
         return last(state, add_all(b"tape full\n", 0, out));
     }
-    let mut lent = [answers::BLANK; State::ROOM];
-    let n = upto(state.room, &lent);
-    let a = called(before, c, s, &mut lent[..n], payload);
+    let a = called(before, c, s, lent, payload);
     let r = a.reply;
     let taped = a.taped;
     let mut after = state;
     after.taped = taped;
-    next(after, answers::reply(r, &lent[..n], out))
+    next(after, answers::reply(r, lent, out))
 }
 
 // The script goes on, or ends here.
@@ -242,6 +225,8 @@ fn act(state: State, asked: Asked, bytes: &[u8], payload: &mut [u8], out: &mut [
     requires { ⌜ Valid (state .taped .desk) × (asked .size ≤ asked .end) × (asked .end ≤ length (now bytes)) ⌝ }
     ensures { λ r. ⌜ Valid (r .state .taped .desk) ⌝ }
 {
+    let mut lent = [answers::BLANK; State::ROOM];
+    let room = upto(state.room, &lent);
     let taped = state.taped;
     let order = asked.order;
     let size = asked.size;
@@ -249,17 +234,17 @@ fn act(state: State, asked: Asked, bytes: &[u8], payload: &mut [u8], out: &mut [
     match order {
         Order::Bad => last(state, answers::not_understood(state.number, out)),
         Order::Pass => next(state, 0),
-        Order::Room(room) => {
+        Order::Room(n) => {
             let mut after = state;
-            after.room = room;
+            after.room = n;
             next(after, add_all(b"ok\n", 0, out))
         }
         Order::Question(q) => next(state, question(taped, q, payload, out)),
         Order::Reading(r) => next(
             state,
-            reading(r, &bytes[..size], &bytes[size..end], state.room, out),
+            reading(r, &bytes[..size], &bytes[size..end], &mut lent[..room], out),
         ),
-        Order::Call(c) => call(state, c, &bytes[..size], payload, out),
+        Order::Call(c) => call(state, c, &bytes[..size], &mut lent[..room], payload, out),
     }
 }
 

@@ -1,36 +1,16 @@
--- The bytes behind the first n are looked at one by one. Assumes nothing.
-use Prim.Native.Nat.{_-_}
-use borrow.Author.Needs.{needs}
+-- A search. The loop's invariant: i is no less than it was. Assumes nothing.
+use Prim.Native.Nat.{_-_, _≤_}
 use lib.ListN.{length}
+use borrow.Author.Needs.{needs}
 use Rattle.script.proofs.answers.changed.Statement.{statement}
 use Rattle.script.proofs.answers.changed.Tie as tie
 
 abbrev Inv-loop : tie.InvT-loop
-Inv-loop lent n i₀ i = Unit {0}
+Inv-loop n lent i₀ i =
+    (n ≤ i)
 
 abbrev μ-loop : tie.MeasureT-loop
-μ-loop lent n i₀ i = length lent - i
-
-loop-holds : tie.Need-loop-holds Inv-loop μ-loop
-loop-holds c = search needs
-
-shared-slice-read-if1 : tie.Need-shared-slice-read-if1 Inv-loop μ-loop
-shared-slice-read-if1 c = search needs
-
-returns : tie.Need-returns Inv-loop μ-loop
-returns c = search needs
-
-add-i : tie.Need-add-i Inv-loop μ-loop
-add-i c = search needs
-
-loop-less : tie.Need-loop-less Inv-loop μ-loop
-loop-less c = search needs
-
-loop-again : tie.Need-loop-again Inv-loop μ-loop
-loop-again c = search needs
-
-returns-2 : tie.Need-returns-2 Inv-loop μ-loop
-returns-2 c = search needs
+μ-loop n lent i₀ i = length lent - i
 
 pub changed-spec : {M : Type 1} → statement M
 changed-spec =
@@ -38,10 +18,11 @@ changed-spec =
     (tie.spec
     Inv-loop
     μ-loop
-    loop-holds
-    shared-slice-read-if1
-    returns
-    add-i
-    loop-less
-    loop-again
-    returns-2)
+    (λ c. search needs)
+    (λ c. search needs)
+    (λ c. search needs)
+    (λ c. search needs)
+    (λ c. search needs)
+    (λ c. search needs)
+    (λ c. search needs)
+    (λ c. search needs))

@@ -1,2 +1,0 @@
--- What the functions of a script promise one another.
-pub mod Script
