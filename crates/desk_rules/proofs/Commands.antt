@@ -8,12 +8,11 @@ use lib.ListN.{length}
 use borrow.Author.Tests.{leb-true}
 use Rattle.zvt_rules.specs.declared.Format.the-variants.{Fixed}
 use Rattle.zvt_rules.specs.Reading.{got, among}
-use Rattle.zvt_rules.specs.Fields.{plain, formatOf, fieldId, countField, countFields}
+use Rattle.zvt_rules.specs.Fields.{Field, plain, formatOf, fieldId, countField, countFields}
 use Rattle.zvt_rules.specs.Message.{Message, layoutOf, readOf}
 use Rattle.zvt_rules.specs.Writing.{fieldBytes, lengthIn, listBytes, bodyBytes, lengthBytes, messageBytes}
 use Rattle.zvt_rules.specs.Grammar.{Decimals, SizeOk, FieldOk, ListOk, FieldsOk, LayoutOk, LengthOk, MessageOk}
 use Rattle.zvt_rules.specs.Digits.{digitBytesOf, numberOf}
-use Rattle.zvt_rules.specs.Values.{valueIn, fieldValue}
 use Rattle.zvt_rules.proofs.DigitLaws.{digits-size, digits-decimal, number-same}
 use Rattle.zvt_rules.proofs.MessageBytes.{read-complete}
 use Rattle.zvt_rules.proofs.Tests.{between}
@@ -23,9 +22,9 @@ use Rattle.desk_rules.specs.declared.Phase.{Phase}
 use Rattle.desk_rules.specs.declared.Phase.the-variants.{Idle, Waiting, Running}
 use Rattle.desk_rules.specs.declared.Lane.{Lane}
 use Rattle.desk_rules.specs.Numbers.{amountOk, receiptOk, passwordOk, mostAsked, mostReceipt, mostPassword}
-use Rattle.desk_rules.specs.Openings.{withinLimits, money, commandOf, commandBytes, commandSize, mostCommand}
+use Rattle.desk_rules.specs.Openings.{withinLimits, money, command, commandOf, commandBytes, commandSize, mostCommand}
 use Rattle.desk_rules.specs.Course.{Call, opening, message, lost, answered, writes}
-use Rattle.desk_rules.specs.Table.{MoneyIs, Commands}
+use Rattle.desk_rules.specs.Table.{Heads, FieldSays, MoneySays, Commands}
 
 -- ---- the bytes
 
@@ -94,27 +93,24 @@ command-reads o = read-complete (commandOf o) (command-ok o)
 password-same : (password : ℕ) → passwordOk password ≡ true → numberOf (digitBytesOf 3 password) ≡ password
 password-same password h = number-same 3 password (omega (arith, leb-true password mostPassword h))
 
-money-is : (amount : ℕ) → amountOk amount ≡ true → MoneyIs (money amount) amount
-unfolding valueIn fieldId fieldValue
-money-is amount h = ((digitBytesOf 6 amount, refl, number-same 6 amount (omega (arith, between amount mostAsked .0 h))), refl)
+money-is : (amount : ℕ) → amountOk amount ≡ true → MoneySays amount (money amount)
+money-is amount h = (digitBytesOf 6 amount, refl, number-same 6 amount (omega (arith, between amount mostAsked .0 h)))
+
+receipt-is : (receipt : ℕ) → receiptOk receipt ≡ true → FieldSays 0x87 receipt [] (plain 0x87 (digitBytesOf 2 receipt) ∷ [])
+receipt-is receipt h = (digitBytesOf 2 receipt, refl, number-same 2 receipt (omega (arith, between receipt mostReceipt .0 h)))
+
+heads : (instruction : ℕ) (password : List ℕ) (fs : List Field) → Heads (command instruction password fs) instruction
+heads instruction password fs = record { class = refl; pair = refl; short = refl }
 
 command-says : (o : Opening) → withinLimits o ≡ true → Commands o (commandOf o)
-unfolding commandOf valueIn fieldId fieldValue
-command-says (sale amount) h = ((refl, refl), money amount, refl, money-is amount h)
+unfolding commandOf
+command-says (sale amount) h = (heads _ _ _, (money amount, refl, money-is amount h))
 command-says (refund password amount) h =
     let w = and-eq-true-iff (passwordOk password) (amountOk amount) .0 h in
-    ((refl, refl), (digitBytesOf 3 password, money amount, refl, password-same password (w .0), money-is amount (w .1)))
+    (heads _ _ _, (digitBytesOf 3 password, money amount, refl, password-same password (w .0), money-is amount (w .1)))
 command-says (reversal password receipt) h =
-    let w = and-eq-true-iff (passwordOk password) (receiptOk receipt) .0 h in (
-      (refl, refl),
-      (
-        digitBytesOf 3 password,
-        plain 0x87 (digitBytesOf 2 receipt) ∷ [],
-        refl,
-        password-same password (w .0),
-        (digitBytesOf 2 receipt, refl, number-same 2 receipt (omega (arith, between receipt mostReceipt .0 (w .1)))),
-      ),
-    )
+    let w = and-eq-true-iff (passwordOk password) (receiptOk receipt) .0 h in
+    (heads _ _ _, (digitBytesOf 3 password, _, refl, password-same password (w .0), receipt-is receipt (w .1)))
 
 -- what an opening writes reads back as that opening's command
 pub opening-reads-back : (o : Opening) → withinLimits o ≡ true → (m : Message) × (readOf (commandBytes o) ≡ got m) × Commands o m

@@ -331,7 +331,7 @@ module _ (s : State) (i room : ℕ) where
       put : {d : Decision} → LosingRow s i room d → LosingRow s i room (decide s (lost i) room)
       put r = rw (losing-given r) r
 
--- ---- R30: "A number is given exactly where its row holds and none before it in the order does."
+-- ---- R30: "one is given exactly where its row holds and none before it there does"
 given : (s : State) (c : Call) (room : ℕ) {d : Decision} → Row s c room d → decide s c room ≡ d
 given s (opening i o) room = opening-given s i o room
 given s (message i b) room = hearing-given s i b room

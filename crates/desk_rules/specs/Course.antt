@@ -56,14 +56,14 @@ unfoldable pub settledAs : Kind → ℕ → ℕ → Moved
 settledAs kind asked amount = pick (isReversal kind && not (eqb amount asked)) (Ends Unclear 0 0) (Ends Approved amount 0)
 
 -- P23: "a remembered code 00 means approved". P26: "another remembered code, or no remembered status, means unclear". P33: "The
--- code at 06 0F is the remembered one. It is 0 where nothing is remembered"
+-- code at 06 0F is the remembered one, or 0 where nothing is remembered."
 unfoldable pub completedBy : Lane → ToldCode → Moved
 completedBy l no-code = Ends Unclear 0 0
 completedBy l (Code c) =
     pick (eqb c 0) (settledAs (l .kind) (l .asked) (amountBy (l .status .amount) (l .asked))) (Ends Unclear 0 c)
 
 -- P21: "06 1E ends the payment, declined. The first byte of its body is the code, the others are not read; an empty body is refused
--- (1)."
+-- (1)." Its body is plain (M7): the last row is never met
 unfoldable pub abortedBy : Body → Moved
 abortedBy (bytes []) = noMove 1
 abortedBy (bytes (b ∷ s)) = Ends Declined 0 b
@@ -74,7 +74,7 @@ unfoldable pub reportedBy : Lane → Status → ToldCode → Moved
 reportedBy l status no-code = Stays
 reportedBy l status (Code c) = Becomes (reportedLane l status)
 
--- P19: "04 FF, 06 D1 and 06 D3 change nothing." P22: "06 0F ends the payment."
+-- P22: "06 0F ends the payment." P19: what is left of the pairs that a running lane takes changes nothing
 unfoldable pub movedBy : Lane → Message → Moved
 movedBy l m =
     pick (pairIs (m .class) (m .instruction) 0x06 0x0F) (completedBy l (l .status .code))
@@ -108,13 +108,13 @@ afterHeader l s (got h) = heardBy (l .phase) l s h
 unfoldable pub heard : Lane → List ℕ → Moved
 heard l s = pick (isIdle (l .phase)) (noMove 14) (afterHeader l s (wholeHeader s))
 
--- P27: "Where the link is lost, a waiting or running lane ends its payment, unclear, and replies nothing." P33: its code is 0
+-- P27: "Where the link is lost, a waiting or running lane ends its payment, unclear". P33: "The code of a lost link is 0."
 unfoldable pub lostBy : Lane → Moved
 lostBy l = pick (isIdle (l .phase)) (noMove 14) (Ends Unclear 0 0)
 
 -- ---- opening
 
--- P12, R17: what comes of an opening that refers to that line, if nothing else is against it
+-- R17: "there is no sale to reverse (P12)"; who refers to nothing needs none. The move is what comes of it if nothing else is against it
 abbrev pub standing : Reference → Line → Moved → Moved
 standing Nothing line m = m
 standing (Sold receipt) line m = pick (sold line) m (noMove 17)

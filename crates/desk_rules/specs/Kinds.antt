@@ -28,7 +28,6 @@ isApproved Unclear = false
 isApproved Declined = false
 isApproved Approved = true
 
--- P1: "each of them idle, waiting or running"
 abbrev pub isIdle : Phase → Bool
 isIdle Idle = true
 isIdle Waiting = false

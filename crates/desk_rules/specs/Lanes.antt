@@ -25,7 +25,7 @@ blankLine = record { lane = 0; kind = Sale; asked = 0; settled = 0; receipt = 0;
 abbrev pub idleLane : Lane
 idleLane = record { phase = Idle; kind = Sale; asked = 0; named = 0; status = noStatus }
 
--- P8: "Opening writes the command and makes the idle lane waiting, with nothing remembered."
+-- P8: "makes the idle lane waiting, with nothing remembered"
 abbrev pub waitingLane : Kind → ℕ → ℕ → Lane
 waitingLane kind asked named = record { phase = Waiting; kind = kind; asked = asked; named = named; status = noStatus }
 

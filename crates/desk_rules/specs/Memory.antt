@@ -84,7 +84,7 @@ answerBy accept d c =
 unfoldable pub answerOf : Desk → Call → ℕ → Answer
 answerOf d c room = answerBy (decide (view d) c room) d c
 
--- R33: "Success leaves the bytes of a lent buffer behind those written as they were."
+-- R32: "all lent buffers as they were". R33: "Success leaves the bytes of a lent buffer behind those written as they were."
 unfoldable pub leavesBy : Decision → Desk → Call → List ℕ → List ℕ
 leavesBy (refuse number) d c out = out
 leavesBy accept d c out = front (writes (laneAt (d .lanes) (laneOf c)) c) out
@@ -92,7 +92,7 @@ leavesBy accept d c out = front (writes (laneAt (d .lanes) (laneOf c)) c) out
 unfoldable pub leavesOf : Desk → Call → List ℕ → List ℕ
 leavesOf d c out = leavesBy (decide (view d) c (length out)) d c out
 
--- R19: "a payment is open at closing". P36: "Closing leaves an empty book": as no lane remembers anything, it is a fresh desk
+-- R19: "a payment is open at closing". P36: "Closing leaves an empty book": what is given back is a fresh desk
 unfoldable pub closeAnswer : Desk → Answer
 closeAnswer d = pick (allIdle (d .lanes)) (record { reply = Written 0; desk = freshDesk }) (refusedAnswer d 19)
 

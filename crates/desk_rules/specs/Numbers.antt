@@ -11,7 +11,7 @@ laneCount = 8
 abbrev pub bookLines : ℕ
 bookLines = 64
 
--- P4: "The amount asked is 1 to 999,999,999,999 cents."
+-- P4: "The amount that a sale or refund asks for is 1 to 999,999,999,999 cents."
 abbrev pub mostAsked : ℕ
 mostAsked = 999_999_999_999
 

@@ -63,7 +63,7 @@ lastFrom i r last (l ∷ ls) = lastFrom i r (pick (concerns i r l) l last) ls
 unfoldable pub lastLine : ℕ → Reference → List Line → Line
 lastLine i r ls = lastFrom i r blankLine ls
 
--- P12: "must be a sale", and R17 where it is none; who refers to nothing needs none
+-- P12: "must be a sale"
 abbrev pub sold : Line → Bool
 sold l = isApproved (l .outcome) && isSale (l .kind)
 
@@ -85,7 +85,7 @@ openedLane o line = waitingLane (kindOf o) (askedBy o line) (namedBy o)
 
 -- ---- the command
 
--- P7: "Commands name the currency 0978."
+-- P7: "The currency in a command is always 0978."
 abbrev pub money : ℕ → List Field
 money amount = plain 0x04 (digitBytesOf 6 amount) ∷ (plain 0x49 (0x09 ∷ (0x78 ∷ [])) ∷ [])
 

@@ -8,7 +8,7 @@ use Rattle.desk_rules.specs.declared.Line.{Line}
 use Rattle.desk_rules.specs.Course.{Call, laneOf, needsPlace}
 use Rattle.desk_rules.specs.Desk.{State, laneAt}
 
--- ---- P35: "A call touches the lane that it names and no other."
+-- ---- words for P35: "A call touches the lane that it names and no other."
 
 -- the elements of a list whose number is k, in their order
 unfoldable pub having : {A : Type 0} → (A → ℕ) → ℕ → List A → List A

@@ -7,10 +7,9 @@ use mathlib.Core.List.{List, [], _∷_, _++_}
 use Prim.Native.Nat.{ℕ, _+_, _*_, _≤_, _<_}
 use Rattle.zvt_rules.specs.declared.Fault.{Fault}
 use Rattle.zvt_rules.specs.Reading.{got, refused}
-use Rattle.zvt_rules.specs.Fields.{Field}
+use Rattle.zvt_rules.specs.Fields.{Field, plain}
 use Rattle.zvt_rules.specs.Message.{Heading, wholeHeader, bytes, listed, Message, readOf}
 use Rattle.zvt_rules.specs.Digits.{numberOf}
-use Rattle.zvt_rules.specs.Values.{found, valueIn}
 use Rattle.desk_rules.specs.declared.Kind.the-variants.{Sale}
 use Rattle.desk_rules.specs.declared.Phase.{Phase}
 use Rattle.desk_rules.specs.declared.Phase.the-variants.{Idle, Waiting, Running}
@@ -136,23 +135,29 @@ Row s (lost i) room = LosingRow s i room
 
 -- ---- what a command says
 
--- the list has that field, and its digits are that number
-abbrev pub FieldIs : List Field → ℕ → ℕ → Type 0
-FieldIs fs id n = (value : List ℕ) × (valueIn id fs ≡ found value) × (numberOf value ≡ n)
+-- class 06 with that instruction, in the short form
+pub record Heads (m : Message) (instruction : ℕ) : Type 0 where
+  pub class : m .class ≡ 0x06
+  pub pair : m .instruction ≡ instruction
+  pub short : m .long ≡ false
 
--- P9: "fields 04 and 49". P7: "Commands name the currency 0978."
-abbrev pub MoneyIs : List Field → ℕ → Type 0
-MoneyIs fs amount = FieldIs fs 0x04 amount × (valueIn 0x49 fs ≡ found (0x09 ∷ (0x78 ∷ [])))
+-- a list of that field alone, or of that field and then others, whose digits are that number
+abbrev pub FieldSays : ℕ → ℕ → List Field → List Field → Type 0
+FieldSays id n others fs = (value : List ℕ) × (fs ≡ plain id value ∷ others) × (numberOf value ≡ n)
 
--- class 06 with that instruction; behind a password its fields
-abbrev pub Pair : Message → ℕ → Type 0
-Pair m instruction = (m .class ≡ 0x06) × (m .instruction ≡ instruction)
+-- P9: "fields 04 and 49, in this order". P7: "The currency in a command is always 0978."
+abbrev pub MoneySays : ℕ → List Field → Type 0
+MoneySays amount fs = FieldSays 0x04 amount (plain 0x49 (0x09 ∷ (0x78 ∷ [])) ∷ []) fs
 
-abbrev pub Behind : Message → ℕ → (List Field → Type 0) → Type 0
-Behind m password Says = (word : List ℕ) × (fs : List Field) × (m .body ≡ listed word fs) × (numberOf word ≡ password) × Says fs
+-- fields behind nothing, and behind that password
+abbrev pub AfterNothing : Message → (List Field → Type 0) → Type 0
+AfterNothing m Says = (fs : List Field) × (m .body ≡ listed [] fs) × Says fs
 
--- P9, P10, P11
+abbrev pub AfterPassword : Message → ℕ → (List Field → Type 0) → Type 0
+AfterPassword m password Says = (word : List ℕ) × (fs : List Field) × (m .body ≡ listed word fs) × (numberOf word ≡ password) × Says fs
+
+-- P9, P10, P11: and nothing else
 abbrev pub Commands : Opening → Message → Type 0
-Commands (sale amount) m = Pair m 0x01 × (fs : List Field) × (m .body ≡ listed [] fs) × MoneyIs fs amount
-Commands (refund password amount) m = Pair m 0x31 × Behind m password (λ fs. MoneyIs fs amount)
-Commands (reversal password receipt) m = Pair m 0x30 × Behind m password (λ fs. FieldIs fs 0x87 receipt)
+Commands (sale amount) m = Heads m 0x01 × AfterNothing m (λ fs. MoneySays amount fs)
+Commands (refund password amount) m = Heads m 0x31 × AfterPassword m password (λ fs. MoneySays amount fs)
+Commands (reversal password receipt) m = Heads m 0x30 × AfterPassword m password (λ fs. FieldSays 0x87 receipt [] fs)

@@ -36,7 +36,7 @@ asHeaderAnswer (refused f) = header-refused (refusalOf f)
 unfoldable pub headerAnswer : List ℕ → HeaderAnswer
 headerAnswer s = asHeaderAnswer (wholeHeader s)
 
--- M9: "The reader reports pair, length of the body, number of data objects (O11), and whether the message is shortest." O11: "The
+-- M9: "The reader reports pair, start and length of the body, number of data objects (O11), and whether the message is shortest." O11: "The
 -- reported number of objects is what O10 counts."
 unfoldable pub outlineOf : Message → Outline
 outlineOf m =

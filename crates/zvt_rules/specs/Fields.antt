@@ -56,7 +56,7 @@ unfoldable pub unlessUndecimal : {A : Type 0} → ℕ → List ℕ → Reading A
 unlessUndecimal at [] x = x
 unlessUndecimal at (b ∷ s) x = unless (not (decimal b)) (no 6 at) (unlessUndecimal (at + 1) s x)
 
--- F5: "Fields 04, 0B, 37, 49, 87 and 88 .. All other values are just bytes."
+-- F5: "Fields 04, 0B, 37, 49, 87 and 88 .. The values of all other fields but 06 are just bytes."
 abbrev pub holdsDigits : ℕ → Bool
 holdsDigits id = among (0x04 ∷ 0x0B ∷ 0x37 ∷ 0x49 ∷ 0x87 ∷ 0x88 ∷ []) id
 

@@ -20,7 +20,7 @@ unfoldable pub Bytes : List ℕ → Type 0
 Bytes s = (i : ℕ) → getD s i 0 < 256
 
 -- O3: "A tag has two bytes where the low five bits of its first byte are ones, else one." O4: "A second tag byte with its top bit
--- set is refused". O5: "Bit 20 of the first tag byte, and nothing else, makes the value a run of objects again"
+-- set is refused". O5: "Bit 20 (hex) of the first tag byte, and nothing else, makes the value a run of objects again"
 unfoldable pub TagOk : List ℕ → Bool → Type 0
 TagOk [] run = ⊥
 TagOk (b ∷ []) run = (longTag b ≡ false) × (nested b ≡ run)

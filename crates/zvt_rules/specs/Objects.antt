@@ -15,7 +15,7 @@ longTag b = eqb (b % 32) 31
 abbrev pub topBit : ℕ → Bool
 topBit b = leb 128 b
 
--- O5: "Bit 20 of the first tag byte, and nothing else, makes the value a run of objects again"
+-- O5: "Bit 20 (hex) of the first tag byte, and nothing else, makes the value a run of objects again"
 abbrev pub nested : ℕ → Bool
 nested b = eqb (b / 32 % 2) 1
 
@@ -104,7 +104,7 @@ pub record RunRead : Type 0 where
 abbrev pub RunReader : Type 0
 RunReader = ℕ → ℕ → ℕ → List ℕ → Reading RunRead
 
--- R43: "then its inside". O5: "read as a part of the same bytes. A value without that bit is never looked into."
+-- R43: "then its inside". O5: "read as a part of the same bytes .. A value without that bit is never looked into."
 unfoldable pub insideOf : RunReader → ℕ → ℕ → ℕ → List ℕ → Head → Reading OneRead
 insideOf run left n at s h =
     pick (nested (getD s 0 0))

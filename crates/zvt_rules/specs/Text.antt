@@ -49,6 +49,6 @@ unfoldable pub decimalBy : ℕ → ℕ → List ℕ
 decimalBy zero n = (48 + n % 10) ∷ []
 decimalBy (suc f) n = pick (ltb n 10) ((48 + n) ∷ []) (decimalBy f (n / 10) ++ ((48 + n % 10) ∷ []))
 
--- a number has no more digits than its value
+-- a number has at most one digit more than its value: as many as decimalBy is given
 unfoldable pub decimalText : ℕ → List ℕ
 decimalText n = decimalBy n n

@@ -47,7 +47,7 @@ unfoldable pub receiptOf : Found → ToldReceipt
 receiptOf missing = no-receipt
 receiptOf (found value) = Receipt (numberOf value)
 
--- P20: "code 27, amount 04, receipt 87"
+-- P20: "code (27), amount (04) and receipt (87)"
 unfoldable pub codeIn : List Field → ToldCode
 codeIn fs = codeOf (valueIn 0x27 fs)
 

@@ -34,7 +34,7 @@ pub struct Refusal {
     pub number: u8,
 }
 
-// What a status information tells. P20: "code 27, amount 04, receipt 87"
+// What a status information tells. P20: "code (27), amount (04) and receipt (87)"
 pub enum ToldCode {
     Missing,
     Code(u8),
