@@ -12,76 +12,82 @@ use lib.Seq.{drop-cons}
 use lib.Dec.{ltb}
 use Rattle.zvt_rules.specs.Reading.{pick}
 use Rattle.io.specs.Digits.{digits, glyph, Fewest}
-use Rattle.zvt_rules.specs.Text.{Text, text, one, write, hexText, hexes, bytesText, decimalBy, decimalText}
+use Rattle.zvt_rules.specs.Text.{Text, text, addOne, addAll, hexText, hexes, bytesText, decimalBy, decimalText}
 
-pub add-full : (b at : ℕ) (out : List ℕ) → length out ≤ at → text at out ≡ write (b ∷ []) (text at out)
-unfolding write one
+pub add-full : (b at : ℕ) (out : List ℕ) → length out ≤ at → text at out ≡ addAll (b ∷ []) (text at out)
+unfolding addAll addOne
 add-full b at out h = rw (le-ltb at (length out) h)
 
-pub add-room : (b at : ℕ) (out : List ℕ) → at < length out → text (at + 1) (set out at b) ≡ write (b ∷ []) (text at out)
-unfolding write one
+pub add-room : (b at : ℕ) (out : List ℕ) → at < length out → text (at + 1) (set out at b) ≡ addAll (b ∷ []) (text at out)
+unfolding addAll addOne
 add-room b at out h = rw (lt-ltb at (length out) h)
 
-pub write-append : (v w : List ℕ) (t : Text) → write (v ++ w) t ≡ write w (write v t)
-unfolding write
-write-append [] w t = refl
-write-append (b ∷ v) w t = write-append v w (one b t)
+pub addAll-append : (v w : List ℕ) (t : Text) → addAll (v ++ w) t ≡ addAll w (addAll v t)
+unfolding addAll
+addAll-append [] w t = refl
+addAll-append (b ∷ v) w t = addAll-append v w (addOne b t)
 
 -- one text, and another behind it
-pub both : (v w : List ℕ) (t : Text) {u x : Text} → u ≡ write v t → x ≡ write w u → x ≡ write (v ++ w) t
-both v w t e f = f ∙ ap (λ (y : Text). write w y) e ∙ sym (write-append v w t)
+pub both : (v w : List ℕ) (t : Text) {u x : Text} → u ≡ addAll v t → x ≡ addAll w u → x ≡ addAll (v ++ w) t
+both v w t e f = f ∙ ap (λ (y : Text). addAll w y) e ∙ sym (addAll-append v w t)
 
 -- a text that is written byte by byte
-pub write-first : (b : ℕ) (w : List ℕ) (t : Text) → write (b ∷ w) t ≡ write w (write (b ∷ []) t)
-unfolding write
-write-first b w t = refl
+pub addAll-first : (b : ℕ) (w : List ℕ) (t : Text) → addAll (b ∷ w) t ≡ addAll w (addAll (b ∷ []) t)
+unfolding addAll
+addAll-first b w t = refl
 
-pub write-step : (v : List ℕ) (i : ℕ) (t : Text) → i < length v → write (drop i v) t ≡ write (drop (i + 1) v) (write (getD v i 0 ∷ []) t)
-write-step v i t h = rw (add-one, drop-cons v i 0) (write-first _ _ _)
+pub addAll-step : (v : List ℕ) (i : ℕ) (t : Text) → i < length v → addAll (drop i v) t ≡ addAll (drop (i + 1) v) (addAll (getD v i 0 ∷ []) t)
+addAll-step v i t h = rw (add-one, drop-cons v i 0) (addAll-first _ _ _)
 
-one-room : (b : ℕ) (t : Text) → length ((one b t) .bytes) ≡ length (t .bytes)
-unfolding one
-one-room b t = go (ltb (t .at) (length (t .bytes)))
+addOne-room : (b : ℕ) (t : Text) → length ((addOne b t) .bytes) ≡ length (t .bytes)
+unfolding addOne
+addOne-room b t = go (ltb (t .at) (length (t .bytes)))
   where
     go : (x : Bool) → length ((pick x (text (t .at + 1) (set (t .bytes) (t .at) b)) t) .bytes) ≡ length (t .bytes)
     go true = length-set (t .bytes) (t .at) b
     go false = refl
 
-pub write-room : (w : List ℕ) (t : Text) → length ((write w t) .bytes) ≡ length (t .bytes)
-unfolding write one
-write-room [] t = refl
-write-room (b ∷ w) t = write-room w (one b t) ∙ one-room b t
+pub addAll-room : (w : List ℕ) (t : Text) → length ((addAll w t) .bytes) ≡ length (t .bytes)
+unfolding addAll addOne
+addAll-room [] t = refl
+addAll-room (b ∷ w) t = addAll-room w (addOne b t) ∙ addOne-room b t
 
-one-in : (b : ℕ) (t : Text) → t .at ≤ length (t .bytes) → (one b t) .at ≤ length ((one b t) .bytes)
-unfolding one
-one-in b t h = go (ltb (t .at) (length (t .bytes))) refl
+addOne-in : (b : ℕ) (t : Text) → t .at ≤ length (t .bytes) → (addOne b t) .at ≤ length ((addOne b t) .bytes)
+unfolding addOne
+addOne-in b t h = go (ltb (t .at) (length (t .bytes))) refl
   where
     go : (x : Bool) → ltb (t .at) (length (t .bytes)) ≡ x
         → (pick x (text (t .at + 1) (set (t .bytes) (t .at) b)) t) .at ≤ length ((pick x (text (t .at + 1) (set (t .bytes) (t .at) b)) t) .bytes)
     go true e = omega (arith, ltb-true (t .at) (length (t .bytes)) e, length-set (t .bytes) (t .at) b)
     go false e = h
 
-write-in : (w : List ℕ) (t : Text) → t .at ≤ length (t .bytes) → (write w t) .at ≤ length ((write w t) .bytes)
-unfolding write
-write-in [] t h = h
-write-in (b ∷ w) t h = write-in w (one b t) (one-in b t h)
+addAll-in : (w : List ℕ) (t : Text) → t .at ≤ length (t .bytes) → (addAll w t) .at ≤ length ((addAll w t) .bytes)
+unfolding addAll
+addAll-in [] t h = h
+addAll-in (b ∷ w) t h = addAll-in w (addOne b t) (addOne-in b t h)
 
-pub written-in : (w : List ℕ) (at : ℕ) (entry : List ℕ) (r : ℕ) (exit : List ℕ) → text r exit ≡ write w (text at entry)
+pub written-in : (w : List ℕ) (at : ℕ) (entry : List ℕ) (r : ℕ) (exit : List ℕ) → text r exit ≡ addAll w (text at entry)
     → at ≤ length entry → r ≤ length exit
 written-in w at entry r exit e h =
-    omega (arith, write-in w (text at entry) h, ap (λ (t : Text). t .at) e, ap (λ (t : Text). length (t .bytes)) e)
+    omega (arith, addAll-in w (text at entry) h, ap (λ (t : Text). t .at) e, ap (λ (t : Text). length (t .bytes)) e)
 
-pub write-none : (v : List ℕ) (i : ℕ) (t : Text) → length v ≤ i → write (drop i v) t ≡ t
-unfolding write
-write-none v i t h = rw (drop-of-length-le v h)
+-- a loop that adds the part w: the room stays, and what is left, l and then l′, comes to the same
+pub goes-on : {w l l′ : List ℕ} {t u s : Text} {room : ℕ} → u ≡ addAll w t → addAll l t ≡ addAll l′ (addAll w t)
+    → (length (t .bytes) ≡ room) × (addAll l t ≡ s) → (length (u .bytes) ≡ room) × (addAll l′ u ≡ s)
+goes-on {w} {l} {l′} {t} e step (room, same) =
+    (ap (λ (x : Text). length (x .bytes)) e ∙ addAll-room w t ∙ room, ap (λ (x : Text). addAll l′ x) e ∙ sym step ∙ same)
+
+pub addAll-none : (v : List ℕ) (i : ℕ) (t : Text) → length v ≤ i → addAll (drop i v) t ≡ t
+unfolding addAll
+addAll-none v i t h = rw (drop-of-length-le v h)
 
 -- bytes as hex, one after the other
-pub hex-step : (v : List ℕ) (i : ℕ) (t : Text) → i < length v → write (hexes (drop i v)) t ≡ write (hexes (drop (i + 1) v)) (write (hexText (getD v i 0)) t)
+pub hex-step : (v : List ℕ) (i : ℕ) (t : Text) → i < length v → addAll (hexes (drop i v)) t ≡ addAll (hexes (drop (i + 1) v)) (addAll (hexText (getD v i 0)) t)
 unfolding hexes
-hex-step v i t h = rw (add-one, drop-cons v i 0) (write-append (hexText (getD v i 0)) (hexes (drop (suc i) v)) t)
+hex-step v i t h = rw (add-one, drop-cons v i 0) (addAll-append (hexText (getD v i 0)) (hexes (drop (suc i) v)) t)
 
-pub hex-none : (v : List ℕ) (i : ℕ) (t : Text) → length v ≤ i → write (hexes (drop i v)) t ≡ t
-unfolding hexes write
+pub hex-none : (v : List ℕ) (i : ℕ) (t : Text) → length v ≤ i → addAll (hexes (drop i v)) t ≡ t
+unfolding hexes addAll
 hex-none v i t h = rw (drop-of-length-le v h)
 
 pub bytes-none : (v : List ℕ) → length v ≡ 0 → bytesText v ≡ 45 ∷ []

@@ -5,7 +5,7 @@ ghost use Prim.Native.Nat.{_<_, min};
 ghost use mathlib.Core.List.{[], _∷_};
 ghost use lib.ListN.{length, replicate};
 ghost use Rattle.io.specs.Counts.{Counts};
-ghost use Rattle.zvt_rules.specs.Text.{text, write, hexDigit, hexText, hexes, bytesText, hexValue, decimalText};
+ghost use Rattle.zvt_rules.specs.Text.{text, addAll, hexDigit, hexText, hexes, bytesText, hexValue, decimalText};
 
 // Every byte becomes that value.
 pub fn fill(out: &mut [u8], value: u8)
@@ -27,7 +27,7 @@ pub fn upto(n: usize, s: &[u8]) -> usize
 }
 
 pub fn add(b: u8, at: usize, out: &mut [u8]) -> usize
-    ensures { λ r. ⌜ text r (now (out .exit)) ≡ write (b ∷ []) (text at (now (out .entry))) ⌝ }
+    ensures { λ r. ⌜ text r (now (out .exit)) ≡ addAll (b ∷ []) (text at (now (out .entry))) ⌝ }
 {
     if out.len() <= at {
         return at;
@@ -37,7 +37,7 @@ pub fn add(b: u8, at: usize, out: &mut [u8]) -> usize
 }
 
 pub fn add_all(v: &[u8], at: usize, out: &mut [u8]) -> usize
-    ensures { λ r. ⌜ text r (now (out .exit)) ≡ write (now (v .entry)) (text at (now (out .entry))) ⌝ }
+    ensures { λ r. ⌜ text r (now (out .exit)) ≡ addAll (now (v .entry)) (text at (now (out .entry))) ⌝ }
 {
     let mut to = at;
     let mut i: usize = 0;
@@ -57,13 +57,13 @@ fn digit(d: u8) -> u8
 
 // Two digits in capital hex.
 pub fn add_hex(b: u8, at: usize, out: &mut [u8]) -> usize
-    ensures { λ r. ⌜ text r (now (out .exit)) ≡ write (hexText b) (text at (now (out .entry))) ⌝ }
+    ensures { λ r. ⌜ text r (now (out .exit)) ≡ addAll (hexText b) (text at (now (out .entry))) ⌝ }
 {
     add_all(&[digit(b / 16), digit(b % 16)], at, out)
 }
 
 fn add_hexes(v: &[u8], at: usize, out: &mut [u8]) -> usize
-    ensures { λ r. ⌜ text r (now (out .exit)) ≡ write (hexes (now (v .entry))) (text at (now (out .entry))) ⌝ }
+    ensures { λ r. ⌜ text r (now (out .exit)) ≡ addAll (hexes (now (v .entry))) (text at (now (out .entry))) ⌝ }
 {
     let mut to = at;
     let mut i: usize = 0;
@@ -76,7 +76,7 @@ fn add_hexes(v: &[u8], at: usize, out: &mut [u8]) -> usize
 
 // Bytes as hex, `-` for none.
 pub fn add_bytes(v: &[u8], at: usize, out: &mut [u8]) -> usize
-    ensures { λ r. ⌜ text r (now (out .exit)) ≡ write (bytesText (now (v .entry))) (text at (now (out .entry))) ⌝ }
+    ensures { λ r. ⌜ text r (now (out .exit)) ≡ addAll (bytesText (now (v .entry))) (text at (now (out .entry))) ⌝ }
 {
     if v.len() == 0 {
         return add(b'-', at, out);
@@ -85,7 +85,7 @@ pub fn add_bytes(v: &[u8], at: usize, out: &mut [u8]) -> usize
 }
 
 pub fn add_decimal(n: u64, at: usize, out: &mut [u8]) -> usize
-    ensures { λ r. ⌜ text r (now (out .exit)) ≡ write (decimalText n) (text at (now (out .entry))) ⌝ }
+    ensures { λ r. ⌜ text r (now (out .exit)) ≡ addAll (decimalText n) (text at (now (out .entry))) ⌝ }
 {
     let mut digits = [0u8; 20];
     let k = io::decimal(n, &mut digits);

@@ -27,7 +27,7 @@ use Rattle.desk_rules.specs.Course.{noMove, lostBy, Call, laneOf, needsPlace, N
 use Rattle.desk_rules.specs.Lanes.{lineAt}
 use Rattle.desk_rules.specs.Desk.{laneAt, load, refuse, accept, unlessRefused, decide, linesFrom}
 use Rattle.desk_rules.specs.Memory.{view, laneFor, Valid, movedDesk, refusedAnswer, answerOf, leavesOf}
-use Rattle.desk.specs.Steps.{Placed, LineFits}
+use Rattle.desk.specs.Steps.{LinePlaced, LineFits}
 use Rattle.desk_rules.proofs.Moved.{the-type}
 use Rattle.desk_rules.proofs.Calls.{Passes}
 use Rattle.desk_rules.proofs.Lanes.{passing}
@@ -44,7 +44,7 @@ passes-tag (Ends outcome settled code) h = tt
 
 -- the line at an end, if it is booked, finds a place
 pub line-placed : (d : Desk) (i : ℕ) (outcome : Outcome) (settled code : ℕ) → LineFits d i (Ends outcome settled code)
-    → Placed d (lineAt i (laneAt (d .lanes) i) outcome settled code)
+    → LinePlaced d (lineAt i (laneAt (d .lanes) i) outcome settled code)
 unfolding linesFrom lineAt
 line-placed d i outcome settled code h b = let k = rw b at h in omega arith
 

@@ -17,8 +17,8 @@ pub record Sized (d : Desk) (i : ℕ) : Type 0 where
   pub lines : length (d .book .lines) ≡ bookLines
 
 -- a line that is booked finds a place
-abbrev pub Placed : Desk → Line → Type 0
-Placed d l = booked (l .kind) ≡ true → d .book .count < bookLines
+abbrev pub LinePlaced : Desk → Line → Type 0
+LinePlaced d l = booked (l .kind) ≡ true → d .book .count < bookLines
 
 -- the line that a move of lane i adds finds a place
 abbrev pub LineFits : Desk → ℕ → Moved → Type 0

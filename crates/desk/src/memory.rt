@@ -15,7 +15,7 @@ ghost use Rattle.desk_rules.specs.Numbers.{laneCount, bookLines};
 ghost use Rattle.desk_rules.specs.Openings.{lastLine};
 ghost use Rattle.desk_rules.specs.Desk.{placesTaken, allIdle, load};
 ghost use Rattle.desk_rules.specs.Memory.{Valid, withLine, view, endedDesk, movedDesk};
-ghost use Rattle.desk.specs.Steps.{Sized, Placed, LineFits};
+ghost use Rattle.desk.specs.Steps.{Sized, LinePlaced, LineFits};
 
 pub(crate) fn with_line(b: Book, l: Line) -> Book
     requires { ⌜ b .count < bookLines ⌝ }
@@ -90,7 +90,7 @@ pub(crate) fn all_idle(d: Desk) -> bool
 
 // The lane's payment ends, with that line if it is booked, and the lane is idle.
 pub(crate) fn ended(d: Desk, lane: u8, line: Line) -> Desk
-    requires { ⌜ Sized d lane × Placed d line ⌝ }
+    requires { ⌜ Sized d lane × LinePlaced d line ⌝ }
     ensures { λ r. ⌜ r ≡ endedDesk d lane line ⌝ }
 {
     let at = lane as usize;

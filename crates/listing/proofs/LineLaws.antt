@@ -14,10 +14,10 @@ use Rattle.zvt_rules.proofs.MessageBytes.{read-sound}
 use Rattle.zvt_rules.specs.declared.Listed.{Listed}
 use Rattle.zvt_rules.specs.declared.FieldAnswer.the-variants.{Field as listed-field, End}
 use Rattle.zvt_rules.specs.Listed.{listedAt, listedFrom, listedBody, listedMessage, nthListed}
-use Rattle.zvt_rules.specs.Text.{Text, write, hexText}
+use Rattle.zvt_rules.specs.Text.{Text, addAll, hexText}
 use Rattle.zvt_rules.specs.Listing.{idsText, bodyIds, idsOf}
 use Rattle.listing.specs.Lines.{listedText}
-use Rattle.buffers.proofs.TextLaws.{write-append, write-first}
+use Rattle.buffers.proofs.TextLaws.{addAll-append, addAll-first}
 
 -- ---- the fields of a list, one after the other
 nth-field : (k : ℕ) (ls : List Listed) (l : Listed) → nthListed k ls ≡ listed-field l → drop k ls ≡ l ∷ drop (suc k) ls
@@ -34,13 +34,13 @@ nth-end zero (x ∷ ls) e = let z : _≡_ {A = ℕ} 0 1 = cc in absurd (omega ar
 nth-end (suc k) (x ∷ ls) e = nth-end k ls e
 
 pub ids-step : (k : ℕ) (ls : List Listed) (l : Listed) (t : Text) → nthListed k ls ≡ listed-field l
-    → write (listedText (drop k ls)) t ≡ write (listedText (drop (k + 1) ls)) (write (hexText (l .id)) (write (32 ∷ []) t))
+    → addAll (listedText (drop k ls)) t ≡ addAll (listedText (drop (k + 1) ls)) (addAll (hexText (l .id)) (addAll (32 ∷ []) t))
 unfolding listedText
 ids-step k ls l t e =
-    rw (nth-field k ls l e, add-one) (write-first 32 _ t ∙ write-append (hexText (l .id)) _ _)
+    rw (nth-field k ls l e, add-one) (addAll-first 32 _ t ∙ addAll-append (hexText (l .id)) _ _)
 
-pub ids-end : (k : ℕ) (ls : List Listed) (t : Text) → nthListed k ls ≡ End → write (listedText (drop k ls)) t ≡ t
-unfolding listedText write
+pub ids-end : (k : ℕ) (ls : List Listed) (t : Text) → nthListed k ls ≡ End → addAll (listedText (drop k ls)) t ≡ t
+unfolding listedText addAll
 ids-end k ls t e = rw (nth-end k ls e)
 
 -- ---- there are no more fields than bytes
@@ -67,8 +67,8 @@ few s (got m) e b =
     omega (arith, ap length k, length-append (lengthBytes (m .long) (length w)) w, body-few (m .body) (headerSize (m .long)))
 few s (refused f) e b = omega arith
 
-pub ids-all : (s : List ℕ) (k : ℕ) (t : Text) → Bytes s → length s ≤ k → write (listedText (drop k (listedMessage (readOf s)))) t ≡ t
-unfolding listedText write
+pub ids-all : (s : List ℕ) (k : ℕ) (t : Text) → Bytes s → length s ≤ k → addAll (listedText (drop k (listedMessage (readOf s)))) t ≡ t
+unfolding listedText addAll
 ids-all s k t b h =
     let l : length (listedMessage (readOf s)) ≤ k = omega (arith, few s (readOf s) refl b) in
     rw (drop-of-length-le (listedMessage (readOf s)) l)

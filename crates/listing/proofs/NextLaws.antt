@@ -10,7 +10,7 @@ use Rattle.zvt_rules.specs.Reading.{Reading, got, refused}
 use Rattle.zvt_rules.specs.Message.{Message, readOf, firstOf}
 use Rattle.zvt_rules.specs.Writing.{messageBytes}
 use Rattle.zvt_rules.specs.Grammar.{Bytes}
-use Rattle.zvt_rules.specs.Text.{Text, text, write}
+use Rattle.zvt_rules.specs.Text.{Text, text, addAll}
 use Rattle.zvt_rules.specs.Listing.{messageText, okText, refusedText, idsOf, NextLine, message, last, nextBy, nextOf, andRest, linesBy}
 use Rattle.zvt_rules.proofs.ObjectReading.{tail}
 use Rattle.zvt_rules.proofs.MessageBytes.{first-sound, read-complete}
@@ -18,7 +18,7 @@ use Rattle.zvt_rules.specs.declared.Refusal.{Refusal}
 use Rattle.zvt_rules.specs.declared.Outline.{Outline}
 use Rattle.zvt_rules.specs.declared.FirstAnswer.the-variants.{Accepted as first-accepted, Refused as first-refused}
 use Rattle.zvt_rules.specs.Answers.{refusalOf, outlineOf, asFirstAnswer, firstAnswer}
-use Rattle.buffers.proofs.TextLaws.{write-append}
+use Rattle.buffers.proofs.TextLaws.{addAll-append}
 use Rattle.listing.specs.Lines.{readText}
 
 pub next-over : (count : ℕ) (s : List ℕ) → 65536 < length s → nextOf count s ≡ last (refusedText count 2)
@@ -81,16 +81,16 @@ module _ (s : List ℕ) (b : Bytes s) (m : Outline) (next : ℕ) (e : firstAnswe
 
 -- ---- the lines from there on
 lines-last : (f count : ℕ) (s w : List ℕ) (t : Text) → nextOf count s ≡ last w
-    → write (linesBy (suc f) count s) t ≡ write (10 ∷ []) (write w t)
+    → addAll (linesBy (suc f) count s) t ≡ addAll (10 ∷ []) (addAll w t)
 unfolding linesBy andRest
-lines-last f count s w t e = rw e (write-append w (10 ∷ []) t)
+lines-last f count s w t e = rw e (addAll-append w (10 ∷ []) t)
 
 lines-message : (f count : ℕ) (s w : List ℕ) (next : ℕ) (t : Text) → nextOf count s ≡ message w next
-    → write (linesBy (suc f) count s) t ≡ write (linesBy f (count + 1) (drop next s)) (write (10 ∷ []) (write w t))
+    → addAll (linesBy (suc f) count s) t ≡ addAll (linesBy f (count + 1) (drop next s)) (addAll (10 ∷ []) (addAll w t))
 unfolding linesBy andRest
 lines-message f count s w next t e =
     let rest = linesBy f (count + 1) (drop next s) in
-    rw e (write-append w (10 ∷ rest) t ∙ write-append (10 ∷ []) rest (write w t))
+    rw e (addAll-append w (10 ∷ rest) t ∙ addAll-append (10 ∷ []) rest (addAll w t))
 
 -- what is left of s behind its first bytes, of which no more messages were listed than there are
 module _ (s : List ℕ) (from count : ℕ) (few : count ≤ from) (inside : from ≤ length s) (w : List ℕ) (t : Text) where
@@ -100,12 +100,12 @@ module _ (s : List ℕ) (from count : ℕ) (few : count ≤ from) (inside : from
   more : length s + 1 - count ≡ suc (length s - count)
   more = omega arith
 
-  pub rest-last : nextOf count rest ≡ last w → write (linesBy (length s + 1 - count) count (drop from s)) t ≡ write (10 ∷ []) (write w t)
+  pub rest-last : nextOf count rest ≡ last w → addAll (linesBy (length s + 1 - count) count (drop from s)) t ≡ addAll (10 ∷ []) (addAll w t)
   rest-last e = rw more (lines-last (length s - count) count (drop from s) w t (rw (tail from s) at e))
 
   pub rest-message : (next : ℕ) → nextOf count rest ≡ message w next
-      → write (linesBy (length s + 1 - count) count (drop from s)) t
-      ≡ write (linesBy (length s + 1 - (count + 1)) (count + 1) (drop (from + next) s)) (write (10 ∷ []) (write w t))
+      → addAll (linesBy (length s + 1 - count) count (drop from s)) t
+      ≡ addAll (linesBy (length s + 1 - (count + 1)) (count + 1) (drop (from + next) s)) (addAll (10 ∷ []) (addAll w t))
   rest-message next e =
       let fewer : length s + 1 - (count + 1) ≡ length s - count = omega arith in
       rw (more, fewer, ← (drop-drop next from s)) (lines-message (length s - count) count (drop from s) w next t (rw (tail from s) at e))

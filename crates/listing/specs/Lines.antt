@@ -3,7 +3,7 @@ use Prim.Native.Nat.{ℕ, _≤_}
 use mathlib.Core.Path.{_≡_}
 use mathlib.Core.List.{List, [], _∷_, _++_}
 use lib.ListN.{length}
-use Rattle.zvt_rules.specs.Text.{text, write, hexText}
+use Rattle.zvt_rules.specs.Text.{text, addAll, hexText}
 use Rattle.zvt_rules.specs.Listing.{startText, sizeText, NextLine, message, last}
 use Rattle.zvt_rules.specs.declared.Listed.{Listed}
 use Rattle.zvt_rules.specs.declared.Outline.{Outline}
@@ -18,8 +18,8 @@ unfoldable pub readText : ℕ → Outline → List ℕ → List ℕ
 readText number m ids = startText number (m .class) (m .instruction) ++ (sizeText (m .length) (m .shortest) ++ ids)
 
 -- the line n of the input s was put behind the first at bytes; a message, which is not empty, lies in the input
-unfoldable pub Put : NextLine → List ℕ → ℕ → List ℕ → Line → List ℕ → Type 0
-Put n s at entry (message-line end next) exit =
-    (w : List ℕ) × (n ≡ message w next) × (text end exit ≡ write w (text at entry))
+unfoldable pub Added : NextLine → List ℕ → ℕ → List ℕ → Line → List ℕ → Type 0
+Added n s at entry (message-line end next) exit =
+    (w : List ℕ) × (n ≡ message w next) × (text end exit ≡ addAll w (text at entry))
     × (1 ≤ next) × (next ≤ length s) × (length s ≤ 65536)
-Put n s at entry (Last end) exit = (w : List ℕ) × (n ≡ last w) × (text end exit ≡ write w (text at entry))
+Added n s at entry (Last end) exit = (w : List ℕ) × (n ≡ last w) × (text end exit ≡ addAll w (text at entry))

@@ -8,9 +8,9 @@ use zvt_rules::FirstAnswer;
 use zvt_rules::Outline;
 ghost use mathlib.Core.Path.{_≡_};
 ghost use Rattle.zvt_rules.specs.Message.{readOf};
-ghost use Rattle.zvt_rules.specs.Text.{text, write};
+ghost use Rattle.zvt_rules.specs.Text.{text, addAll};
 ghost use Rattle.zvt_rules.specs.Listing.{startText, sizeText, endText, okText, refusedText, idsOf, nextOf, listing};
-ghost use Rattle.listing.specs.Lines.{readText, Put};
+ghost use Rattle.listing.specs.Lines.{readText, Added};
 
 // An input of more bytes is refused before its first message.
 pub const LIMIT: usize = 65536;
@@ -26,7 +26,7 @@ enum Line {
 
 // The ids of the list of the message that s is, a blank before each.
 pub fn add_ids(s: &[u8], at: usize, out: &mut [u8]) -> usize
-    ensures { λ r. ⌜ text r (now (out .exit)) ≡ write (idsOf (readOf (now (s .entry)))) (text at (now (out .entry))) ⌝ }
+    ensures { λ r. ⌜ text r (now (out .exit)) ≡ addAll (idsOf (readOf (now (s .entry)))) (text at (now (out .entry))) ⌝ }
 {
     let mut to = at;
     let mut k: usize = 0;
@@ -45,7 +45,7 @@ pub fn add_ids(s: &[u8], at: usize, out: &mut [u8]) -> usize
 
 // Number and pair.
 fn add_start(number: u64, m: Outline, at: usize, out: &mut [u8]) -> usize
-    ensures { λ r. ⌜ text r (now (out .exit)) ≡ write (startText number (m .class) (m .instruction)) (text at (now (out .entry))) ⌝ }
+    ensures { λ r. ⌜ text r (now (out .exit)) ≡ addAll (startText number (m .class) (m .instruction)) (text at (now (out .entry))) ⌝ }
 {
     let mut to = add_decimal(number, at, out);
     to = add(b' ', to, out);
@@ -55,7 +55,7 @@ fn add_start(number: u64, m: Outline, at: usize, out: &mut [u8]) -> usize
 
 // Body length and form.
 pub fn add_size(m: Outline, at: usize, out: &mut [u8]) -> usize
-    ensures { λ r. ⌜ text r (now (out .exit)) ≡ write (sizeText (m .length) (m .shortest)) (text at (now (out .entry))) ⌝ }
+    ensures { λ r. ⌜ text r (now (out .exit)) ≡ addAll (sizeText (m .length) (m .shortest)) (text at (now (out .entry))) ⌝ }
 {
     let mut to = add(b' ', at, out);
     to = add_decimal(m.length as u64, to, out);
@@ -68,7 +68,7 @@ pub fn add_size(m: Outline, at: usize, out: &mut [u8]) -> usize
 
 // The line of the message that s is.
 fn message_line(s: &[u8], number: u64, m: Outline, at: usize, out: &mut [u8]) -> usize
-    ensures { λ r. ⌜ text r (now (out .exit)) ≡ write (readText number m (idsOf (readOf (now (s .entry))))) (text at (now (out .entry))) ⌝ }
+    ensures { λ r. ⌜ text r (now (out .exit)) ≡ addAll (readText number m (idsOf (readOf (now (s .entry))))) (text at (now (out .entry))) ⌝ }
 {
     let mut to = add_start(number, m, at, out);
     to = add_size(m, to, out);
@@ -76,21 +76,21 @@ fn message_line(s: &[u8], number: u64, m: Outline, at: usize, out: &mut [u8]) ->
 }
 
 fn add_end(count: u64, at: usize, out: &mut [u8]) -> usize
-    ensures { λ r. ⌜ text r (now (out .exit)) ≡ write (endText count) (text at (now (out .entry))) ⌝ }
+    ensures { λ r. ⌜ text r (now (out .exit)) ≡ addAll (endText count) (text at (now (out .entry))) ⌝ }
 {
     let to = add_all(b"end ", at, out);
     add_decimal(count, to, out)
 }
 
 fn ok_line(count: u64, at: usize, out: &mut [u8]) -> usize
-    ensures { λ r. ⌜ text r (now (out .exit)) ≡ write (okText count) (text at (now (out .entry))) ⌝ }
+    ensures { λ r. ⌜ text r (now (out .exit)) ≡ addAll (okText count) (text at (now (out .entry))) ⌝ }
 {
     let to = add_end(count, at, out);
     add_all(b" ok", to, out)
 }
 
 fn refused_line(count: u64, number: u8, at: usize, out: &mut [u8]) -> usize
-    ensures { λ r. ⌜ text r (now (out .exit)) ≡ write (refusedText count number) (text at (now (out .entry))) ⌝ }
+    ensures { λ r. ⌜ text r (now (out .exit)) ≡ addAll (refusedText count number) (text at (now (out .entry))) ⌝ }
 {
     let mut to = add_end(count, at, out);
     to = add_all(b" refused ", to, out);
@@ -99,7 +99,7 @@ fn refused_line(count: u64, number: u8, at: usize, out: &mut [u8]) -> usize
 
 // The line of the message that the rest of an input begins with, after count messages; or the last line.
 fn next_line(rest: &[u8], count: u32, at: usize, out: &mut [u8]) -> Line
-    ensures { λ r. ⌜ Put (nextOf count (now (rest .entry))) (now (rest .entry)) at (now (out .entry)) r (now (out .exit)) ⌝ }
+    ensures { λ r. ⌜ Added (nextOf count (now (rest .entry))) (now (rest .entry)) at (now (out .entry)) r (now (out .exit)) ⌝ }
 {
     let listed = count as u64;
     if LIMIT < rest.len() {
@@ -119,7 +119,7 @@ fn next_line(rest: &[u8], count: u32, at: usize, out: &mut [u8]) -> Line
 
 // The listing of an input, each line with its end, at the start of out; and where it ends.
 pub fn list(s: &[u8], out: &mut [u8]) -> usize
-    ensures { λ r. ⌜ text r (now (out .exit)) ≡ write (listing (now (s .entry))) (text 0 (now (out .entry))) ⌝ }
+    ensures { λ r. ⌜ text r (now (out .exit)) ≡ addAll (listing (now (s .entry))) (text 0 (now (out .entry))) ⌝ }
 {
     let mut to: usize = 0;
     let mut from: usize = 0;

@@ -44,8 +44,8 @@ pub data CaseAnswer : Type 0 where
   refusal : ℕ → CaseAnswer
 
 infix 70 _⟶_
-pub data Row : Type 0 where
-  _⟶_ : Question → CaseAnswer → Row
+pub data CaseRow : Type 0 where
+  _⟶_ : Question → CaseAnswer → CaseRow
 
 -- ---- what the definitions answer
 
@@ -93,10 +93,10 @@ answerTo (call cs c) = afterDay freshDesk cs λ d. callSays (answerOf d c (lengt
 answerTo (day cs) = afterDay freshDesk cs λ d. book (linesOfDesk d) (netOf (linesOfDesk d))
 
 -- the answers that the definitions give to a table's rows, and those that the page gives
-unfoldable pub computed : List Row → List CaseAnswer
+unfoldable pub computed : List CaseRow → List CaseAnswer
 computed [] = []
 computed (q ⟶ a ∷ rs) = answerTo q ∷ computed rs
 
-unfoldable pub stated : List Row → List CaseAnswer
+unfoldable pub stated : List CaseRow → List CaseAnswer
 stated [] = []
 stated (q ⟶ a ∷ rs) = a ∷ stated rs

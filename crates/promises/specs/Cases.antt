@@ -11,7 +11,7 @@ use Rattle.desk_rules.specs.declared.Outcome.the-variants.{Declined, Approved}
 use Rattle.desk_rules.specs.declared.Line.{Line}
 use Rattle.desk_rules.specs.declared.Opening.the-variants.{Sale as sale, Reversal as reversal}
 use Rattle.desk_rules.specs.Course.{Call, opening, message}
-use Rattle.promises.specs.Asking.{Row, _⟶_, read, list, name, short, call, day, accepted, fields, gives, book, refusal, status}
+use Rattle.promises.specs.Asking.{CaseRow, _⟶_, read, list, name, short, call, day, accepted, fields, gives, book, refusal, status}
 
 -- so many bytes, written as one number
 unfoldable pub hex : ℕ → ℕ → List ℕ
@@ -52,7 +52,7 @@ soldOnce =
     ∷ message 0 (hex 3 0x06_0F_00)
     ∷ []
 
-unfoldable pub table : List Row
+unfoldable pub table : List CaseRow
 table =
     -- "80 00 00: empty body, shortest. Empty input, 80 00: 1."
     read (hex 3 0x80_00_00) ⟶ accepted 0x8000 0 true 0

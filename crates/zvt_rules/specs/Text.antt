@@ -14,12 +14,12 @@ abbrev pub text : ℕ → List ℕ → Text
 text at out = record { at = at; bytes = out }
 
 -- one byte more where there is room, else the same
-unfoldable pub one : ℕ → Text → Text
-one b t = pick (ltb (t .at) (length (t .bytes))) (text (t .at + 1) (set (t .bytes) (t .at) b)) t
+unfoldable pub addOne : ℕ → Text → Text
+addOne b t = pick (ltb (t .at) (length (t .bytes))) (text (t .at + 1) (set (t .bytes) (t .at) b)) t
 
-unfoldable pub write : List ℕ → Text → Text
-write [] t = t
-write (b ∷ w) t = write w (one b t)
+unfoldable pub addAll : List ℕ → Text → Text
+addAll [] t = t
+addAll (b ∷ w) t = addAll w (addOne b t)
 
 -- "capital hex"
 abbrev pub hexDigit : ℕ → ℕ

@@ -1,16 +1,16 @@
 -- `buffers::add_all`: what is left to write comes to the same at every turn. Assumes nothing.
-use Prim.Native.Nat.{_-_, _<_}
-use mathlib.Core.Path.{_≡_, refl, sym, ap, _∙_}
+use Prim.Native.Nat.{_-_}
+use mathlib.Core.Path.{_≡_, refl, sym, _∙_}
 use lib.ListN.{length, drop}
 use borrow.Author.Needs.{needs}
 use native.Mathlib.Omega.{arith}
-use Rattle.zvt_rules.specs.Text.{Text, text, write}
-use Rattle.buffers.proofs.TextLaws.{write-step, write-none, write-room}
+use Rattle.zvt_rules.specs.Text.{text, addAll}
+use Rattle.buffers.proofs.TextLaws.{addAll-step, addAll-none, goes-on}
 use Rattle.buffers.proofs.add_all.Statement.{statement}
 use Rattle.buffers.proofs.add_all.Tie as tie
 
 abbrev Inv-loop : tie.InvT-loop
-Inv-loop v at out₀ to₀ i₀ out to i = (length out ≡ length out₀) × (write (drop i v) (text to out) ≡ write v (text at out₀))
+Inv-loop v at out₀ to₀ i₀ out to i = (length out ≡ length out₀) × (addAll (drop i v) (text to out) ≡ addAll v (text at out₀))
 
 abbrev μ-loop : tie.MeasureT-loop
 μ-loop v at out₀ to₀ i₀ out to i = length v - i
@@ -18,14 +18,11 @@ abbrev μ-loop : tie.MeasureT-loop
 loop-again : tie.Need-loop-again Inv-loop μ-loop
 loop-again c =
     let at = c .before .before .before .before .before .before in
-    let v = at .before .before .before .args .v .now in
-    let t = text (at .loop .to) (at .loop .out) in
-    let h : at .loop .i < length v = omega arith in
-    let k = c .before .before .add .ensures in
-    (ap (λ (x : Text). length (x .bytes)) k ∙ write-room _ t ∙ at .loop .inv .0, cc (k, write-step v (at .loop .i) t h))
+    let step = addAll-step (at .before .before .before .args .v .now) (at .loop .i) (text (at .loop .to) (at .loop .out)) (omega arith) in
+    goes-on (c .before .before .add .ensures) step (at .loop .inv)
 
 returns : tie.Need-returns Inv-loop μ-loop
-returns c = let at = c .before in sym (write-none (at .before .before .before .args .v .now) (at .loop .i) _ (omega arith)) ∙ at .loop .inv .1
+returns c = let at = c .before in sym (addAll-none (at .before .before .before .args .v .now) (at .loop .i) _ (omega arith)) ∙ at .loop .inv .1
 
 pub add-all-spec : {M : Type 1} → statement M
 add-all-spec =

@@ -2,7 +2,7 @@
 use mathlib.Core.Path.{_∙_, ap}
 use mathlib.Core.List.{List}
 use Prim.Native.Nat.{ℕ}
-use Rattle.zvt_rules.specs.Text.{text, write}
+use Rattle.zvt_rules.specs.Text.{text, addAll}
 use Rattle.buffers.proofs.TextLaws.{decimals}
 use borrow.Author.Needs.{needs}
 use Rattle.buffers.proofs.add_decimal.Statement.{statement}
@@ -14,7 +14,7 @@ returns c =
     let d = all .before .before .before .decimal in
     let a = all .before .before .before .before .before .before .args in
     all .add-all .ensures
-    ∙ ap (λ (w : List ℕ). write w (text (a .at) (a .out .now))) (d .ensures .1 .1 ∙ decimals _ _ (d .ensures .1 .0))
+    ∙ ap (λ (w : List ℕ). addAll w (text (a .at) (a .out .now))) (d .ensures .1 .1 ∙ decimals _ _ (d .ensures .1 .0))
 
 pub add-decimal-spec : {M : Type 1} → statement M
 add-decimal-spec =

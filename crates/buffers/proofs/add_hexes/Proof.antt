@@ -1,16 +1,16 @@
 -- `buffers::add_hexes`: what is left to write comes to the same at every turn. Assumes nothing.
-use Prim.Native.Nat.{_-_, _<_}
-use mathlib.Core.Path.{_≡_, refl, sym, ap, _∙_}
+use Prim.Native.Nat.{_-_}
+use mathlib.Core.Path.{_≡_, refl, sym, _∙_}
 use lib.ListN.{length, drop}
 use borrow.Author.Needs.{needs}
 use native.Mathlib.Omega.{arith}
-use Rattle.zvt_rules.specs.Text.{Text, text, write, hexes}
-use Rattle.buffers.proofs.TextLaws.{hex-step, hex-none, write-room}
+use Rattle.zvt_rules.specs.Text.{text, addAll, hexes}
+use Rattle.buffers.proofs.TextLaws.{hex-step, hex-none, goes-on}
 use Rattle.buffers.proofs.add_hexes.Statement.{statement}
 use Rattle.buffers.proofs.add_hexes.Tie as tie
 
 abbrev Inv-loop : tie.InvT-loop
-Inv-loop v at out₀ to₀ i₀ out to i = (length out ≡ length out₀) × (write (hexes (drop i v)) (text to out) ≡ write (hexes v) (text at out₀))
+Inv-loop v at out₀ to₀ i₀ out to i = (length out ≡ length out₀) × (addAll (hexes (drop i v)) (text to out) ≡ addAll (hexes v) (text at out₀))
 
 abbrev μ-loop : tie.MeasureT-loop
 μ-loop v at out₀ to₀ i₀ out to i = length v - i
@@ -18,11 +18,8 @@ abbrev μ-loop : tie.MeasureT-loop
 loop-again : tie.Need-loop-again Inv-loop μ-loop
 loop-again c =
     let at = c .before .before .before .before .before .before in
-    let v = at .before .before .before .args .v .now in
-    let t = text (at .loop .to) (at .loop .out) in
-    let h : at .loop .i < length v = omega arith in
-    let k = c .before .before .add-hex .ensures in
-    (ap (λ (x : Text). length (x .bytes)) k ∙ write-room _ t ∙ at .loop .inv .0, cc (k, hex-step v (at .loop .i) t h))
+    let step = hex-step (at .before .before .before .args .v .now) (at .loop .i) (text (at .loop .to) (at .loop .out)) (omega arith) in
+    goes-on (c .before .before .add-hex .ensures) step (at .loop .inv)
 
 returns : tie.Need-returns Inv-loop μ-loop
 returns c = let at = c .before in sym (hex-none (at .before .before .before .args .v .now) (at .loop .i) _ (omega arith)) ∙ at .loop .inv .1

@@ -8,10 +8,10 @@ use borrow.Author.Needs.{needs}
 use Rattle.zvt_rules.specs.Message.{readOf}
 use Rattle.zvt_rules.specs.Listed.{listedMessage, fieldAnswer}
 use Rattle.zvt.proofs.Slices.{bytes-known}
-use Rattle.zvt_rules.specs.Text.{Text, text, write}
+use Rattle.zvt_rules.specs.Text.{Text, text, addAll}
 use Rattle.zvt_rules.specs.Listing.{idsOf}
 use Rattle.listing.specs.Lines.{listedText}
-use Rattle.buffers.proofs.TextLaws.{write-room}
+use Rattle.buffers.proofs.TextLaws.{addAll-room}
 use Rattle.listing.proofs.LineLaws.{ids-step, ids-end, ids-all, message-ids}
 use Rattle.listing.proofs.add_ids.Statement.{statement}
 use Rattle.listing.proofs.add_ids.Tie as tie
@@ -19,7 +19,7 @@ use Rattle.listing.proofs.add_ids.Tie as tie
 abbrev Inv-loop : tie.InvT-loop
 Inv-loop s at out₀ to₀ k₀ out to k =
     (length out ≡ length out₀)
-    × (write (listedText (drop k (listedMessage (readOf s)))) (text to out) ≡ write (idsOf (readOf s)) (text at out₀))
+    × (addAll (listedText (drop k (listedMessage (readOf s)))) (text to out) ≡ addAll (idsOf (readOf s)) (text at out₀))
 
 abbrev μ-loop : tie.MeasureT-loop
 μ-loop s at out₀ to₀ k₀ out to k = length s - k
@@ -42,7 +42,7 @@ loop-again c =
     let t = text (turn .loop .to) (turn .loop .out) in
     let step = ids-step (turn .loop .k) _ (told .f .given .0 .0) t (sym (field .field-at .ensures) ∙ told .f .given .1) in
     let room : Text → ℕ = λ x. length (x .bytes) in (
-      ap room (digits .add-hex .ensures) ∙ write-room _ _ ∙ ap room (blank .add .ensures) ∙ write-room _ t ∙ turn .loop .inv .0,
+      ap room (digits .add-hex .ensures) ∙ addAll-room _ _ ∙ ap room (blank .add .ensures) ∙ addAll-room _ t ∙ turn .loop .inv .0,
       cc (blank .add .ensures, digits .add-hex .ensures, step),
     )
 

@@ -7,10 +7,10 @@ use lib.ListN.{length, drop}
 use native.Mathlib.Numerals.{unary-clauses}
 use native.Mathlib.Omega.{arith}
 use borrow.Author.Needs.{needs}
-use Rattle.zvt_rules.specs.Text.{Text, text, write}
+use Rattle.zvt_rules.specs.Text.{Text, text, addAll}
 use Rattle.zvt_rules.specs.Listing.{linesBy, listing}
-use Rattle.buffers.proofs.TextLaws.{write-room}
-use Rattle.listing.specs.Lines.{Put}
+use Rattle.buffers.proofs.TextLaws.{addAll-room}
+use Rattle.listing.specs.Lines.{Added}
 use Rattle.listing.proofs.NextLaws.{rest-last, rest-message}
 use Rattle.listing.proofs.list.Statement.{statement}
 use Rattle.listing.proofs.list.Tie as tie
@@ -18,7 +18,7 @@ use Rattle.listing.proofs.list.Tie as tie
 abbrev Inv-loop : tie.InvT-loop
 Inv-loop s out₀ to₀ from₀ count₀ out to from count =
     (from ≤ length s) × (count ≤ from) × ((from ≡ 0) ⊎ (length s ≤ 65536)) × (length out ≡ length out₀)
-    × (write (linesBy (length s + 1 - count) count (drop from s)) (text to out) ≡ write (listing s) (text 0 out₀))
+    × (addAll (linesBy (length s + 1 - count) count (drop from s)) (text to out) ≡ addAll (listing s) (text 0 out₀))
 
 abbrev μ-loop : tie.MeasureT-loop
 μ-loop s out₀ to₀ from₀ count₀ out to from count = length s - from
@@ -28,7 +28,7 @@ unfolding listing
 loop-holds c = (omega arith, omega arith, inl refl, refl, simp unary-clauses)
 
 returns : tie.Need-returns Inv-loop μ-loop
-unfolding Put
+unfolding Added
 returns c =
     let end = c .before .before in
     let told = end .before .before .before in
@@ -39,7 +39,7 @@ returns c =
     cc (end .add .ensures, put .2, rest-last _ (turn .from) (turn .count) (turn .inv .1) (turn .inv .0) (put .0) t (put .1), turn .inv .4)
 
 add-from : tie.Need-add-from Inv-loop μ-loop
-unfolding Put
+unfolding Added
 add-from c =
     let told = c .before .before .before .before .before in
     let line = told .before .before .before .before in
@@ -52,7 +52,7 @@ add-count c =
     ⊎-elim (λ w. omega arith) (λ w. omega arith) (turn .inv .2)
 
 loop-less : tie.Need-loop-less Inv-loop μ-loop
-unfolding Put
+unfolding Added
 loop-less c =
     let told = c .before .before .before .before .before in
     let line = told .before .before .before .before in
@@ -60,7 +60,7 @@ loop-less c =
     omega (arith, put .3, put .4)
 
 loop-again : tie.Need-loop-again Inv-loop μ-loop
-unfolding Put
+unfolding Added
 loop-again c =
     let end = c .before .before in
     let told = end .before .before .before in
@@ -74,7 +74,7 @@ loop-again c =
       omega (arith, put .4),
       omega (arith, put .3),
       inr (⊎-elim (λ w. omega (arith, put .5)) (λ w. w) (turn .inv .2)),
-      ap room (end .add2 .ensures) ∙ write-room _ _ ∙ ap room (put .2) ∙ write-room _ t ∙ turn .inv .3,
+      ap room (end .add2 .ensures) ∙ addAll-room _ _ ∙ ap room (put .2) ∙ addAll-room _ t ∙ turn .inv .3,
       cc (end .add2 .ensures, put .2, step, turn .inv .4),
     )
 

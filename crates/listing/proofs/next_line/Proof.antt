@@ -3,18 +3,18 @@ use mathlib.Core.Path.{sym, _∙_}
 use native.Mathlib.Omega.{arith}
 use lib.Seq.{length-take-le}
 use Rattle.zvt.proofs.Slices.{bytes-known}
-use Rattle.listing.specs.Lines.{Put}
+use Rattle.listing.specs.Lines.{Added}
 use Rattle.listing.proofs.NextLaws.{next-over, next-none, next-refused, next-within, next-some-bytes, next-message}
 use borrow.Author.Needs.{needs}
 use Rattle.listing.proofs.next_line.Statement.{statement}
 use Rattle.listing.proofs.next_line.Tie as tie
 
 returns : tie.Need-returns
-unfolding Put
+unfolding Added
 returns c = (_, next-over _ _ (omega arith), c .before .before .refused-line .ensures)
 
 returns-2 : tie.Need-returns-2
-unfolding Put
+unfolding Added
 returns-2 c = (_, next-none _ _ (omega arith), c .before .before .ok-line .ensures)
 
 slice-aggregate-message-line : tie.Need-slice-aggregate-message-line
@@ -26,7 +26,7 @@ slice-aggregate-message-line c =
     sym (length-take-le _ _ (next-within _ (bytes-known _ (s .shared-slice-known .given)) _ _ message))
 
 returns-3 : tie.Need-returns-3
-unfolding Put
+unfolding Added
 returns-3 c =
     let line = c .before .before in
     let told = line .before .before .before in
@@ -35,7 +35,7 @@ returns-3 c =
     (_, next-refused _ _ (omega arith) (λ k. omega arith) _ refusal, line .refused-line2 .ensures)
 
 returns-4 : tie.Need-returns-4
-unfolding Put
+unfolding Added
 returns-4 c =
     let line = c .before .before in
     let told = line .before .before .before .before in
