@@ -1,4 +1,4 @@
--- Document 01's cases, all of one table, by one computation. Assumes nothing.
+-- The cases that are marked to be proved, all of one table, by one computation. Assumes nothing.
 use mathlib.Core.Path.{_≡_, refl}
 use Rattle.zvt_rules.specs.Reading.{unless, andThen, among}
 use Rattle.zvt_rules.specs.Objects.{secondTag, tagSize, formSize, oneByteLen, twoByteLen, lenOf, headWith, headOf, insideOf, oneBy, runBy, runOf}
@@ -29,7 +29,7 @@ use Rattle.promises.specs.Days.{buffer}
 use Rattle.promises.specs.Asking.{readSays, listSays, shortSays, callSays, status, output, unlessNo, afterDay, answerTo, computed, stated}
 use Rattle.promises.specs.Cases.{hex, plainBody, twoSales, twoLines, soldOnce, table}
 
--- The definitions answer every row of the table as the page does.
+-- The definitions answer every row of the table as it stands there.
 pub cases : computed table ≡ stated table
 unfolding unless andThen among secondTag tagSize formSize oneByteLen twoByteLen lenOf headWith headOf insideOf oneBy runBy runOf countObj countObjs
     formatOf unknown digitsOf unlessUndecimal digitsIn fieldId countField countFields valueOf plainOf containerOf fieldBy fieldOf listBy listOf

@@ -48,8 +48,8 @@ shorten-refused-exactly room s n = Iff·trans (short-says room s n) (short-no ro
 
 -- ---- R34, R35, R36: the calls of the desk
 
--- A call is refused with a number exactly where the row of that number holds (desk_rules/specs/Table.antt): of an opening "12, 13, 16, 17,
--- 18, 11", of a message "12, 14, header, 15, body, 11", of a lost link "12, 14".
+-- A call is refused with a number exactly where the row of that number holds (desk_rules/specs/Table.antt): of an opening, R34, "12, 13,
+-- 16, 17, 18, 11"; of a message, R35, "12, 14, header, 15, body, 11"; of a lost link, R36, "12, 14".
 pub refused-exactly : (d : Desk) (c : Call) (room n : ℕ) → Refuses (answerOf d c room) n ↔ Row (view d) c room (refuse n)
 refused-exactly d c room n = Iff·trans (decided-no d c room n) (table (view d) c room (refuse n))
 
@@ -69,7 +69,7 @@ module _ (d : Desk) (v : Valid d) where
 
 -- ---- "and changes neither the desk nor a byte of the buffers it was lent"
 
--- A refused call leaves the desk and the buffer as they were.
+-- R32: "A refusal leaves the desk and all lent buffers as they were."
 pub refused-unchanged : (d : Desk) (c : Call) (out : List ℕ) (n : ℕ) → Refuses (answerOf d c (length out)) n
     → (answerOf d c (length out) .desk ≡ d) × (leavesOf d c out ≡ out)
 refused-unchanged = call-same

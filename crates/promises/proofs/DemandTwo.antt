@@ -56,7 +56,7 @@ one-reading m m′ ok ok′ e = got-same (sym (reading.read-complete m ok) ∙ a
 pub first-of-many : (m : Message) (rest : List ℕ) → MessageOk m → firstOf (messageBytes m ++ rest) ≡ got m
 first-of-many = reading.first-complete
 
--- "The reader reports the number of objects, and it is the number that the definition counts", at most 64.
+-- The number of objects that the reader reports is the number that the definition counts, at most 64: O11, O10.
 pub objects-counted : (s : List ℕ) (t : Outline) → Bytes s → readAnswer s ≡ Accepted t
     → (m : Message) × (readOf s ≡ got m) × (t .objects ≡ countOf m) × (countOf m ≤ 64)
 unfolding outlineOf
@@ -108,13 +108,14 @@ shortened-once = shortest.shorten-twice
 pub never-longer : (m : Message) → MessageOk m → length (write m) ≤ length (messageBytes m)
 never-longer = shortest.never-longer
 
--- ---- "The card name for a receipt"
+-- ---- the card name
 
--- A receipt shows the name in field 8B of the status information, up to its first zero byte; where there is none, the till's own.
+-- A receipt shows the name in field 8B of the status information, up to its first zero byte; where there is none, the till's own:
+-- M13, M14.
 pub card-name : (s till : List ℕ) → Bytes s → cardName s till ≡ shownName (valueIn 0x8B (statusFields (readOf s))) till
 card-name = shown
 
--- "Thus the part handed back lies in the status information or in the till's own name, never in a copy."
+-- M15: "What is handed back is a part of the message or of the own name, never a copy."
 pub no-copy : (s till : List ℕ) (p q : ℕ × ℕ) → Bytes s
     → InMessage s (cardName s till) p (namePlace p q (nameAt s)) ⊎ ((cardName s till ≡ till) × (namePlace p q (nameAt s) ≡ q))
 no-copy = name-lies

@@ -1,5 +1,5 @@
--- The promises, in the order in which an auditor reads them: document 01's cases; the three demands; the auditor's questions; the tape;
--- and that every public function ends and states one answer. Behind them the laws that they cite.
+-- The promises, in the order in which an auditor reads them: the cases; the three demands; the auditor's questions; the tape; and that
+-- every public function ends and states one answer. Behind them the laws that they cite.
 pub mod CaseLaws
 pub mod DemandOne
 pub mod DemandTwo

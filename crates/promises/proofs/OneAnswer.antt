@@ -1,6 +1,5 @@
--- "Every public function states one answer and one content of lent memory for each input, refusals too .. That it admits only one
--- answer is proved". What a function states is its own contract, as a caller learns it (`Learnt`): were a clause of it weakened, the
--- function's line here would fail. Assumes nothing.
+-- Every public function states one answer and one content of lent memory for each input, refusals too. What a function states is its
+-- own contract, as a caller learns it (`Learnt`): were a clause of it weakened, the function's line here would fail. Assumes nothing.
 use mathlib.Core.Path.{_≡_, refl, sym, ap, ap₂, _∙_}
 use Prim.Native.Nat.{ℕ}
 use mathlib.Core.List.{List}

@@ -123,7 +123,7 @@ header-no s n = (λ h. row (h .0) (header-table s _ .0 (h .1)) (h .2), λ r. (no
     row _ (over-4096 long v h m) e = rw (← e) (over-4096 long v h m)
     row _ (cut-short long v h m c) e = rw (← e) (cut-short long v h m c)
 
--- ---- "3", "11": a bound that is broken
+-- ---- R3, R11: a bound that is broken
 pub over-no : {A : Type 0} (a b k : ℕ) (x : A) (n : ℕ) → No (unless (ltb a b) (noHeader k) (got x)) n ↔ ((a < b) × (k ≡ n))
 unfolding unless
 over-no a b k x n = (λ h. to (ltb a b) refl h, λ h. (noHeader k, rw (lt-ltb a b (h .0)), h .1))

@@ -1,5 +1,5 @@
--- The tape, sentence by sentence of document 01: blocks, whole tapes, the tape of a day, what must not be on it; then the numbers of
--- refusal. That writing, or reading a tape, gives `got w` says that it puts w into the buffer (got-is-written). Assumes nothing.
+-- The tape, rule by rule: blocks, whole tapes, the tape of a day, what must not be on it; then the numbers of refusal. That writing, or
+-- reading a tape, gives `got w` says that it puts w into the buffer (got-is-written). Assumes nothing.
 use mathlib.Core.Path.{_≡_, refl, sym, ap, _∙_}
 use mathlib.Core.Bool.{Bool, false}
 use mathlib.Core.Logic.{_↔_, _⊎_, Iff·trans}
@@ -39,7 +39,7 @@ use Rattle.promises.proofs.TapeTable.{within, block-fits, block-got, bl
 use Rattle.promises.proofs.TapeAnswers as answers
 use Rattle.promises.proofs.Secrets as secrets
 
--- ---- "Blocks of 512 bytes: number from 1 .., used count 1 to 504 .., 504 payload bytes with zeros after the used ones, check"
+-- ---- T1 to T8: a block
 
 -- A block is written exactly where its number and its payload are within their limits and 512 bytes are lent for it.
 pub block-written-exactly : (number : ℕ) (p : List ℕ) (room k : ℕ)
@@ -55,7 +55,7 @@ block-written-exactly number p room k = (
     size : (Outside number p → ⊥) → length (blockBytes number p) ≡ 512
     size o = block.block-size number p (within number p room o .2)
 
--- What a block then holds is laid out as the page says.
+-- What a block then holds is laid out as T2 to T5 say.
 pub block-laid-out : (number : ℕ) (p out : List ℕ) (k : ℕ) → let x = writeBlock number p (length out) in
     writtenAnswer x ≡ Written k → take k (writtenLeaves x out) ≡ blockBytes number p
 block-laid-out number p out k h =
@@ -87,7 +87,8 @@ block-read-exactly due last s k b fits = (
       (w .0, block-back-and-forth due last s (w .0) b fits .1 (w .1, λ e. w .2 ∙ w .3 e), w .2),
 )
 
--- "One changed byte is always refused.", with 20: in every block, at every place, whatever the byte becomes and whatever block is due.
+-- T6: "A good block with one byte changed, whichever, is refused (20).": in every block, at every place, whatever the byte becomes and
+-- whatever block is due.
 pub one-changed-byte : (number : ℕ) (p : List ℕ) (room : ℕ) (s : List ℕ) (i v due : ℕ) (last : Bool) → Bytes p → writeBlock number p room ≡ got s
     → i < 512 → v < 256 → (v ≡ getD s i 0 → ⊥) → blockAnswer (readBlock due last (set s i v)) ≡ block-refused (numbered 20)
 unfolding blockAnswer
@@ -96,7 +97,7 @@ one-changed-byte number p room s i v due last b w h small other =
     let e = rw (g .2) at (changed-byte number p i v due last (within number p room (g .0) .2) b h small) in
     rw (e other)
 
--- ---- "Only the last block may be short; no blocks is the empty tape." ".. cut every 504 bytes."
+-- ---- T18, T1: a whole tape
 
 -- A tape is written exactly where the numbers of its blocks fit four bytes and all of them have room.
 pub tape-written-exactly : (p : List ℕ) (room k : ℕ)
@@ -119,11 +120,11 @@ tape-cut p room s k w h =
     let o = in-limits (1 + k) (pieceAt k p) (omega arith) (omega arith) (omega arith) in
     block-fits (1 + k) (pieceAt k p) 512 o (omega arith) ∙ ap got (sym (tape-piece p k h) ∙ ap (blockAt k) (tape-got p room s w .2))
 
--- Every block but the last is full.
+-- T3: "Only in the last block of a tape may it be under 504."
 pub only-last-short : (p : List ℕ) (k : ℕ) → 1 + k < blocksFor (length p) → length (pieceAt k p) ≡ 504
 only-last-short p k h = omega (arith, length-take 504 (drop (k * 504) p), length-drop (k * 504) p)
 
--- No payload is no block, and no block is no payload.
+-- No payload is no block, and no block is no payload. T1: "the empty tape has none".
 pub no-payload-no-block : (p : List ℕ) (room : ℕ) → (writtenAnswer (writeTape p room) ≡ Written 0) ↔ (p ≡ [])
 no-payload-no-block p room = (
   λ h. drop-of-length-le p {i = 0} (omega (arith, tape-written-exactly p room 0 .0 h .2)),
@@ -146,7 +147,7 @@ tape-read-exactly s p room b = (
   λ k. read-tape-got s room p .1 (tape-back-and-forth s p b .1 (k .0), k .1),
 )
 
--- ---- "Accepted calls and replies only, in order, an opening as its command alone, a reply directly after its call."
+-- ---- T12, T13, T21: what is recorded
 module _ (t : Taped) (c : Call) (out tape : List ℕ) (k : ℕ) (h : tapedAnswer t c (length out) (length tape) .reply ≡ Written k) where
   -- A desk with its tape does with an accepted call what the desk alone does.
   pub as-without-tape : let a = tapedAnswer t c (length out) (length tape) in
@@ -188,7 +189,7 @@ module _ (day : List TapeTurn) (tape : List ℕ) (b : OfBytes (callsPlayed day))
       → (p : List ℕ) × (readTape s (length payload) ≡ got p) × (recordsIn p ≡ entriesOf fresh calls)
   day-from-tape room s w = (payload, read-tape-got s (length payload) payload .1 (written-joins payload room s w, omega arith), day-reads-back)
 
--- ---- "Passwords are recorded as zeros and every value byte of fields 22, 23, 24 and 2D of a list, not of data objects, as EE."
+-- ---- T14 to T17: what must not be on the tape
 
 -- No record of a day holds a digit of a password or a value byte of field 22, 23, 24 or 2D of a list.
 pub nothing-secret : (day : List TapeTurn) (tape : List ℕ) (b : OfBytes (callsPlayed day)) → Hiding (recordsIn (payload day tape b))
@@ -219,29 +220,29 @@ pub alike-days-one-tape : (day other : List TapeTurn) (tape : List ℕ) → Alik
     → tapedRun (freshDay tape) day ≡ tapedRun (freshDay tape) other
 alike-days-one-tape day other tape a = secrets.alike-days day other (freshDay tape) a
 
--- ---- "A number is given exactly when its row and the order below say so."
+-- ---- R30: "A number is given exactly where its row holds and none before it in the order does."
 
--- "Writing refuses number 0 or payload 0 or over 504 (16), then 11."
+-- R45: "Writing one: 16, 11."
 pub block-write-refused-exactly : (number : ℕ) (p : List ℕ) (room n : ℕ)
     → (writtenAnswer (writeBlock number p room) ≡ Refused (numbered n)) ↔ WriteNo number p room n
 block-write-refused-exactly number p room n = Iff·trans (answers.written-says (writeBlock number p room) n) (write-no number p room n)
 
--- "Block reading is told the number due and whether the block is the last: 1, 3, 20, then 21"
+-- R45: "Reading a block: 1, 3, 20, 21."
 pub block-read-refused-exactly : (due : ℕ) (last : Bool) (s : List ℕ) (n : ℕ)
     → (blockAnswer (readBlock due last s) ≡ block-refused (numbered n)) ↔ BlockNo due last s n
 block-read-refused-exactly due last s n = Iff·trans (answers.block-says (readBlock due last s) n) (block-no due last s n)
 
--- A whole tape is not written where a block's number would need more than four bytes, and then not where there is no room for it.
+-- T20: "Writing a whole tape gives 16 where a block number needs more than four bytes, then 11."
 pub tape-write-refused-exactly : (p : List ℕ) (room n : ℕ) → (writtenAnswer (writeTape p room) ≡ Refused (numbered n)) ↔ TapeWriteNo p room n
 tape-write-refused-exactly p room n = Iff·trans (answers.written-says (writeTape p room) n) (write-tape-no p room n)
 
--- A tape is refused with the number of its first block that is, and then with 11 where there is no room for its payload.
+-- T20: "Reading one gives the refusal of the first refused block, then 11."
 pub tape-read-refused-exactly : (s : List ℕ) (room n : ℕ) → (writtenAnswer (readTape s room) ≡ Refused (numbered n))
     ↔ (TapeNo 1 s n ⊎ ((p : List ℕ) × (payloadOf s ≡ got p) × ((room < length p) × (11 ≡ n))))
 tape-read-refused-exactly s room n = Iff·trans (answers.written-says (readTape s room) n) (read-tape-no s room n)
 
 module _ (t : Taped) (c : Call) (out tape : List ℕ) where
-  -- A desk with its tape refuses a call as the desk does, and with 11 one that the desk would take and whose records find no room.
+  -- A desk with its tape refuses a call as the desk does, and with 11 one that the desk would take and whose records find no room (T21).
   pub taped-refused-exactly : (n : ℕ) → (tapedAnswer t c (length out) (length tape) .reply ≡ Refused (numbered n))
       ↔ (Refuses (answerOf (t .desk) c (length out)) n
       ⊎ (Takes (answerOf (t .desk) c (length out)) × (length tape < t .used + length (callBytes (view (t .desk)) c)) × (11 ≡ n)))
@@ -253,15 +254,15 @@ module _ (t : Taped) (c : Call) (out tape : List ℕ) where
   taped-accepted-exactly = answers.taped-yes t c out tape
 
 module _ (t : Taped) (v : Valid (t .desk)) where
-  -- "19 a payment is open at closing", and nothing else keeps the day from being closed.
+  -- R19: "a payment is open at closing", and nothing else keeps the day from being closed.
   pub close-taped-refused-exactly : (n : ℕ) → (closeTaped t .reply ≡ Refused (numbered n)) ↔ (Open (t .desk) × (19 ≡ n))
   close-taped-refused-exactly = answers.close-taped-no t v
 
-  -- A day that is closed is followed by one with a fresh desk and an empty tape.
+  -- A day that is closed is followed by one with a fresh desk and an empty tape (P36, T22).
   pub close-taped-exactly : (closeTaped t ≡ record { reply = Written 0; taped = freshTaped }) ↔ (Open (t .desk) → ⊥)
   close-taped-exactly = answers.close-taped-yes t v
 
--- ---- "Each refusal returns its number only; desk and buffers are unchanged."
+-- ---- R32: "A refusal leaves the desk and all lent buffers as they were."
 
 -- Where writing a block or a tape, or reading a tape, is refused, the buffer stays as it was.
 pub write-unchanged : (x : Reading (List ℕ)) (out : List ℕ) (n : ℕ) → writtenAnswer x ≡ Refused (numbered n) → writtenLeaves x out ≡ out
@@ -276,7 +277,7 @@ taped-unchanged = answers.taped-same
 pub close-taped-unchanged : (t : Taped) → Valid (t .desk) → (n : ℕ) → closeTaped t .reply ≡ Refused (numbered n) → closeTaped t .taped ≡ t
 close-taped-unchanged = answers.close-taped-same
 
--- ---- "Where a call succeeds, buffer bytes beyond those written are unchanged."
+-- ---- R33: "Success leaves the bytes of a lent buffer behind those written as they were."
 
 -- What is written is put first into the buffer, and the answer is its length.
 pub got-is-written : (x : Reading (List ℕ)) (out w : List ℕ) → x ≡ got w
@@ -287,7 +288,7 @@ got-is-written = answers.written-from
 pub write-beyond-unchanged : (x : Reading (List ℕ)) (out : List ℕ) (k : ℕ) → writtenAnswer x ≡ Written k → drop k (writtenLeaves x out) ≡ drop k out
 write-beyond-unchanged = answers.written-beyond
 
--- ---- "what holds of all such desks is proved of the fresh one and kept by every call"
+-- ---- P37: all that a function presumes of its desk is kept by every call
 
 -- A desk with its tape that these functions gave out may be handed to any of them.
 pub taped-fit : (t : Taped) (c : Call) (room size : ℕ) → Valid (t .desk) → NumbersFit c → Valid (tapedAnswer t c room size .taped .desk)

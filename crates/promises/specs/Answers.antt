@@ -9,7 +9,7 @@ use Rattle.desk_rules.specs.declared.Reply.the-variants.{Written, Refused}
 use Rattle.desk_rules.specs.Table.{phaseAt}
 use Rattle.desk_rules.specs.Memory.{view}
 
--- "Each refusal returns its number only"
+-- R31: "A refusal answers its number and nothing else."
 abbrev pub numbered : ℕ → Refusal
 numbered n = record { number = n }
 
@@ -21,6 +21,6 @@ Refuses a n = a .reply ≡ Refused (numbered n)
 abbrev pub Takes : Answer → Type 0
 Takes a = (k : ℕ) × (a .reply ≡ Written k)
 
--- "19 a payment is open at closing": a lane is waiting or running
+-- R19: "a payment is open at closing". P2: "A payment is open while its lane is waiting or running."
 unfoldable pub Open : Desk → Type 0
 Open d = (i : ℕ) × (i < 8) × (phaseAt (view d) i ≡ Idle → ⊥)

@@ -1,5 +1,4 @@
--- What a case of document 01 asks and answers, and how it is judged: by the definitions that the functions' contracts cite.
--- Definitions only.
+-- What a case asks and answers, and how it is judged: by the definitions that the functions' contracts cite. Definitions only.
 use Prim.Native.Nat.{ℕ, _*_, _+_}
 use mathlib.Core.Bool.{Bool}
 use mathlib.Core.List.{List, [], _∷_}
@@ -24,7 +23,7 @@ use Rattle.desk_rules.specs.Memory.{freshDesk, linesOfDesk, answerOf, leavesOf}
 use Rattle.desk_rules.specs.Turnover.{netOf}
 use Rattle.promises.specs.Days.{buffer}
 
--- ---- a row: what is asked, and what the page answers
+-- ---- a row: what is asked, and what the rules answer
 
 pub data Question : Type 0 where
   -- the message that bytes are; a list of fields, and its card name where the till has none; the bytes with every length shortest
@@ -92,8 +91,13 @@ answerTo (short s) = shortSays (shortenAnswer (length s) s) (shortenLeaves s (ou
 answerTo (call cs c) = afterDay freshDesk cs λ d. callSays (answerOf d c (length buffer) .reply) (leavesOf d c buffer)
 answerTo (day cs) = afterDay freshDesk cs λ d. book (linesOfDesk d) (netOf (linesOfDesk d))
 
+<<<<<<< HEAD
 -- the answers that the definitions give to a table's rows, and those that the page gives
 unfoldable pub computed : List CaseRow → List CaseAnswer
+=======
+-- the answers that the definitions give to a table's rows, and those that stand in them
+unfoldable pub computed : List Row → List CaseAnswer
+>>>>>>> docs2
 computed [] = []
 computed (q ⟶ a ∷ rs) = answerTo q ∷ computed rs
 

@@ -12,14 +12,14 @@ use Rattle.desk_rules.specs.declared.Line.{Line}
 use Rattle.desk_rules.specs.Course.{amountBy, Call, message}
 use Rattle.desk_rules.specs.Payments.{askOf, remembered, lineOf}
 
--- "06 0F: ends.": the bytes of a completion
+-- P22: "06 0F ends the payment.": the bytes of a completion
 pub record Completes (s : List ℕ) : Type 0 where
   pub message : Message
   pub reads : readOf s ≡ got message
   pub class : message .class ≡ 0x06
   pub instruction : message .instruction ≡ 0x0F
 
--- "04 0F: with field 27 it replaces the remembered status; without it, no change": a call that reports no code, and calls of that kind
+-- P20: "Without field 27 it changes nothing.": a call that reports no code, and calls of that kind
 abbrev pub Silent : Call → Type 0
 Silent c = (st : Status) → remembered st c ≡ st
 
@@ -27,7 +27,7 @@ unfoldable pub AllSilent : List Call → Type 0
 AllSilent [] = Unit {0}
 AllSilent (c ∷ cs) = Silent c × AllSilent cs
 
--- "it replaces the remembered status": the last report of those calls
+-- P20: "becomes the remembered status, all of it": the last report of those calls
 pub record Reported (cs : List Call) : Type 0 where
   pub before : List Call
   pub lane : ℕ
@@ -36,8 +36,8 @@ pub record Reported (cs : List Call) : Type 0 where
   pub calls : cs ≡ before ++ (message lane report ∷ after)
   pub silent : AllSilent after
 
--- "Remembered code 00 is approved, settled amount field 04 or, when that field is missing, the amount asked.": the calls of a payment,
--- after those lines, from its opening to its completion
+-- P23: "a remembered code 00 means approved". P24: "field 04 of the remembered status or, where it has none, the amount asked". The calls
+-- of a payment, after those lines, from its opening to its completion
 pub record Counted (ls : List Line) (p : List Call) : Type 0 where
   pub opening : Call
   pub reported : List Call

@@ -1,6 +1,6 @@
--- What the promises speak of, beside the definitions of the crates below: document 01's cases and how they are judged; its rows of
--- refusals for reading and for the tape; what the desk answers, what an approved line is counted by, and what one answer of a function
--- is; the name on a receipt; a day at the desk, and one with its tape. A reader has to believe these files.
+-- What the promises speak of, beside the definitions of the crates below: the cases and how they are judged; the rows of refusal for
+-- reading and for the tape; what the desk answers, what an approved line is counted by, and what one answer of a function is; the name
+-- on a receipt; a day at the desk, and one with its tape. A reader has to believe these files.
 pub mod Cases
 pub mod Asking
 pub mod ReadRows

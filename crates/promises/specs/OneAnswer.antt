@@ -1,11 +1,11 @@
--- "Every public function states one answer and one content of lent memory for each input, refusals too": what one answer and one
--- content are. Definitions only.
+-- Every public function states one answer and one content of lent memory for each input, refusals too: what one answer and one content
+-- are. Definitions only.
 use mathlib.Core.Path.{_≡_}
 use Prim.Native.Nat.{ℕ}
 use mathlib.Core.List.{List}
 use denote.Ref.{RefT, now}
 
--- "That it admits only one answer": a statement of the answer and of what was lent, at exit; any two answers that it admits are the
+-- that it admits only one answer: a statement of the answer and of what was lent, at exit; any two answers that it admits are the
 -- same, and any two contents
 pub record Only {A E X Y : Type 0} (answer : A → X) (lent : E → Y) (states : A → E → Type 0) : Type 0 where
   pub one : (r r′ : A) (e e′ : E) → states r e → states r′ e′ → (answer r ≡ answer r′) × (lent e ≡ lent e′)

@@ -1,5 +1,5 @@
--- Document 01, 'Numbers of refusal', for a message that is read: "A header: 1 for a missing header byte, 2, 1 for a body cut short,
--- 3. Reading and shortening: header, body, 11", as rows. Definitions only.
+-- The rows of refusal of a message that is read. R39: "1 for a missing byte of pair or length, 2, 1 for a body cut short, 3."
+-- R37: "Reading: header, body. Shortening: header, body, 11." Definitions only.
 use mathlib.Core.Path.{_≡_}
 use mathlib.Core.Logic.{_⊎_}
 use Prim.Native.Nat.{ℕ, _+_, _*_, _<_, _≤_}
@@ -11,7 +11,8 @@ use Rattle.zvt_rules.specs.Reading.{Reading, got, refused, noHeader, part}
 use Rattle.zvt_rules.specs.Message.{Heading, headerSize, start, end, layoutOf, bodyOf}
 use Rattle.zvt_rules.specs.Shortest.{shorten}
 
--- "A length byte 00 to FE is the length. FF means that two more bytes hold it, low byte first.": they are there, and say v
+-- M2: "A length byte 00 to FE is itself the length. After FF the next two bytes are the length, low byte first.": they are there, and
+-- say v
 abbrev pub LengthSays : List ℕ → Bool → ℕ → Type 0
 LengthSays s false v = (3 ≤ length s) × (getD s 2 0 ≡ v) × (v ≡ 0xFF → ⊥)
 LengthSays s true v = (5 ≤ length s) × (getD s 2 0 ≡ 0xFF) × (getD s 4 0 * 256 + getD s 3 0 ≡ v)
@@ -29,25 +30,25 @@ pub data HeaderRow (s : List ℕ) : Reading Heading → Type 0 where
 abbrev pub HeaderNo : List ℕ → ℕ → Type 0
 HeaderNo s n = HeaderRow s (refused (noHeader n))
 
--- the header of the message that s is; "3 bytes left over where one message .. was due"
+-- the header of the message that s is. R3: "bytes are left over behind the one message"
 abbrev pub WholeRow : List ℕ → Heading → Type 0
 WholeRow s h = HeaderRow s (got h) × (length s ≡ end h)
 
 abbrev pub WholeNo : List ℕ → ℕ → Type 0
 WholeNo s n = HeaderNo s n ⊎ ((h : Heading) × HeaderRow s (got h) × ((end h < length s) × (3 ≡ n)))
 
--- "Bodies are read left to right": the body is refused with n
+-- R40: "A body is read from left to right": it is refused with n
 abbrev pub BodyNo : List ℕ → Heading → ℕ → Type 0
 BodyNo s h n =
     (f : Fault) × (bodyOf (start h) (part (start h) (end h) s) (layoutOf (h .class) (h .instruction)) ≡ refused f) × (f .number ≡ n)
 
--- the message that s begins with, and the one that s is: "header, body"
+-- R37, of the message that s begins with, and of the one that s is: "header, body"
 abbrev pub FirstNo : List ℕ → ℕ → Type 0
 FirstNo s n = HeaderNo s n ⊎ ((h : Heading) × HeaderRow s (got h) × BodyNo s h n)
 
 abbrev pub ReadNo : List ℕ → ℕ → Type 0
 ReadNo s n = WholeNo s n ⊎ ((h : Heading) × WholeRow s h × BodyNo s h n)
 
--- "header, body, 11": the shortest message is longer than the room for it
+-- R37: "header, body, 11". R38: "shortening needs as many as it writes"
 abbrev pub ShortNo : ℕ → List ℕ → ℕ → Type 0
 ShortNo room s n = ReadNo s n ⊎ ((w : List ℕ) × (shorten s ≡ got w) × ((room < length w) × (11 ≡ n)))

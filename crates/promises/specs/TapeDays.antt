@@ -1,5 +1,5 @@
--- Document 01, 'The tape': the calls of a day on a desk with its tape, and days that differ only in what must not be on it: "Passwords
--- are recorded as zeros and every value byte of fields 22, 23, 24 and 2D of a list, not of data objects, as EE." Definitions only.
+-- The calls of a day on a desk with its tape, and days that differ only in what must not be on it. T15: "A password is recorded as three
+-- zero bytes." T16: "Each byte of the value of fields 22, 23, 24 and 2D of a list is recorded as EE". Definitions only.
 use mathlib.Core.Path.{_≡_}
 use mathlib.Core.Logic.{_⊎_}
 use Prim.Native.Nat.{ℕ, _≤_}

@@ -1,4 +1,4 @@
--- Document 01, 'The tape' and 'Numbers of refusal', for blocks and tapes that are written and read, as rows. Definitions only.
+-- The rows of refusal of blocks and tapes that are written and read: R45, T20. Definitions only.
 use mathlib.Core.Path.{_≡_}
 use Prim.Native.Nat.{ℕ, _+_, _*_, _<_, _≤_}
 use mathlib.Core.Bool.{Bool, false}
@@ -11,19 +11,20 @@ use Rattle.tape_rules.specs.Tape.{blocksFor}
 
 -- ---- a block
 
--- "Writing refuses number 0 or payload 0 or over 504 (16) .."
+-- T8: "16 is given for number 0 and for a payload of 0 or of more than 504 bytes."
 pub data Outside (number : ℕ) (p : List ℕ) : Type 0 where
   number-0 : number ≡ 0 → Outside number p
   payload-0 : length p ≡ 0 → Outside number p
   payload-over : 504 < length p → Outside number p
 
--- ".., then 11.": writing is refused with n
+-- R45: "Writing one: 16, 11.": it is refused with n. R38: "a block 512"
 pub data WriteNo (number : ℕ) (p : List ℕ) (room : ℕ) : ℕ → Type 0 where
   outside : Outside number p → WriteNo number p room 16
   too-small : (Outside number p → ⊥) → room < 512 → WriteNo number p room 11
 
--- "21 for a wrong number (0 is always wrong), count (also a short one before the last) or filling": number and used count as the block
--- has them, and the bytes between the used ones and the check
+-- T7: "21 is given for another number or number 0, for a used count against T3, and for filling other than zeros.": number and used
+-- count as the block has them, and the bytes between the used ones and the check. T3: "Only in the last block of a tape may it be under
+-- 504."
 pub data Wrong (due : ℕ) (last : Bool) (s : List ℕ) : Type 0 where
   always-wrong : numberIn s ≡ 0 → Wrong due last s
   other-number : (numberIn s ≡ due → ⊥) → Wrong due last s
@@ -32,14 +33,15 @@ pub data Wrong (due : ℕ) (last : Bool) (s : List ℕ) : Type 0 where
   short-before-last : last ≡ false → usedIn s < 504 → Wrong due last s
   filling : (i : ℕ) → 6 + usedIn s ≤ i → i < 510 → (getD s i 0 ≡ 0 → ⊥) → Wrong due last s
 
--- "Block reading is told the number due and whether the block is the last: 1, 3, 20, then 21": it is refused with n
+-- R45: "Reading a block: 1, 3, 20, 21.": it is refused with n. T7: "Who reads a block says which number is due and whether it is the
+-- last."
 pub data BlockNo (due : ℕ) (last : Bool) (s : List ℕ) : ℕ → Type 0 where
   ends-early : length s < 512 → BlockNo due last s 1
   left-over : 512 < length s → BlockNo due last s 3
   check-wrong : length s ≡ 512 → (checkOf (take 510 s) ≡ checkIn s → ⊥) → BlockNo due last s 20
   contents-wrong : length s ≡ 512 → checkOf (take 510 s) ≡ checkIn s → Wrong due last s → BlockNo due last s 21
 
--- ---- a tape: "cut every 504 bytes"
+-- ---- a tape. T18: "cut into pieces of 504 bytes"
 
 -- piece k of a payload and block k of a tape, counted from 0, and whether it is the tape's last
 abbrev pub pieceAt : ℕ → List ℕ → List ℕ
@@ -51,12 +53,12 @@ blockAt k s = take 512 (drop (k * 512) s)
 abbrev pub lastAt : ℕ → List ℕ → Bool
 lastAt k s = leb (length s) (k * 512 + 512)
 
--- "16 number outside its limits": a block's number has four bytes; then 11
+-- T20: "Writing a whole tape gives 16 where a block number needs more than four bytes, then 11."
 pub data TapeWriteNo (p : List ℕ) (room : ℕ) : ℕ → Type 0 where
   too-many : 4_294_967_295 < blocksFor (length p) → TapeWriteNo p room 16
   tape-too-small : blocksFor (length p) ≤ 4_294_967_295 → room < blocksFor (length p) * 512 → TapeWriteNo p room 11
 
--- the first block that is refused, of those with numbers from first on: all before it are read
+-- T20: "the refusal of the first refused block", of those with numbers from first on: all before it are read
 pub record TapeNo (first : ℕ) (s : List ℕ) (n : ℕ) : Type 0 where
   pub at : ℕ
   pub inside : at * 512 < length s

@@ -1,7 +1,7 @@
-// What is promised of the reader, the desk and the tape, for an auditor: nothing here runs. The page's cases stand in specs/, the
-// theorems in proofs/.
+// What is promised of the reader, the desk and the tape, for an auditor: nothing here runs. The cases stand in specs/, the theorems in
+// proofs/.
 //
-// The wrong programs that document 01 rules out by name, and the must-fail edits that show that each breaks a promise:
+// The wrong programs that the requirements rule out by name, and the must-fail edits that show that each breaks a promise:
 // a desk that refuses everything          desk_rules/must-fail/refuses_everything
 // one that always says 80 00 00           desk/must-fail/always_replies
 // one that does nothing at an end         desk/must-fail/nothing_at_an_end

@@ -21,7 +21,7 @@ unfoldable pub addAll : List ℕ → Text → Text
 addAll [] t = t
 addAll (b ∷ w) t = addAll w (addOne b t)
 
--- "capital hex"
+-- M17: "capital hex"
 abbrev pub hexDigit : ℕ → ℕ
 hexDigit d = pick (ltb d 10) (48 + d) (55 + d)
 
@@ -44,7 +44,7 @@ hexValue b =
     (pick (leb b 57) (b - 48)
     (pick (ltb b 65) 16 (pick (leb b 70) (b - 55) (pick (ltb b 97) 16 (pick (leb b 102) (b - 87) 16)))))
 
--- "decimal": the digits of n, which has at most f + 1
+-- M17: "the rest is decimal": the digits of n, which has at most f + 1
 unfoldable pub decimalBy : ℕ → ℕ → List ℕ
 decimalBy zero n = (48 + n % 10) ∷ []
 decimalBy (suc f) n = pick (ltb n 10) ((48 + n) ∷ []) (decimalBy f (n / 10) ++ ((48 + n % 10) ∷ []))
