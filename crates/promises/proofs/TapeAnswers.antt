@@ -32,6 +32,16 @@ use Rattle.promises.proofs.ReadTable.{No}
 use Rattle.promises.specs.Answers.{numbered, Refuses, Takes, Open}
 use Rattle.promises.proofs.Answers.{reading-no, apart, same-number, decided-no, decided-yes, closing-no, closing-yes, closing-same}
 
+-- ---- a reading that is answered by its size, and by the number of its refusal
+module _ {X : Type 0} (say : Reading (List ℕ) → X) (sizer : ℕ → X) (kept : (w : List ℕ) → say (got w) ≡ sizer (length w))
+    (not-refused : (f : Fault) (k : ℕ) → say (refused f) ≡ sizer k → ⊥) (one : (j k : ℕ) → sizer j ≡ sizer k → j ≡ k) where
+  reading-size : (x : Reading (List ℕ)) (k : ℕ) → (say x ≡ sizer k) ↔ ((w : List ℕ) × (x ≡ got w) × (length w ≡ k))
+  reading-size x k = (to x refl, λ h. ap say (h .1) ∙ kept (h .0) ∙ ap sizer (h .2))
+    where
+      to : (y : Reading (List ℕ)) → x ≡ y → say x ≡ sizer k → (w : List ℕ) × (x ≡ got w) × (length w ≡ k)
+      to (got w) e h = (w, e, one _ _ (sym (kept w) ∙ ap say (sym e) ∙ h))
+      to (refused f) e h = absurd (not-refused f k (ap say (sym e) ∙ h))
+
 -- ---- what is written into a buffer
 pub written-says : (x : Reading (List ℕ)) (n : ℕ) → (writtenAnswer x ≡ Refused (numbered n)) ↔ No x n
 unfolding writtenAnswer
@@ -41,11 +51,8 @@ written-says x n =
 
 pub written-size : (x : Reading (List ℕ)) (k : ℕ) → (writtenAnswer x ≡ Written k) ↔ ((w : List ℕ) × (x ≡ got w) × (length w ≡ k))
 unfolding writtenAnswer
-written-size x k = (to x, λ h. rw (h .1, h .2))
-  where
-    to : (y : Reading (List ℕ)) → writtenAnswer y ≡ Written k → (w : List ℕ) × (y ≡ got w) × (length w ≡ k)
-    to (got w) e = (w, refl, cc)
-    to (refused f) e = absurd (let z : _≡_ {A = ℕ} 0 1 = cc in omega arith)
+written-size =
+    reading-size writtenAnswer Written (λ w. refl) (λ f k e. (let z : _≡_ {A = ℕ} 0 1 = cc in omega arith)) (λ j k e. cc)
 
 pub written-from : (x : Reading (List ℕ)) (out w : List ℕ) → x ≡ got w → (writtenAnswer x ≡ Written (length w)) × (take (length w) (writtenLeaves x out) ≡ w)
 unfolding writtenAnswer writtenLeaves
@@ -80,11 +87,8 @@ block-says x n =
 
 pub block-holds : (x : Reading (List ℕ)) (k : ℕ) → (blockAnswer x ≡ Payload k) ↔ ((p : List ℕ) × (x ≡ got p) × (length p ≡ k))
 unfolding blockAnswer
-block-holds x k = (to x, λ h. rw (h .1, h .2))
-  where
-    to : (y : Reading (List ℕ)) → blockAnswer y ≡ Payload k → (p : List ℕ) × (y ≡ got p) × (length p ≡ k)
-    to (got p) e = (p, refl, cc)
-    to (refused f) e = absurd (let z : _≡_ {A = ℕ} 0 1 = cc in omega arith)
+block-holds =
+    reading-size blockAnswer Payload (λ p. refl) (λ f k e. (let z : _≡_ {A = ℕ} 0 1 = cc in omega arith)) (λ j k e. cc)
 
 -- ---- a call of a desk with its tape
 module _ (t : Taped) (c : Call) where

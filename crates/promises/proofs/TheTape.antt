@@ -220,7 +220,7 @@ pub alike-days-one-tape : (day other : List TapeTurn) (tape : List ℕ) → Alik
     → tapedRun (freshDay tape) day ≡ tapedRun (freshDay tape) other
 alike-days-one-tape day other tape a = secrets.alike-days day other (freshDay tape) a
 
--- ---- R30: "A number is given exactly where its row holds and none before it in the order does."
+-- ---- R30: "one is given exactly where its row holds and none before it there does."
 
 -- R45: "Writing one: 16, 11."
 pub block-write-refused-exactly : (number : ℕ) (p : List ℕ) (room n : ℕ)

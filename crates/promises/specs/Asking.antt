@@ -91,13 +91,8 @@ answerTo (short s) = shortSays (shortenAnswer (length s) s) (shortenLeaves s (ou
 answerTo (call cs c) = afterDay freshDesk cs λ d. callSays (answerOf d c (length buffer) .reply) (leavesOf d c buffer)
 answerTo (day cs) = afterDay freshDesk cs λ d. book (linesOfDesk d) (netOf (linesOfDesk d))
 
-<<<<<<< HEAD
--- the answers that the definitions give to a table's rows, and those that the page gives
-unfoldable pub computed : List CaseRow → List CaseAnswer
-=======
 -- the answers that the definitions give to a table's rows, and those that stand in them
-unfoldable pub computed : List Row → List CaseAnswer
->>>>>>> docs2
+unfoldable pub computed : List CaseRow → List CaseAnswer
 computed [] = []
 computed (q ⟶ a ∷ rs) = answerTo q ∷ computed rs
 

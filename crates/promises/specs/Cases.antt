@@ -19,7 +19,7 @@ unfoldable pub hex : ℕ → ℕ → List ℕ
 hex zero v = []
 hex (suc n) v = hex n (v / 256) ++ (v % 256 ∷ [])
 
--- M7: "plain: bytes that are never looked into", as of 06 D1: a body of so many, behind that header
+-- M7: "plain: bytes that the reader never looks into", as of 06 D1: a body of so many, behind that header
 unfoldable pub plainBody : List ℕ → ℕ → List ℕ
 plainBody header size = header ++ replicate size 0x41
 

@@ -13,7 +13,7 @@ use Rattle.zvt_rules.specs.declared.Fault.{Fault}
 use Rattle.zvt_rules.specs.declared.Layout.{Layout}
 use Rattle.zvt_rules.specs.declared.Layout.the-variants.{Plain, List as FieldList, Secured}
 use Rattle.zvt_rules.specs.Reading.{Reading, got, refused, pick, part, among}
-use Rattle.zvt_rules.specs.Fields.{Field, listOf}
+use Rattle.zvt_rules.specs.Fields.{Field, listBy, listOf}
 use Rattle.zvt_rules.specs.Message.{headerSize, layoutOf, Body, bytes, listed, Message, readOf}
 use Rattle.zvt_rules.specs.Writing.{listBytes, bodyBytes, lengthBytes, messageBytes}
 use Rattle.zvt_rules.specs.Grammar.{Bytes, FieldsOk, LayoutOk, MessageOk}
@@ -187,6 +187,11 @@ list-nowhere s e h = go (readOf s) (sym e ∙ h)
     go : (y : Reading Message) → messagePlace y ≡ Nowhere → listedMessage y ≡ []
     go (got m) g = unplaced m g .1
     go (refused f) g = refl
+
+-- no bytes are a list without fields
+pub no-list : (s : List ℕ) → ListIn 0 0 s × (listedIn 0 0 s ≡ [])
+unfolding ListReads listedIn fieldsBetween listFields listOf listBy listedFrom
+no-list s = (record { order = omega arith; inside = omega arith; short = omega arith; reads = (_, refl) }, refl)
 
 -- the list of a status information: which fields it has, and where the card name is
 pub record StatusIn (from end : ℕ) (s : List ℕ) : Type 0 where

@@ -115,20 +115,16 @@ pub fn list_place(s: &[u8]) -> ListPlace
 pub fn field_at(s: &[u8], k: usize) -> FieldAnswer
     ensures { λ r. ⌜ r ≡ fieldAnswer k (now (s .entry)) ⌝ }
 {
-    match list_place(s) {
-        ListPlace::Nowhere => FieldAnswer::End,
-        ListPlace::Between(from, end) => list::nth(s, from, end, k),
-    }
+    let l = list::fields_of(s);
+    list::nth(s, l.from, l.to, k)
 }
 
 // The field with that id of the list of the message that s is.
 pub fn field_named(s: &[u8], id: u8) -> FieldAnswer
     ensures { λ r. ⌜ r ≡ namedAnswer id (now (s .entry)) ⌝ }
 {
-    match list_place(s) {
-        ListPlace::Nowhere => FieldAnswer::End,
-        ListPlace::Between(from, end) => list::named(s, from, end, id),
-    }
+    let l = list::fields_of(s);
+    list::named(s, l.from, l.to, id)
 }
 
 // What the status information that s is tells; nothing of any other bytes.

@@ -8,7 +8,24 @@ use zvt_rules::Listed;
 use zvt_rules::ReadAnswer;
 ghost use mathlib.Core.Path.{_≡_};
 ghost use Rattle.zvt.specs.ListSteps.{ListIn, StandsAt, statusPlace, listedIn};
-ghost use Rattle.zvt_rules.specs.Listed.{nthListed, namedListed};
+ghost use Rattle.zvt_rules.specs.Message.{readOf};
+ghost use Rattle.zvt_rules.specs.Listed.{listedMessage, nthListed, namedListed};
+
+pub(crate) struct Span {
+    pub(crate) from: usize,
+    pub(crate) to: usize,
+}
+
+// Where the fields of the message that s is lie: no bytes at all where it has no list.
+pub(crate) fn fields_of(s: &[u8]) -> Span
+    ensures within { λ r. ⌜ ListIn (r .from) (r .to) (now (s .entry)) ⌝ }
+    ensures all { λ r. ⌜ listedMessage (readOf (now (s .entry))) ≡ listedIn (r .from) (r .to) (now (s .entry)) ⌝ }
+{
+    match crate::list_place(s) {
+        ListPlace::Nowhere => Span { from: 0, to: 0 },
+        ListPlace::Between(from, to) => Span { from, to },
+    }
+}
 
 // Where the list of a status information lies.
 pub(crate) fn status_place(s: &[u8]) -> ListPlace

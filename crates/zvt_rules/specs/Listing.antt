@@ -80,6 +80,6 @@ unfoldable pub linesBy : ℕ → ℕ → List ℕ → List ℕ
 linesBy zero count s = []
 linesBy (suc f) count s = andRest (λ next. linesBy f (count + 1) (drop next s)) (nextOf count s)
 
--- M16: "The lister takes messages from standard input, each directly behind the last"
+-- M16: "The lister takes messages from standard input, each directly behind the one before"
 unfoldable pub listing : List ℕ → List ℕ
 listing s = linesBy (length s + 1) 0 s
