@@ -72,9 +72,9 @@ written-in w at entry r exit e h =
     omega (arith, addAll-in w (text at entry) h, ap (λ (t : Text). t .at) e, ap (λ (t : Text). length (t .bytes)) e)
 
 -- a loop that adds the part w: the room stays, and what is left, l and then l′, comes to the same
-pub goes-on : {w l l′ : List ℕ} {t u s : Text} {room : ℕ} → u ≡ addAll w t → addAll l t ≡ addAll l′ (addAll w t)
+pub goes-on : (w l l′ : List ℕ) (t : Text) {u s : Text} {room : ℕ} → u ≡ addAll w t → addAll l t ≡ addAll l′ (addAll w t)
     → (length (t .bytes) ≡ room) × (addAll l t ≡ s) → (length (u .bytes) ≡ room) × (addAll l′ u ≡ s)
-goes-on {w} {l} {l′} {t} e step (room, same) =
+goes-on w l l′ t e step (room, same) =
     (ap (λ (x : Text). length (x .bytes)) e ∙ addAll-room w t ∙ room, ap (λ (x : Text). addAll l′ x) e ∙ sym step ∙ same)
 
 pub addAll-none : (v : List ℕ) (i : ℕ) (t : Text) → length v ≤ i → addAll (drop i v) t ≡ t

@@ -19,7 +19,7 @@ loop-again : tie.Need-loop-again Inv-loop μ-loop
 loop-again c =
     let at = c .before .before .before .before .before .before in
     let step = addAll-step (at .before .before .before .args .v .now) (at .loop .i) (text (at .loop .to) (at .loop .out)) (omega arith) in
-    goes-on (c .before .before .add .ensures) step (at .loop .inv)
+    goes-on _ _ _ _ (c .before .before .add .ensures) step (at .loop .inv)
 
 returns : tie.Need-returns Inv-loop μ-loop
 returns c = let at = c .before in sym (addAll-none (at .before .before .before .args .v .now) (at .loop .i) _ (omega arith)) ∙ at .loop .inv .1
