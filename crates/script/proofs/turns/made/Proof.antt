@@ -4,8 +4,8 @@ use Rattle.zvt_rules.specs.Grammar.{Bytes}
 use Rattle.desk_rules.specs.Course.{NumbersFit}
 use Rattle.tape_rules.proofs.Taping.{taped-valid, close-taped-valid}
 use borrow.Author.Needs.{needs}
-use Rattle.script.proofs.turns.called.Statement.{statement}
-use Rattle.script.proofs.turns.called.Tie as tie
+use Rattle.script.proofs.turns.made.Statement.{statement}
+use Rattle.script.proofs.turns.made.Tie as tie
 
 returns : tie.Need-returns
 unfolding NumbersFit
@@ -30,8 +30,8 @@ returns-5 c = rw (c .before .before .link-lost .ensures .0) (taped-valid _ _ _ _
 returns-6 : tie.Need-returns-6
 returns-6 c = rw (c .close .ensures) (close-taped-valid _ (search needs))
 
-pub called-spec : {M : Type 1} → statement M
-called-spec =
+pub made-spec : {M : Type 1} → statement M
+made-spec =
     tie.close
     (tie.spec
     (λ c. search needs)
