@@ -1,17 +1,9 @@
 // Files of cases: script lines, each with its answer behind it on lines that begin with `= `. A blank line ends a case, and the next
 // one starts with a fresh desk. The word `added`, in a line or in an answer, stands for the bytes that the lines `add` put together.
-use crate::answers::BLANK;
-use crate::answers::counted;
-use crate::further;
-use crate::further::Further;
 use crate::turns;
 use crate::turns::BYTES;
-use crate::turns::State;
 use crate::turns::TEXT;
 use crate::turns::Turn;
-use crate::turns::begun;
-use crate::turns::last;
-use crate::turns::next;
 use buffers::add;
 use buffers::add_all;
 use buffers::add_bytes;
@@ -19,7 +11,6 @@ use buffers::upto;
 use check::same;
 use libc::STDOUT_FILENO;
 use std::num::wrapping_add_u64;
-ghost use mathlib.Core.Path.{_≡_};
 ghost use Prim.Native.Nat.{_<_, _≤_};
 ghost use lib.ListN.{length};
 ghost use Rattle.desk_rules.specs.Memory.{Valid};
@@ -37,19 +28,21 @@ struct Wanted {
     size: usize,
 }
 
-// What became of a line: it has no answer, the same as the file, or another one of that size.
-enum Outcome {
-    Silent,
-    Same,
-    Differs(usize),
-}
-
-// A line with its answer: where the case then stands, and how many bytes and lines of the file it takes.
-struct Checked {
-    turn: Turn,
+// The next line of a file: whether it is blank and ends a case, how long its text is and that of the answer that the file has for it, and
+// how many bytes and lines of the file both take.
+struct Entry {
+    blank: bool,
+    size: usize,
+    due: usize,
     used: usize,
     lines: u64,
-    outcome: Outcome,
+}
+
+// Where an answer stands in its file, how long it is, and how long it should be.
+struct Spot {
+    number: u64,
+    size: usize,
+    due: usize,
 }
 
 // Room for a line: two digits for each added byte, and some words.
@@ -115,58 +108,6 @@ fn wants(s: &[u8], bytes: &[u8], out: &mut [u8]) -> Wanted
     }
 }
 
-// So many times the bytes s, behind the first at bytes of out.
-fn repeated(s: &[u8], times: u64, at: usize, out: &mut [u8]) -> usize {
-    let mut to = at;
-    let mut k: u64 = 0;
-    while k < times {
-        to = add_all(s, to, out);
-        k += 1;
-    }
-    to
-}
-
-// The next line of a case, in which `added` is already expanded.
-fn line(turn: Turn, s: &[u8], payload: &mut [u8], added: &mut [u8], out: &mut [u8]) -> Turn
-    requires { ⌜ Valid (turn .state .taped .desk) ⌝ }
-    ensures { λ r. ⌜ Valid (r .state .taped .desk) ⌝ }
-{
-    let state = turn.state;
-    if !turn.more {
-        return last(state, 0);
-    }
-    let mut bytes = [0u8; BYTES];
-    let found = further::further_of(s, &mut bytes);
-    let n = found.size;
-    let what = found.further;
-    match what {
-        Further::Nothing => turns::line(state, s, payload, out),
-        Further::Add(times) => {
-            let mut after = begun(state);
-            let end = repeated(&bytes[..n], times, state.added, added);
-            after.added = end;
-            next(after, counted(b"bytes", end as u64, 0, out))
-        }
-        Further::Digits(d, k) => next(begun(state), further::digits_line(d, k, out)),
-        Further::Ask(a) => {
-            let mut lent = [BLANK; State::ROOM];
-            let room = upto(state.room, &lent);
-            let size = further::answer(a, &mut bytes[..n], &mut lent[..room], out);
-            next(begun(state), size)
-        }
-    }
-}
-
-fn compared(got: &[u8], want: &[u8]) -> Outcome {
-    if got.len() == 0 && want.len() == 0 {
-        return Outcome::Silent;
-    }
-    if same(got, want) {
-        return Outcome::Same;
-    }
-    Outcome::Differs(got.len())
-}
-
 // Where the line behind one begins that ends there.
 fn behind(end: usize, s: &[u8]) -> usize
     requires { ⌜ (end ≤ length (now s)) × (0 < length (now s)) ⌝ }
@@ -178,82 +119,73 @@ fn behind(end: usize, s: &[u8]) -> usize
     end + 1
 }
 
-// The line s, with its answer at the start of rest.
-fn answered(
+// The line that the rest of a file begins with, and its answer behind it, as text, with the first count bytes of those added.
+fn next_of(rest: &[u8], count: usize, added: &[u8], full: &mut [u8], want: &mut [u8]) -> Entry
+    requires { ⌜ 0 < length (now rest) ⌝ }
+    ensures { λ r. ⌜ (0 < r .used) × (r .used ≤ length (now (rest .entry))) ⌝ }
+{
+    let n = upto(count, added);
+    let end = bytes::scan::find(rest, 0, rest.len(), b'\n');
+    let start = behind(end, rest);
+    let size = add_expanded(&rest[..end], &added[..n], 0, full);
+    let w = wants(&rest[start..], &added[..n], want);
+    Entry {
+        blank: end == 0,
+        size,
+        due: w.size,
+        used: start + w.used,
+        lines: wrapping_add_u64(w.lines, 1),
+    }
+}
+
+// The line of a case that goes on; a fresh desk behind its end.
+fn played(
     turn: Turn,
-    s: &[u8],
-    rest: &[u8],
+    e: Entry,
+    full: &[u8],
     payload: &mut [u8],
     added: &mut [u8],
     out: &mut [u8],
-) -> Checked
-    requires { ⌜ Valid (turn .state .taped .desk) ⌝ }
-    ensures { λ r. ⌜ Valid (r .turn .state .taped .desk) × (r .used ≤ length (now (rest .entry))) ⌝ }
+) -> Turn
+    requires { ⌜ Valid (turn .taped .desk) ⌝ }
+    ensures { λ r. ⌜ Valid (r .taped .desk) ⌝ }
 {
-    let mut full = [0u8; LINE];
-    let mut want = [0u8; TEXT];
-    let state = turn.state;
-    let n = upto(state.added, added);
-    let to = add_expanded(s, &added[..n], 0, &mut full);
-    let w = wants(rest, &added[..n], &mut want);
-    let size = upto(to, &full);
-    let t = line(turn, &full[..size], payload, added, out);
-    let given = upto(t.size, out);
-    let due = upto(w.size, &want);
-    Checked {
-        turn: t,
-        used: w.used,
-        lines: wrapping_add_u64(w.lines, 1),
-        outcome: compared(&out[..given], &want[..due]),
+    if e.blank {
+        return turns::fresh(true);
     }
+    let n = upto(e.size, full);
+    turns::line(turn, &full[..n], payload, added, out)
 }
 
-// The line that the rest of a file begins with, and its answer behind it.
-fn entry(turn: Turn, rest: &[u8], payload: &mut [u8], added: &mut [u8], out: &mut [u8]) -> Checked
-    requires { ⌜ Valid (turn .state .taped .desk) × (0 < length (now rest)) ⌝ }
-    ensures { λ r. ⌜ Valid (r .turn .state .taped .desk) × (0 < r .used) × (r .used ≤ length (now (rest .entry))) ⌝ }
-{
-    let end = bytes::scan::find(rest, 0, rest.len(), b'\n');
-    let start = behind(end, rest);
-    if end == 0 {
-        return Checked {
-            turn: next(State::start(), 0),
-            used: start,
-            lines: 1,
-            outcome: Outcome::Silent,
-        };
-    }
-    let mut c = answered(turn, &rest[..end], &rest[start..], payload, added, out);
-    c.used = start + c.used;
-    c
-}
-
-// What became of a line is counted, and told where it differs.
-fn told(tally: Tally, outcome: Outcome, name: &[u8], number: u64, text: &[u8]) -> Tally {
+// An answer is compared with what the file has for it, counted, and told where it differs.
+fn told(tally: Tally, name: &[u8], spot: Spot, text: &[u8], want: &[u8]) -> Tally {
+    let n = upto(spot.size, text);
+    let m = upto(spot.due, want);
     let mut t = tally;
-    if let Outcome::Silent = outcome {
+    if n == 0 && m == 0 {
         return t;
     }
     t.answers = wrapping_add_u64(t.answers, 1);
-    let Outcome::Differs(size) = outcome else {
+    if same(&text[..n], &want[..m]) {
         return t;
-    };
+    }
     t.differ = wrapping_add_u64(t.differ, 1);
     io::write_all(STDOUT_FILENO, name);
     io::write_all(STDOUT_FILENO, b" line ");
-    io::print_decimal(STDOUT_FILENO, number);
+    io::print_decimal(STDOUT_FILENO, spot.number);
     io::write_all(STDOUT_FILENO, b" answers\n");
-    let end = upto(size, text);
-    io::write_all(STDOUT_FILENO, &text[..end]);
+    io::write_all(STDOUT_FILENO, &text[..n]);
     t
 }
 
 // Plays the cases of the file s. What is answered otherwise than the file says goes to standard output, with the file's name and the line.
 pub fn check(name: &[u8], s: &[u8]) -> Tally {
-    let mut payload = [0u8; State::PAYLOAD];
+    let mut payload = [0u8; turns::PAYLOAD];
     let mut added = [0u8; BYTES];
+    let mut full = [0u8; LINE];
+    let mut want = [0u8; TEXT];
     let mut text = [0u8; TEXT];
-    let mut turn = next(State::start(), 0);
+    let mut turn = turns::fresh(true);
     let mut tally = Tally {
         answers: 0,
         differ: 0,
@@ -261,10 +193,15 @@ pub fn check(name: &[u8], s: &[u8]) -> Tally {
     let mut number: u64 = 1;
     let mut from: usize = 0;
     while from < s.len() {
-        let e = entry(turn, &s[from..], &mut payload, &mut added, &mut text);
-        let outcome = e.outcome;
-        tally = told(tally, outcome, name, number, &text);
-        turn = e.turn;
+        let at = turn.at;
+        let e = next_of(&s[from..], at.added, &added, &mut full, &mut want);
+        turn = played(turn, e, &full, &mut payload, &mut added, &mut text);
+        let spot = Spot {
+            number,
+            size: turn.size,
+            due: e.due,
+        };
+        tally = told(tally, name, spot, &text, &want);
         number = wrapping_add_u64(number, e.lines);
         from += e.used;
     }

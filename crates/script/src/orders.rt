@@ -1,15 +1,40 @@
-// What a line asks for.
+// What a line asks for: in a script, or with the further words of a file of cases.
 use crate::notation::Number;
 use crate::notation::bytes_of;
 use crate::notation::number_of;
-use crate::turns::State;
 use crate::words::following;
 use crate::words::place;
 use crate::words::word;
 use check::same;
 use desk_rules::Opening;
+use tape_rules::Block;
 ghost use Prim.Native.Nat.{_≤_};
 ghost use lib.ListN.{length};
+
+// Where a script stands, but for its desk: whether the further words are understood, whether it goes on, how many bytes are lent to a
+// call that writes, how many lines were played, and how many bytes were added.
+pub(crate) struct Script {
+    pub(crate) further: bool,
+    pub(crate) more: bool,
+    pub(crate) room: usize,
+    pub(crate) number: u64,
+    pub(crate) added: usize,
+}
+
+impl Script {
+    // The most bytes that can be lent: a message with a body of 4,096 bytes.
+    pub(crate) const ROOM: usize = 4101;
+
+    pub(crate) fn start(further: bool) -> Self {
+        Script {
+            further,
+            more: true,
+            room: Script::ROOM,
+            number: 0,
+            added: 0,
+        }
+    }
+}
 
 // A call for the desk.
 pub(crate) enum Call {
@@ -27,11 +52,37 @@ pub(crate) enum Question {
     Tape,
 }
 
-// A question to the reader.
+// A question to the reader, the lister or a block's reader.
 pub(crate) enum Reading {
     Read,
-    Shorten,
     Name,
+    Header,
+    First,
+    Status,
+    Field(usize),
+    List,
+    Block(Block),
+}
+
+// Bytes that are read with every value for the byte at a place, or a block with every change of a digit.
+pub(crate) enum Change {
+    Each(usize),
+    Damage(Block),
+}
+
+// What is written into the lent room: a message shortened, a block, a tape's payload, a tape.
+pub(crate) enum Writing {
+    Shorten,
+    Write(u32),
+    Records,
+    Blocks,
+}
+
+// The digits that a till writes.
+pub(crate) enum Digits {
+    Amount(u64),
+    Password(u32),
+    Receipt(u16),
 }
 
 // Bad: the line is not understood. Pass: it is blank, or begins with #.
@@ -42,6 +93,10 @@ pub(crate) enum Order {
     Call(Call),
     Question(Question),
     Reading(Reading),
+    Writing(Writing),
+    Change(Change),
+    Digits(Digits),
+    Add(u64),
 }
 
 // An order and the bytes of its line: a message up to size, and from there the till's own name up to end.
@@ -63,12 +118,12 @@ enum Numbers {
 // The greatest numbers of the types u8, u16 and u32.
 const BYTE: u64 = 255;
 
-pub(crate) const SHORT: u64 = 65535;
+const SHORT: u64 = 65535;
 
-pub(crate) const WORD: u64 = 4294967295;
+const WORD: u64 = 4294967295;
 
 // A number over the width of its type is passed on as the greatest of that type: the desk refuses it.
-pub(crate) fn cut(n: u64, greatest: u64) -> u64
+fn cut(n: u64, greatest: u64) -> u64
     ensures { λ r. ⌜ r ≤ greatest ⌝ }
 {
     if greatest < n { greatest } else { n }
@@ -116,7 +171,7 @@ fn alone(name: &[u8]) -> Order {
 fn with_one(name: &[u8], n: u64) -> Order {
     match place(name, b"room lost") {
         0 => {
-            if (State::ROOM as u64) < n {
+            if (Script::ROOM as u64) < n {
                 return Order::Bad;
             }
             Order::Room(n as usize)
@@ -205,29 +260,126 @@ fn with_name(v: &[u8], w: &[u8], bytes: &mut [u8]) -> Asked
     }
 }
 
-// The order of a line; its bytes go to the start of bytes.
-pub(crate) fn order_of(s: &[u8], bytes: &mut [u8]) -> Asked
+// A further word and bytes.
+fn with_bytes(name: &[u8]) -> Order {
+    match place(name, b"header first status list records blocks") {
+        0 => Order::Reading(Reading::Header),
+        1 => Order::Reading(Reading::First),
+        2 => Order::Reading(Reading::Status),
+        3 => Order::Reading(Reading::List),
+        4 => Order::Writing(Writing::Records),
+        5 => Order::Writing(Writing::Blocks),
+        _ => Order::Bad,
+    }
+}
+
+// A further word and a number.
+fn with_number(name: &[u8], number: Number) -> Order {
+    let Number::Value(n) = number else {
+        return Order::Bad;
+    };
+    match place(name, b"amount password receipt") {
+        0 => Order::Digits(Digits::Amount(n)),
+        1 => Order::Digits(Digits::Password(cut(n, WORD) as u32)),
+        2 => Order::Digits(Digits::Receipt(cut(n, SHORT) as u16)),
+        _ => Order::Bad,
+    }
+}
+
+// A further word, a number and bytes.
+fn with_both(name: &[u8], number: Number) -> Order {
+    let Number::Value(n) = number else {
+        return Order::Bad;
+    };
+    let block = cut(n, WORD) as u32;
+    match place(
+        name,
+        b"add field each write block last-block damage damage-last",
+    ) {
+        0 => Order::Add(n),
+        1 => Order::Reading(Reading::Field(n as usize)),
+        2 => Order::Change(Change::Each(n as usize)),
+        3 => Order::Writing(Writing::Write(block)),
+        4 => Order::Reading(Reading::Block(Block::before_last(block))),
+        5 => Order::Reading(Reading::Block(Block::at_end(block))),
+        6 => Order::Change(Change::Damage(Block::before_last(block))),
+        7 => Order::Change(Change::Damage(Block::at_end(block))),
+        _ => Order::Bad,
+    }
+}
+
+// A line with a further word.
+fn further_of(s: &[u8], bytes: &mut [u8]) -> Asked
     ensures { λ r. ⌜ (r .size ≤ r .end) × (r .end ≤ length (now (bytes .exit))) ⌝ }
 {
+    let name = word(s, 0);
+    let number = number_of(word(s, 1));
+    match following(s) {
+        1 => {
+            let order = with_number(name, number);
+            if let Order::Digits(_) = order {
+                return without(order);
+            }
+            with_message(with_bytes(name), word(s, 1), bytes)
+        }
+        2 => with_message(with_both(name, number), word(s, 2), bytes),
+        _ => without(Order::Bad),
+    }
+}
+
+// By the name of a line, one whose last word is a message.
+fn message_order(s: &[u8]) -> Order {
+    let name = word(s, 0);
+    match following(s) {
+        1 => match place(name, b"read shorten") {
+            0 => Order::Reading(Reading::Read),
+            1 => Order::Writing(Writing::Shorten),
+            _ => Order::Bad,
+        },
+        2 => {
+            if same(name, b"terminal") {
+                return terminal(number_of(word(s, 1)));
+            }
+            Order::Bad
+        }
+        _ => Order::Bad,
+    }
+}
+
+// A line of a script.
+fn script_of(s: &[u8], bytes: &mut [u8]) -> Asked
+    ensures { λ r. ⌜ (r .size ≤ r .end) × (r .end ≤ length (now (bytes .exit))) ⌝ }
+{
+    let count = following(s);
+    let order = message_order(s);
+    if let Order::Bad = order {
+        if count == 2 && same(word(s, 0), b"name") {
+            return with_name(word(s, 1), word(s, 2), bytes);
+        }
+        return without(plain(s));
+    }
+    with_message(order, word(s, count), bytes)
+}
+
+// The order of a line; its bytes go to the start of bytes. Behind a line that is not understood no other is heard.
+pub(crate) fn order_of(at: Script, s: &[u8], bytes: &mut [u8]) -> Asked
+    ensures { λ r. ⌜ (r .size ≤ r .end) × (r .end ≤ length (now (bytes .exit))) ⌝ }
+{
+    if !at.more {
+        return without(Order::Pass);
+    }
     if s.len() == 0 {
         return without(Order::Pass);
     }
     if s[0] == b'#' {
         return without(Order::Pass);
     }
-    if following(s) == 1 {
-        match place(word(s, 0), b"read shorten") {
-            0 => return with_message(Order::Reading(Reading::Read), word(s, 1), bytes),
-            1 => return with_message(Order::Reading(Reading::Shorten), word(s, 1), bytes),
-            _ => return without(plain(s)),
+    let asked = script_of(s, bytes);
+    let order = asked.order;
+    if at.further {
+        if let Order::Bad = order {
+            return further_of(s, bytes);
         }
     }
-    if following(s) == 2 {
-        match place(word(s, 0), b"terminal name") {
-            0 => return with_message(terminal(number_of(word(s, 1))), word(s, 2), bytes),
-            1 => return with_name(word(s, 1), word(s, 2), bytes),
-            _ => return without(plain(s)),
-        }
-    }
-    without(plain(s))
+    asked
 }

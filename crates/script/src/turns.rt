@@ -1,13 +1,11 @@
-// What a line does, and its answer.
+// What a line does to a desk with its tape, and its answer.
 use crate::answers;
 use crate::orders;
-use crate::orders::Asked;
 use crate::orders::Call;
 use crate::orders::Order;
 use crate::orders::Question;
-use crate::orders::Reading;
-use buffers::add;
-use buffers::add_all;
+use crate::orders::Script;
+use crate::plain;
 use buffers::upto;
 use desk_rules::Book;
 use desk_rules::Desk;
@@ -15,47 +13,14 @@ use desk_rules::Lane;
 use desk_rules::LaneAnswer;
 use desk_rules::LineAnswer;
 use desk_rules::Reply;
-use std::num::wrapping_add_u64;
 use tape_rules::Taped;
 use tape_rules::TapedAnswer;
-use zvt_rules::ReadAnswer;
-use zvt_rules::ShortenAnswer;
-ghost use Prim.Native.Nat.{_≤_};
-ghost use lib.ListN.{length};
 ghost use Rattle.desk_rules.specs.Memory.{Valid};
 
-// The desk with its tape, how many bytes are lent to a call that writes, how many lines were played, and how many bytes were added.
-pub(crate) struct State {
-    pub(crate) taped: Taped,
-    pub(crate) room: usize,
-    pub(crate) number: u64,
-    pub(crate) added: usize,
-}
+// The day's payload, more than a script can fill; and its blocks, 261.
+pub(crate) const PAYLOAD: usize = 131072;
 
-impl State {
-    // The most bytes that can be lent: a message with a body of 4,096 bytes.
-    pub(crate) const ROOM: usize = 4101;
-
-    // The day's payload, more than a script can fill.
-    pub(crate) const PAYLOAD: usize = 131072;
-
-    // The blocks of a full payload: 261.
-    const TAPE: usize = 133632;
-
-    // The records of one call take no more: a longest message, its reply, and their heads.
-    const RECORDS: usize = 4112;
-
-    pub(crate) fn start() -> Self
-        ensures { λ r. ⌜ Valid (r .taped .desk) ⌝ }
-    {
-        State {
-            taped: Taped::fresh(),
-            room: State::ROOM,
-            number: 0,
-            added: 0,
-        }
-    }
-}
+const TAPE: usize = 133632;
 
 // No line stands for more bytes: an input of the lister that is one byte too long.
 pub(crate) const BYTES: usize = listing::LIMIT + 1;
@@ -63,11 +28,28 @@ pub(crate) const BYTES: usize = listing::LIMIT + 1;
 // No answer is longer than a listing: a tape of 261 blocks, each 1,024 digits and a line feed, is not.
 pub(crate) const TEXT: usize = listing::TEXT;
 
-// What a line leaves: the state, how long the text of its answer is, and whether the script goes on.
+// What a line leaves: the desk with its tape, where the script stands, and how long the text of the answer is.
 pub(crate) struct Turn {
-    pub(crate) state: State,
+    pub(crate) taped: Taped,
+    pub(crate) at: Script,
     pub(crate) size: usize,
-    pub(crate) more: bool,
+}
+
+// What a call leaves, and how long the text of its answer is.
+struct Called {
+    taped: Taped,
+    size: usize,
+}
+
+// A fresh desk, and a script that has not begun.
+pub(crate) fn fresh(further: bool) -> Turn
+    ensures { λ r. ⌜ Valid (r .taped .desk) ⌝ }
+{
+    Turn {
+        taped: Taped::fresh(),
+        at: Script::start(further),
+        size: 0,
+    }
 }
 
 // The lines of the book, and their count.
@@ -108,7 +90,7 @@ fn lanes(desk: Desk, out: &mut [u8]) -> usize
 
 // The tape so far: the blocks of what is used of the payload.
 fn tape_of(used: usize, payload: &[u8], out: &mut [u8]) -> usize {
-    let mut blocks = [0u8; State::TAPE];
+    let mut blocks = [0u8; TAPE];
     let n = upto(used, payload);
     match tape::write_tape(&payload[..n], &mut blocks) {
         Reply::Refused(r) => answers::refused(r.number, out),
@@ -131,29 +113,8 @@ fn question(taped: Taped, q: Question, payload: &[u8], out: &mut [u8]) -> usize
     }
 }
 
-fn shorten(s: &[u8], lent: &mut [u8], out: &mut [u8]) -> usize {
-    match zvt::shorten(s, lent) {
-        ShortenAnswer::Refused(r) => answers::reply(Reply::Refused(r), lent, out),
-        ShortenAnswer::Written(size) => answers::reply(Reply::Written(size), lent, out),
-    }
-}
-
-fn reading<'a>(r: Reading, s: &'a [u8], own: &'a [u8], lent: &mut [u8], out: &mut [u8]) -> usize {
-    match r {
-        Reading::Read => match zvt::read(s) {
-            ReadAnswer::Refused(f) => answers::refused(f.number, out),
-            ReadAnswer::Accepted(m) => {
-                let to = answers::message(s, m, out);
-                add(b'\n', to, out)
-            }
-        },
-        Reading::Shorten => shorten(s, lent, out),
-        Reading::Name => answers::bytes_line(zvt::card_name(s, own), out),
-    }
-}
-
 // The call itself, and its records.
-fn called(taped: Taped, c: Call, s: &[u8], lent: &mut [u8], payload: &mut [u8]) -> TapedAnswer
+fn made(taped: Taped, c: Call, s: &[u8], lent: &mut [u8], payload: &mut [u8]) -> TapedAnswer
     requires { ⌜ Valid (taped .desk) ⌝ }
     ensures { λ r. ⌜ Valid (r .taped .desk) ⌝ }
 {
@@ -165,105 +126,69 @@ fn called(taped: Taped, c: Call, s: &[u8], lent: &mut [u8], payload: &mut [u8]) 
     }
 }
 
-// Whether the payload has room for the records of any call.
-fn roomy(used: usize, size: usize) -> bool {
-    if size < State::RECORDS {
-        return false;
-    }
-    used <= size - State::RECORDS
-}
-
-// The call and its answer. A script cannot fill the payload; were it full, no call would be made.
+// The call and its answer.
 fn call(
-    state: State,
+    taped: Taped,
     c: Call,
     s: &[u8],
     lent: &mut [u8],
     payload: &mut [u8],
     out: &mut [u8],
-) -> Turn
-    requires { ⌜ Valid (state .taped .desk) ⌝ }
-    ensures { λ r. ⌜ Valid (r .state .taped .desk) ⌝ }
-{
-    let before = state.taped;
-    if !roomy(before.used, payload.len()) {
-        return last(state, add_all(b"tape full\n", 0, out));
-    }
-    let a = called(before, c, s, lent, payload);
-    let r = a.reply;
-    let taped = a.taped;
-    let mut after = state;
-    after.taped = taped;
-    next(after, answers::reply(r, lent, out))
-}
-
-// The script goes on, or ends here.
-pub(crate) fn next(state: State, size: usize) -> Turn
-    requires { ⌜ Valid (state .taped .desk) ⌝ }
-    ensures { λ r. ⌜ Valid (r .state .taped .desk) ⌝ }
-{
-    Turn {
-        state,
-        size,
-        more: true,
-    }
-}
-
-pub(crate) fn last(state: State, size: usize) -> Turn
-    requires { ⌜ Valid (state .taped .desk) ⌝ }
-    ensures { λ r. ⌜ Valid (r .state .taped .desk) ⌝ }
-{
-    Turn {
-        state,
-        size,
-        more: false,
-    }
-}
-
-// What the line that was begun asks for.
-fn act(state: State, asked: Asked, bytes: &[u8], payload: &mut [u8], out: &mut [u8]) -> Turn
-    requires { ⌜ Valid (state .taped .desk) × (asked .size ≤ asked .end) × (asked .end ≤ length (now bytes)) ⌝ }
-    ensures { λ r. ⌜ Valid (r .state .taped .desk) ⌝ }
-{
-    let mut lent = [answers::BLANK; State::ROOM];
-    let room = upto(state.room, &lent);
-    let taped = state.taped;
-    let order = asked.order;
-    let size = asked.size;
-    let end = asked.end;
-    match order {
-        Order::Bad => last(state, answers::not_understood(state.number, out)),
-        Order::Pass => next(state, 0),
-        Order::Room(n) => {
-            let mut after = state;
-            after.room = n;
-            next(after, add_all(b"ok\n", 0, out))
-        }
-        Order::Question(q) => next(state, question(taped, q, payload, out)),
-        Order::Reading(r) => next(
-            state,
-            reading(r, &bytes[..size], &bytes[size..end], &mut lent[..room], out),
-        ),
-        Order::Call(c) => call(state, c, &bytes[..size], &mut lent[..room], payload, out),
-    }
-}
-
-// One line more.
-pub(crate) fn begun(state: State) -> State
-    requires { ⌜ Valid (state .taped .desk) ⌝ }
+) -> Called
+    requires { ⌜ Valid (taped .desk) ⌝ }
     ensures { λ r. ⌜ Valid (r .taped .desk) ⌝ }
 {
-    let mut after = state;
-    after.number = wrapping_add_u64(state.number, 1);
-    after
+    let a = made(taped, c, s, lent, payload);
+    let r = a.reply;
+    let after = a.taped;
+    Called {
+        taped: after,
+        size: answers::reply(r, lent, out),
+    }
 }
 
 // The next line of a script.
-pub(crate) fn line(state: State, s: &[u8], payload: &mut [u8], out: &mut [u8]) -> Turn
-    requires { ⌜ Valid (state .taped .desk) ⌝ }
-    ensures { λ r. ⌜ Valid (r .state .taped .desk) ⌝ }
+pub(crate) fn line(
+    turn: Turn,
+    s: &[u8],
+    payload: &mut [u8],
+    added: &mut [u8],
+    out: &mut [u8],
+) -> Turn
+    requires { ⌜ Valid (turn .taped .desk) ⌝ }
+    ensures { λ r. ⌜ Valid (r .taped .desk) ⌝ }
 {
     let mut bytes = [0u8; BYTES];
-    let asked = orders::order_of(s, &mut bytes);
-    act(begun(state), asked, &bytes, payload, out)
+    let at = plain::begun(turn.at);
+    let asked = orders::order_of(at, s, &mut bytes);
+    let order = asked.order;
+    let taped = turn.taped;
+    match order {
+        Order::Call(c) => {
+            let mut lent = [answers::BLANK; Script::ROOM];
+            let size = asked.size;
+            let n = upto(at.room, &lent);
+            let a = call(taped, c, &bytes[..size], &mut lent[..n], payload, out);
+            let after = a.taped;
+            Turn {
+                taped: after,
+                at,
+                size: a.size,
+            }
+        }
+        Order::Question(q) => Turn {
+            taped,
+            at,
+            size: question(taped, q, payload, out),
+        },
+        _ => {
+            let said = plain::answered(at, asked, &mut bytes, added, out);
+            let after = said.at;
+            Turn {
+                taped,
+                at: after,
+                size: said.size,
+            }
+        }
+    }
 }

@@ -9,19 +9,19 @@ use Rattle.script.proofs.play.Statement.{statement}
 use Rattle.script.proofs.play.Tie as tie
 
 abbrev Inv-loop : tie.InvT-loop
-Inv-loop script payload₀ text₀ state₀ from₀ payload text state from =
-    (from ≤ length script) × (Valid (state .taped .desk)) × (length payload ≡ 131072) × (length text ≡ 458752)
+Inv-loop script payload₀ added₀ text₀ turn₀ from₀ payload added text turn from =
+    (from ≤ length script) × (Valid (turn .taped .desk)) × (length payload ≡ 131072) × (length added ≡ 1) × (length text ≡ 458752)
 
 abbrev μ-loop : tie.MeasureT-loop
-μ-loop script payload₀ text₀ state₀ from₀ payload text state from = length script - from
+μ-loop script payload₀ added₀ text₀ turn₀ from₀ payload added text turn from = length script - from
 
 loop-holds : tie.Need-loop-holds Inv-loop μ-loop
 loop-holds c =
-    (search needs, c .start .ensures, length-replicate {A = ℕ} 131072 0, length-replicate {A = ℕ} 458752 0)
+    (search needs, c .fresh .ensures, length-replicate {A = ℕ} 131072 0, length-replicate {A = ℕ} 1 0, length-replicate {A = ℕ} 458752 0)
 
 loop-again : tie.Need-loop-again Inv-loop μ-loop
 loop-again c =
-    (search needs, c .before .before .before .before .before .before .before .before .before .before .line .ensures, search needs, search needs)
+    (search needs, c .before .before .before .before .before .before .before .before .line .ensures, search needs, search needs, search needs)
 
 pub play-spec : {M : Type 1} → statement M
 play-spec =
@@ -40,13 +40,13 @@ play-spec =
     (λ c. search needs)
     (λ c. search needs)
     (λ c. search needs)
-    (λ c κs. search needs)
     (λ c. search needs)
     (λ c κs. search needs)
     (λ c. search needs)
-    (λ c. search needs)
     (λ c κs. search needs)
     (λ c. search needs)
+    (λ c. search needs)
+    (λ c κs. search needs)
     (λ c. search needs)
     (λ c. search needs)
     (λ c. search needs)

@@ -1,63 +1,35 @@
-// Words that the files of cases have beyond a script's: what the reader, the lister and the blocks of a tape are asked.
+// Lines that leave the desk alone: what the reader, the lister and the blocks of a tape answer.
 use crate::answers;
+use crate::answers::BLANK;
 use crate::answers::bytes_line;
-use crate::notation::Number;
-use crate::notation::bytes_of;
-use crate::notation::number_of;
-use crate::orders::SHORT;
-use crate::orders::WORD;
-use crate::orders::cut;
-use crate::words::following;
-use crate::words::place;
-use crate::words::word;
+use crate::orders::Asked;
+use crate::orders::Change;
+use crate::orders::Digits;
+use crate::orders::Order;
+use crate::orders::Reading;
+use crate::orders::Script;
+use crate::orders::Writing;
 use buffers::add;
 use buffers::add_all;
 use buffers::add_decimal;
 use buffers::add_hex;
 use buffers::upto;
+use desk_rules::Reply;
+use std::num::wrapping_add_u64;
 use tape_rules::Block;
 use tape_rules::BlockAnswer;
 use zvt_rules::FieldAnswer;
 use zvt_rules::FirstAnswer;
 use zvt_rules::HeaderAnswer;
 use zvt_rules::ReadAnswer;
+use zvt_rules::ShortenAnswer;
 ghost use mathlib.Core.Path.{_≡_};
 ghost use Prim.Native.Nat.{_<_, _≤_};
 ghost use lib.ListN.{length};
-ghost use Rattle.io.specs.Counts.{Counts};
 
-// The digits that a till writes.
-pub(crate) enum Digits {
-    Amount,
-    Password,
-    Receipt,
-}
-
-// What is asked of bytes: the reader, the lister, the tape.
-pub(crate) enum Ask {
-    Header,
-    First,
-    Status,
-    List,
-    Field(usize),
-    Each(usize),
-    Records,
-    Blocks,
-    Write(u32),
-    Block(Block),
-    Damage(Block),
-}
-
-pub(crate) enum Further {
-    Nothing,
-    Add(u64),
-    Digits(Digits, u64),
-    Ask(Ask),
-}
-
-// A further word and how many bytes its line has.
-pub(crate) struct Found {
-    pub(crate) further: Further,
+// Where a script then stands, and how long the text of its answer is.
+pub(crate) struct Said {
+    pub(crate) at: Script,
     pub(crate) size: usize,
 }
 
@@ -72,92 +44,21 @@ const CHANGES: usize = 15360;
 
 const OF_BYTE: usize = 30;
 
-// A word and bytes.
-fn with_bytes(name: &[u8]) -> Further {
-    match place(name, b"header first status list records blocks") {
-        0 => Further::Ask(Ask::Header),
-        1 => Further::Ask(Ask::First),
-        2 => Further::Ask(Ask::Status),
-        3 => Further::Ask(Ask::List),
-        4 => Further::Ask(Ask::Records),
-        5 => Further::Ask(Ask::Blocks),
-        _ => Further::Nothing,
-    }
-}
-
-// A word and a number.
-fn with_number(name: &[u8], n: u64) -> Further {
-    match place(name, b"amount password receipt") {
-        0 => Further::Digits(Digits::Amount, n),
-        1 => Further::Digits(Digits::Password, n),
-        2 => Further::Digits(Digits::Receipt, n),
-        _ => with_bytes(name),
-    }
-}
-
-// A word, a number and bytes.
-fn with_both(name: &[u8], n: u64) -> Further {
-    let block = cut(n, WORD) as u32;
-    match place(
-        name,
-        b"add field each write block last-block damage damage-last",
-    ) {
-        0 => Further::Add(n),
-        1 => Further::Ask(Ask::Field(n as usize)),
-        2 => Further::Ask(Ask::Each(n as usize)),
-        3 => Further::Ask(Ask::Write(block)),
-        4 => Further::Ask(Ask::Block(Block::before_last(block))),
-        5 => Further::Ask(Ask::Block(Block::at_end(block))),
-        6 => Further::Ask(Ask::Damage(Block::before_last(block))),
-        7 => Further::Ask(Ask::Damage(Block::at_end(block))),
-        _ => Further::Nothing,
-    }
-}
-
-// By the name of a line and its number, whatever its bytes are.
-fn named(s: &[u8]) -> Further {
-    let name = word(s, 0);
-    match number_of(word(s, 1)) {
-        Number::Bad => {
-            if following(s) == 1 {
-                return with_bytes(name);
-            }
-            Further::Nothing
-        }
-        Number::Value(n) => match following(s) {
-            1 => with_number(name, n),
-            2 => with_both(name, n),
-            _ => Further::Nothing,
-        },
-    }
-}
-
-// The further word of a line; its bytes go to the start of bytes.
-pub(crate) fn further_of(s: &[u8], bytes: &mut [u8]) -> Found
-    ensures { λ r. ⌜ Counts (r .size) (now (bytes .exit)) ⌝ }
-{
-    let further = named(s);
-    if let Further::Digits(_, _) = further {
-        return Found { further, size: 0 };
-    }
-    let v = bytes_of(word(s, following(s)), bytes);
-    if v.good {
-        return Found {
-            further,
-            size: v.size,
-        };
-    }
-    Found {
-        further: Further::Nothing,
-        size: 0,
-    }
-}
-
-pub(crate) fn digits_line(d: Digits, n: u64, out: &mut [u8]) -> usize {
+fn digits_line(d: Digits, out: &mut [u8]) -> usize {
     match d {
-        Digits::Amount => bytes_line(&zvt::amount_bytes(n), out),
-        Digits::Password => bytes_line(&zvt::password_bytes(cut(n, WORD) as u32), out),
-        Digits::Receipt => bytes_line(&zvt::receipt_bytes(cut(n, SHORT) as u16), out),
+        Digits::Amount(n) => bytes_line(&zvt::amount_bytes(n), out),
+        Digits::Password(n) => bytes_line(&zvt::password_bytes(n), out),
+        Digits::Receipt(n) => bytes_line(&zvt::receipt_bytes(n), out),
+    }
+}
+
+fn read(s: &[u8], out: &mut [u8]) -> usize {
+    match zvt::read(s) {
+        ReadAnswer::Refused(f) => answers::refused(f.number, out),
+        ReadAnswer::Accepted(m) => {
+            let to = answers::message(s, m, out);
+            add(b'\n', to, out)
+        }
     }
 }
 
@@ -329,28 +230,129 @@ fn damage(due: Block, s: &mut [u8], out: &mut [u8]) -> usize {
     add_all(b" refused 20\n", to, out)
 }
 
-// What is asked of the bytes s, with this room for a call that writes.
-pub(crate) fn answer(a: Ask, s: &mut [u8], lent: &mut [u8], out: &mut [u8]) -> usize {
-    match a {
-        Ask::Header => header(s, out),
-        Ask::First => first(s, out),
-        Ask::Status => answers::add_status(zvt::read_status(s), 0, out),
-        Ask::List => listing::list(s, out),
-        Ask::Field(k) => field(k, s, out),
-        Ask::Each(k) => each(k, s, out),
-        Ask::Block(due) => block(due, s, out),
-        Ask::Damage(due) => damage(due, s, out),
-        Ask::Records => {
-            let r = tape::read_tape(s, lent);
-            answers::reply(r, lent, out)
+fn reading<'a>(r: Reading, s: &'a [u8], own: &'a [u8], out: &mut [u8]) -> usize {
+    match r {
+        Reading::Read => read(s, out),
+        Reading::Name => bytes_line(zvt::card_name(s, own), out),
+        Reading::Header => header(s, out),
+        Reading::First => first(s, out),
+        Reading::Status => answers::add_status(zvt::read_status(s), 0, out),
+        Reading::Field(k) => field(k, s, out),
+        Reading::List => listing::list(s, out),
+        Reading::Block(due) => block(due, s, out),
+    }
+}
+
+fn reading_in(r: Reading, asked: Asked, bytes: &[u8], out: &mut [u8]) -> usize
+    requires { ⌜ (asked .size ≤ asked .end) × (asked .end ≤ length (now bytes)) ⌝ }
+{
+    let size = asked.size;
+    let end = asked.end;
+    reading(r, &bytes[..size], &bytes[size..end], out)
+}
+
+fn shorten(s: &[u8], lent: &mut [u8]) -> Reply {
+    match zvt::shorten(s, lent) {
+        ShortenAnswer::Refused(r) => Reply::Refused(r),
+        ShortenAnswer::Written(size) => Reply::Written(size),
+    }
+}
+
+fn write(w: Writing, s: &[u8], lent: &mut [u8]) -> Reply {
+    match w {
+        Writing::Shorten => shorten(s, lent),
+        Writing::Write(number) => tape::write_block(number, s, lent),
+        Writing::Records => tape::read_tape(s, lent),
+        Writing::Blocks => tape::write_tape(s, lent),
+    }
+}
+
+fn writing(w: Writing, s: &[u8], lent: &mut [u8], out: &mut [u8]) -> usize {
+    let r = write(w, s, lent);
+    answers::reply(r, lent, out)
+}
+
+fn change(c: Change, s: &mut [u8], out: &mut [u8]) -> usize {
+    match c {
+        Change::Each(k) => each(k, s, out),
+        Change::Damage(due) => damage(due, s, out),
+    }
+}
+
+// So many times the bytes s, behind the first at bytes of out.
+fn repeated(s: &[u8], times: u64, at: usize, out: &mut [u8]) -> usize {
+    let mut to = at;
+    let mut k: u64 = 0;
+    while k < times {
+        to = add_all(s, to, out);
+        k += 1;
+    }
+    to
+}
+
+// What a line comes to that has bytes and leaves the script as it is.
+fn asked_of(asked: Asked, room: usize, bytes: &mut [u8], out: &mut [u8]) -> usize
+    requires { ⌜ (asked .size ≤ asked .end) × (asked .end ≤ length (now bytes)) ⌝ }
+{
+    let mut lent = [BLANK; Script::ROOM];
+    let n = upto(room, &lent);
+    let order = asked.order;
+    let size = asked.size;
+    match order {
+        Order::Reading(r) => reading_in(r, asked, bytes, out),
+        Order::Writing(w) => writing(w, &bytes[..size], &mut lent[..n], out),
+        Order::Change(c) => change(c, &mut bytes[..size], out),
+        Order::Digits(d) => digits_line(d, out),
+        _ => 0,
+    }
+}
+
+// One line more.
+pub(crate) fn begun(at: Script) -> Script {
+    let mut after = at;
+    after.number = wrapping_add_u64(at.number, 1);
+    after
+}
+
+// A line that asks nothing of the desk.
+pub(crate) fn answered(
+    at: Script,
+    asked: Asked,
+    bytes: &mut [u8],
+    added: &mut [u8],
+    out: &mut [u8],
+) -> Said
+    requires { ⌜ (asked .size ≤ asked .end) × (asked .end ≤ length (now bytes)) ⌝ }
+{
+    let mut after = at;
+    let order = asked.order;
+    let size = asked.size;
+    match order {
+        Order::Bad => {
+            after.more = false;
+            Said {
+                at: after,
+                size: answers::not_understood(at.number, out),
+            }
         }
-        Ask::Blocks => {
-            let r = tape::write_tape(s, lent);
-            answers::reply(r, lent, out)
+        Order::Room(n) => {
+            after.room = n;
+            Said {
+                at: after,
+                size: add_all(b"ok\n", 0, out),
+            }
         }
-        Ask::Write(number) => {
-            let r = tape::write_block(number, s, lent);
-            answers::reply(r, lent, out)
+        Order::Add(times) => {
+            let end = repeated(&bytes[..size], times, at.added, added);
+            after.added = end;
+            Said {
+                at: after,
+                size: answers::counted(b"bytes", end as u64, 0, out),
+            }
         }
+        _ => Said {
+            at,
+            size: asked_of(asked, at.room, bytes, out),
+        },
     }
 }
