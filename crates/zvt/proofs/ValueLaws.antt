@@ -1,5 +1,5 @@
 -- The field of a list that has a given id: where it is found, and what it holds. Assumes nothing.
-use mathlib.Core.Path.{_≡_, refl, sym}
+use mathlib.Core.Path.{_≡_, refl, sym, ap, _∙_}
 use mathlib.Core.Bool.{Bool, true, false}
 use mathlib.Core.Logic.{⊎-elim}
 use mathlib.Core.List.{List, [], _∷_}
@@ -19,6 +19,7 @@ use Rattle.zvt_rules.proofs.ObjectReading.{part-length}
 use Rattle.zvt_rules.proofs.ObjectBytes.{bytes-part}
 use Rattle.zvt_rules.proofs.FieldBytes.{list-sound}
 use Rattle.zvt_rules.proofs.DigitLaws.{number-fits}
+use Rattle.zvt.specs.declared.values.NumberFound.{NumberFound}
 use Rattle.zvt.specs.declared.values.NumberFound.the-variants.{Missing as no-number, Number}
 use Rattle.zvt.specs.NumberSteps.{numberFound}
 use Rattle.zvt_rules.specs.declared.Listed.{Listed}
@@ -83,7 +84,7 @@ unfolding SizeOk
 fixed-size id k v f h = rw f at h
 
 -- ---- what a number that is found says of the value
-pub number-none : (x : Found) → numberFound x ≡ no-number → x ≡ missing
+number-none : (x : Found) → numberFound x ≡ no-number → x ≡ missing
 unfolding numberFound
 number-none missing e = refl
 number-none (found v) e = absurd (let z : _≡_ {A = ℕ} 0 1 = cc in omega arith)
@@ -92,6 +93,14 @@ pub number-some : (x : Found) (n : ℕ) → numberFound x ≡ Number n → (v : 
 unfolding numberFound
 number-some missing n e = absurd (let z : _≡_ {A = ℕ} 0 1 = cc in omega arith)
 number-some (found v) n e = (v, refl, cc)
+
+-- what is told of a number that was looked for, f, where there is none and where there is one
+pub told-none : {X : Type 0} (f : Found → X) (x : Found) {r : NumberFound} → r ≡ numberFound x → r ≡ no-number → f missing ≡ f x
+told-none f x e h = sym (ap f (number-none x (sym e ∙ h)))
+
+pub told-some : {X : Type 0} (f : Found → X) (of : ℕ → X) → ((v : List ℕ) → f (found v) ≡ of (numberOf v)) → (x : Found) (n : ℕ)
+    {r : NumberFound} → r ≡ numberFound x → r ≡ Number n → of n ≡ f x
+told-some f of same x n e h = let v = number-some x n (sym e ∙ h) in ap of (v .2) ∙ sym (same (v .0)) ∙ sym (ap f (v .1))
 
 pub number-small : (id k a e : ℕ) (s : List ℕ) (n : ℕ) → Bytes s → ListIn a e s → formatOf id ≡ Fixed k → holdsDigits id ≡ true
     → numberFound (valueIn id (fieldsBetween a e s)) ≡ Number n → n < 100 ^ k

@@ -1,5 +1,5 @@
 -- `zvt::values::receipt_in` meets its contract: field 87 has two bytes of decimal digits, so the number is below 10000. Assumes nothing.
-use mathlib.Core.Path.{refl, sym, ap, _∙_}
+use mathlib.Core.Path.{refl, sym, _∙_}
 use native.Mathlib.Omega.{arith}
 use borrow.Author.Needs.{needs}
 use Rattle.zvt_rules.specs.Reading.{among}
@@ -7,7 +7,7 @@ use Rattle.zvt_rules.specs.Fields.{formatOf}
 use Rattle.zvt_rules.specs.declared.ToldReceipt.the-variants.{Receipt}
 use Rattle.zvt_rules.specs.Values.{receiptOf, receiptIn}
 use Rattle.zvt.proofs.Slices.{bytes-known}
-use Rattle.zvt.proofs.ValueLaws.{number-none, number-some, number-small}
+use Rattle.zvt.proofs.ValueLaws.{told-none, told-some, number-small}
 use Rattle.zvt.proofs.values.receipt_in.Statement.{statement}
 use Rattle.zvt.proofs.values.receipt_in.Tie as tie
 
@@ -28,14 +28,11 @@ cast-short c =
 
 returns : tie.Need-returns
 unfolding receiptIn receiptOf
-returns c = sym (ap receiptOf (number-none _ (sym (c .before .before .number-in .ensures) ∙ c .enum-told .given .1)))
+returns c = told-none receiptOf _ (c .before .before .number-in .ensures) (c .enum-told .given .1)
 
 returns-2 : tie.Need-returns-2
 unfolding receiptIn receiptOf
-returns-2 c =
-    let d = c .before in
-    let v = number-some _ _ (sym (d .before .before .number-in .ensures) ∙ d .n .given .1) in
-    sym (ap receiptOf (v .1) ∙ ap Receipt (sym (v .2)))
+returns-2 c = let d = c .before in told-some receiptOf Receipt (λ v. refl) _ _ (d .before .before .number-in .ensures) (d .n .given .1)
 
 pub receipt-in-spec : {M : Type 1} → statement M
 receipt-in-spec =
