@@ -2,13 +2,9 @@
 use crate::answers;
 use crate::answers::BLANK;
 use crate::answers::bytes_line;
-use crate::orders::Asked;
-use crate::orders::Change;
-use crate::orders::Digits;
 use crate::orders::Order;
-use crate::orders::Reading;
 use crate::orders::Script;
-use crate::orders::Writing;
+use crate::orders::What;
 use buffers::add;
 use buffers::add_all;
 use buffers::add_decimal;
@@ -39,18 +35,17 @@ enum Verdict {
     Refused(u8),
 }
 
+// The greatest numbers of the types u8, u16 and u32.
+pub(crate) const BYTE: u64 = 255;
+
+pub(crate) const SHORT: u64 = 65535;
+
+pub(crate) const WORD: u64 = 4294967295;
+
 // 1,024 digits of a block, each with 15 other values; so many changes of one byte.
 const CHANGES: usize = 15360;
 
 const OF_BYTE: usize = 30;
-
-fn digits_line(d: Digits, out: &mut [u8]) -> usize {
-    match d {
-        Digits::Amount(n) => bytes_line(&zvt::amount_bytes(n), out),
-        Digits::Password(n) => bytes_line(&zvt::password_bytes(n), out),
-        Digits::Receipt(n) => bytes_line(&zvt::receipt_bytes(n), out),
-    }
-}
 
 fn read(s: &[u8], out: &mut [u8]) -> usize {
     match zvt::read(s) {
@@ -230,25 +225,40 @@ fn damage(due: Block, s: &mut [u8], out: &mut [u8]) -> usize {
     add_all(b" refused 20\n", to, out)
 }
 
-fn reading<'a>(r: Reading, s: &'a [u8], own: &'a [u8], out: &mut [u8]) -> usize {
-    match r {
-        Reading::Read => read(s, out),
-        Reading::Name => bytes_line(zvt::card_name(s, own), out),
-        Reading::Header => header(s, out),
-        Reading::First => first(s, out),
-        Reading::Status => answers::add_status(zvt::read_status(s), 0, out),
-        Reading::Field(k) => field(k, s, out),
-        Reading::List => listing::list(s, out),
-        Reading::Block(due) => block(due, s, out),
+// n, or that number where n is greater.
+pub(crate) fn cut(n: u64, greatest: u64) -> u64
+    ensures { λ r. ⌜ r ≤ greatest ⌝ }
+{
+    if greatest < n { greatest } else { n }
+}
+
+// What is read, and nothing changed; or the digits of a number.
+fn reading<'a>(o: Order, s: &'a [u8], own: &'a [u8], out: &mut [u8]) -> usize {
+    let what = o.what;
+    let n = o.first;
+    match what {
+        What::Read => read(s, out),
+        What::Name => bytes_line(zvt::card_name(s, own), out),
+        What::Header => header(s, out),
+        What::First => first(s, out),
+        What::Status => answers::add_status(zvt::read_status(s), 0, out),
+        What::Field => field(n as usize, s, out),
+        What::List => listing::list(s, out),
+        What::Block => block(Block::before_last(cut(n, WORD) as u32), s, out),
+        What::LastBlock => block(Block::at_end(cut(n, WORD) as u32), s, out),
+        What::Amount => bytes_line(&zvt::amount_bytes(n), out),
+        What::Password => bytes_line(&zvt::password_bytes(cut(n, WORD) as u32), out),
+        What::Receipt => bytes_line(&zvt::receipt_bytes(cut(n, SHORT) as u16), out),
+        _ => 0,
     }
 }
 
-fn reading_in(r: Reading, asked: Asked, bytes: &[u8], out: &mut [u8]) -> usize
-    requires { ⌜ (asked .size ≤ asked .end) × (asked .end ≤ length (now bytes)) ⌝ }
+fn reading_in(o: Order, bytes: &[u8], out: &mut [u8]) -> usize
+    requires { ⌜ (o .size ≤ o .end) × (o .end ≤ length (now bytes)) ⌝ }
 {
-    let size = asked.size;
-    let end = asked.end;
-    reading(r, &bytes[..size], &bytes[size..end], out)
+    let size = o.size;
+    let end = o.end;
+    reading(o, &bytes[..size], &bytes[size..end], out)
 }
 
 fn shorten(s: &[u8], lent: &mut [u8]) -> Reply {
@@ -258,24 +268,30 @@ fn shorten(s: &[u8], lent: &mut [u8]) -> Reply {
     }
 }
 
-fn write(w: Writing, s: &[u8], lent: &mut [u8]) -> Reply {
-    match w {
-        Writing::Shorten => shorten(s, lent),
-        Writing::Write(number) => tape::write_block(number, s, lent),
-        Writing::Records => tape::read_tape(s, lent),
-        Writing::Blocks => tape::write_tape(s, lent),
+fn write(o: Order, s: &[u8], lent: &mut [u8]) -> Reply {
+    let what = o.what;
+    match what {
+        What::Shorten => shorten(s, lent),
+        What::Write => tape::write_block(cut(o.first, WORD) as u32, s, lent),
+        What::Records => tape::read_tape(s, lent),
+        _ => tape::write_tape(s, lent),
     }
 }
 
-fn writing(w: Writing, s: &[u8], lent: &mut [u8], out: &mut [u8]) -> usize {
-    let r = write(w, s, lent);
+// What is written into the lent room: a message shortened, a block, a tape's payload, a tape.
+fn writing(o: Order, s: &[u8], lent: &mut [u8], out: &mut [u8]) -> usize {
+    let r = write(o, s, lent);
     answers::reply(r, lent, out)
 }
 
-fn change(c: Change, s: &mut [u8], out: &mut [u8]) -> usize {
-    match c {
-        Change::Each(k) => each(k, s, out),
-        Change::Damage(due) => damage(due, s, out),
+// Bytes that are read with every value for the byte at a place, or a block with every change of a digit.
+fn change(o: Order, s: &mut [u8], out: &mut [u8]) -> usize {
+    let what = o.what;
+    let n = o.first;
+    match what {
+        What::Each => each(n as usize, s, out),
+        What::Damage => damage(Block::before_last(cut(n, WORD) as u32), s, out),
+        _ => damage(Block::at_end(cut(n, WORD) as u32), s, out),
     }
 }
 
@@ -290,20 +306,23 @@ fn repeated(s: &[u8], times: u64, at: usize, out: &mut [u8]) -> usize {
     to
 }
 
-// What a line comes to that has bytes and leaves the script as it is.
-fn asked_of(asked: Asked, room: usize, bytes: &mut [u8], out: &mut [u8]) -> usize
-    requires { ⌜ (asked .size ≤ asked .end) × (asked .end ≤ length (now bytes)) ⌝ }
+// What a line comes to that leaves the script as it is.
+fn asked_of(o: Order, room: usize, bytes: &mut [u8], out: &mut [u8]) -> usize
+    requires { ⌜ (o .size ≤ o .end) × (o .end ≤ length (now bytes)) ⌝ }
 {
     let mut lent = [BLANK; Script::ROOM];
     let n = upto(room, &lent);
-    let order = asked.order;
-    let size = asked.size;
-    match order {
-        Order::Reading(r) => reading_in(r, asked, bytes, out),
-        Order::Writing(w) => writing(w, &bytes[..size], &mut lent[..n], out),
-        Order::Change(c) => change(c, &mut bytes[..size], out),
-        Order::Digits(d) => digits_line(d, out),
-        _ => 0,
+    let what = o.what;
+    let size = o.size;
+    match what {
+        What::Shorten | What::Write | What::Records | What::Blocks => writing(
+            o,
+            &bytes[..size],
+            &mut lent[..n],
+            out,
+        ),
+        What::Each | What::Damage | What::DamageLast => change(o, &mut bytes[..size], out),
+        _ => reading_in(o, bytes, out),
     }
 }
 
@@ -314,36 +333,43 @@ pub(crate) fn begun(at: Script) -> Script {
     after
 }
 
+// A line that is not understood ends the script.
+fn ended(at: Script, out: &mut [u8]) -> Said {
+    let mut after = at;
+    after.more = false;
+    Said {
+        at: after,
+        size: answers::not_understood(at.number, out),
+    }
+}
+
 // A line that asks nothing of the desk.
 pub(crate) fn answered(
     at: Script,
-    asked: Asked,
+    o: Order,
     bytes: &mut [u8],
     added: &mut [u8],
     out: &mut [u8],
 ) -> Said
-    requires { ⌜ (asked .size ≤ asked .end) × (asked .end ≤ length (now bytes)) ⌝ }
+    requires { ⌜ (o .size ≤ o .end) × (o .end ≤ length (now bytes)) ⌝ }
 {
     let mut after = at;
-    let order = asked.order;
-    let size = asked.size;
-    match order {
-        Order::Bad => {
-            after.more = false;
-            Said {
-                at: after,
-                size: answers::not_understood(at.number, out),
+    let what = o.what;
+    let size = o.size;
+    match what {
+        What::Bad => ended(at, out),
+        What::Room => {
+            if (Script::ROOM as u64) < o.first {
+                return ended(at, out);
             }
-        }
-        Order::Room(n) => {
-            after.room = n;
+            after.room = o.first as usize;
             Said {
                 at: after,
                 size: add_all(b"ok\n", 0, out),
             }
         }
-        Order::Add(times) => {
-            let end = repeated(&bytes[..size], times, at.added, added);
+        What::Add => {
+            let end = repeated(&bytes[..size], o.first, at.added, added);
             after.added = end;
             Said {
                 at: after,
@@ -352,7 +378,7 @@ pub(crate) fn answered(
         }
         _ => Said {
             at,
-            size: asked_of(asked, at.room, bytes, out),
+            size: asked_of(o, at.room, bytes, out),
         },
     }
 }

@@ -1,17 +1,21 @@
 // What a line does to a desk with its tape, and its answer.
 use crate::answers;
 use crate::orders;
-use crate::orders::Call;
 use crate::orders::Order;
-use crate::orders::Question;
 use crate::orders::Script;
+use crate::orders::What;
 use crate::plain;
+use crate::plain::BYTE;
+use crate::plain::SHORT;
+use crate::plain::WORD;
+use crate::plain::cut;
 use buffers::upto;
 use desk_rules::Book;
 use desk_rules::Desk;
 use desk_rules::Lane;
 use desk_rules::LaneAnswer;
 use desk_rules::LineAnswer;
+use desk_rules::Opening;
 use desk_rules::Reply;
 use tape_rules::Taped;
 use tape_rules::TapedAnswer;
@@ -33,6 +37,12 @@ pub(crate) struct Turn {
     pub(crate) taped: Taped,
     pub(crate) at: Script,
     pub(crate) size: usize,
+}
+
+struct Numbers {
+    lane: u8,
+    password: u32,
+    receipt: u16,
 }
 
 // What a call leaves, and how long the text of its answer is.
@@ -101,35 +111,60 @@ fn tape_of(used: usize, payload: &[u8], out: &mut [u8]) -> usize {
     }
 }
 
-fn question(taped: Taped, q: Question, payload: &[u8], out: &mut [u8]) -> usize
+fn question(taped: Taped, what: What, payload: &[u8], out: &mut [u8]) -> usize
     requires { ⌜ Valid (taped .desk) ⌝ }
 {
     let desk = taped.desk;
-    match q {
-        Question::Book => book(desk, out),
-        Question::Lanes => lanes(desk, out),
-        Question::Net => answers::signed(desk::net(desk), out),
-        Question::Tape => tape_of(taped.used, payload, out),
+    match what {
+        What::Book => book(desk, out),
+        What::Lanes => lanes(desk, out),
+        What::Net => answers::signed(desk::net(desk), out),
+        _ => tape_of(taped.used, payload, out),
+    }
+}
+
+// The numbers of a call. One over the width of its type is passed on as the greatest of that type: the desk refuses it.
+fn numbers_of(o: Order) -> Numbers {
+    Numbers {
+        lane: cut(o.first, BYTE) as u8,
+        password: cut(o.second, WORD) as u32,
+        receipt: cut(o.third, SHORT) as u16,
     }
 }
 
 // The call itself, and its records.
-fn made(taped: Taped, c: Call, s: &[u8], lent: &mut [u8], payload: &mut [u8]) -> TapedAnswer
+fn made(taped: Taped, o: Order, s: &[u8], lent: &mut [u8], payload: &mut [u8]) -> TapedAnswer
     requires { ⌜ Valid (taped .desk) ⌝ }
     ensures { λ r. ⌜ Valid (r .taped .desk) ⌝ }
 {
-    match c {
-        Call::Open(lane, opening) => tape::open(taped, lane, opening, lent, payload),
-        Call::Terminal(lane) => tape::terminal(taped, lane, s, lent, payload),
-        Call::Lost(lane) => tape::link_lost(taped, lane, payload),
-        Call::Close => tape::close(taped),
+    let what = o.what;
+    let n = numbers_of(o);
+    match what {
+        What::Sale => tape::open(taped, n.lane, Opening::Sale(o.second), lent, payload),
+        What::Refund => tape::open(
+            taped,
+            n.lane,
+            Opening::Refund(n.password, o.third),
+            lent,
+            payload,
+        ),
+        What::Reversal => tape::open(
+            taped,
+            n.lane,
+            Opening::Reversal(n.password, n.receipt),
+            lent,
+            payload,
+        ),
+        What::Terminal => tape::terminal(taped, n.lane, s, lent, payload),
+        What::Lost => tape::link_lost(taped, n.lane, payload),
+        _ => tape::close(taped),
     }
 }
 
 // The call and its answer.
 fn call(
     taped: Taped,
-    c: Call,
+    o: Order,
     s: &[u8],
     lent: &mut [u8],
     payload: &mut [u8],
@@ -138,7 +173,7 @@ fn call(
     requires { ⌜ Valid (taped .desk) ⌝ }
     ensures { λ r. ⌜ Valid (r .taped .desk) ⌝ }
 {
-    let a = made(taped, c, s, lent, payload);
+    let a = made(taped, o, s, lent, payload);
     let r = a.reply;
     let after = a.taped;
     Called {
@@ -160,15 +195,15 @@ pub(crate) fn line(
 {
     let mut bytes = [0u8; BYTES];
     let at = plain::begun(turn.at);
-    let asked = orders::order_of(at, s, &mut bytes);
-    let order = asked.order;
+    let o = orders::order_of(at, s, &mut bytes);
+    let what = o.what;
     let taped = turn.taped;
-    match order {
-        Order::Call(c) => {
+    match what {
+        What::Close | What::Sale | What::Refund | What::Reversal | What::Terminal | What::Lost => {
             let mut lent = [answers::BLANK; Script::ROOM];
-            let size = asked.size;
+            let size = o.size;
             let n = upto(at.room, &lent);
-            let a = call(taped, c, &bytes[..size], &mut lent[..n], payload, out);
+            let a = call(taped, o, &bytes[..size], &mut lent[..n], payload, out);
             let after = a.taped;
             Turn {
                 taped: after,
@@ -176,13 +211,13 @@ pub(crate) fn line(
                 size: a.size,
             }
         }
-        Order::Question(q) => Turn {
+        What::Book | What::Lanes | What::Net | What::Tape => Turn {
             taped,
             at,
-            size: question(taped, q, payload, out),
+            size: question(taped, what, payload, out),
         },
         _ => {
-            let said = plain::answered(at, asked, &mut bytes, added, out);
+            let said = plain::answered(at, o, &mut bytes, added, out);
             let after = said.at;
             Turn {
                 taped,
