@@ -96,11 +96,4 @@ returns-2 c = ap natAbs (toZ-ofZ w64 (c .before .args .n) (c .before .fits .n))
 pub magnitude-spec : {M : Type 1} → statement M
 magnitude-spec =
     tie.close
-    (tie.spec
-    add-above
-    sub-opposite
-    cast-shorter
-    add-result
-    returns
-    cast-result
-    returns-2)
+    (tie.spec add-above sub-opposite cast-shorter add-result returns cast-result returns-2)

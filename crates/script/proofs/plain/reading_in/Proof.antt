@@ -14,11 +14,5 @@ slice-aggregate-reading c =
 pub reading-in-spec : {M : Type 1} → statement M
 reading-in-spec =
     tie.close
-    (tie.spec
-    slice-aggregate-reading
-    (λ c. search needs)
-    (λ c. search needs)
-    (λ c. search needs)
-    (λ c κs. search needs)
-    (λ c. search needs)
-    (λ c. search needs))
+    (tie.spec slice-aggregate-reading (λ c. search needs) (λ c. search needs) (λ c. search needs) (λ c κs. search needs)
+    (λ c. search needs) (λ c. search needs))
