@@ -19,34 +19,19 @@ abbrev μ-loop : tie.MeasureT-loop
 
 loop-holds : tie.Need-loop-holds Inv-loop μ-loop
 loop-holds c =
-    let zeros = λ (n : ℕ). length-replicate {A = ℕ} n 0 in
-    (search needs, c .fresh .ensures, zeros 131072, zeros 65537, zeros 131330, zeros 458752, zeros 458752)
+    (search needs, c .fresh .ensures, length-replicate {A = ℕ} 131072 0, length-replicate {A = ℕ} 65537 0, length-replicate {A = ℕ} 131330 0, length-replicate {A = ℕ} 458752 0, length-replicate {A = ℕ} 458752 0)
 
 add-from : tie.Need-add-from Inv-loop μ-loop
 add-from c =
-    let line = c .before .before .before .before .before .before .before .before .before .before .before .before .before .before .before in
-    let turn = line .before .before .before .before .before .before .before in
-    record { fits = omega (arith, turn .loop .inv .0, simp (length-take, length-drop) at (line .next-of .ensures .1)) }
+    let turn = c .before .before .before .before .before .before .before .before .before .before .before .before .before .before .before .before .before .before .before .before .before .before in let file = c .before .before .before .before .before .before .before .before .before .before .before .before .before .before .before .before .before .before .before .before .before .before .before .before .before in record { fits = omega (arith, turn .loop .inv .0, simp (length-take, length-drop) at (c .before .before .before .before .before .before .before .before .before .before .before .before .before .before .before .next-of .ensures .1)) }
 
 loop-less : tie.Need-loop-less Inv-loop μ-loop
 loop-less c =
-    let line = c .before .before .before .before .before .before .before .before .before .before .before .before .before .before .before in
-    let turn = line .before .before .before .before .before .before .before in
-    omega (arith, turn .loop .inv .0, line .next-of .ensures .0, simp (length-take, length-drop) at (line .next-of .ensures .1))
+    omega (arith, c .before .before .before .before .before .before .before .before .before .before .before .before .before .before .before .before .before .before .before .before .before .before .loop .inv .0, c .before .before .before .before .before .before .before .before .before .before .before .before .before .before .before .next-of .ensures .0, simp (length-take, length-drop) at (c .before .before .before .before .before .before .before .before .before .before .before .before .before .before .before .next-of .ensures .1))
 
 loop-again : tie.Need-loop-again Inv-loop μ-loop
 loop-again c =
-    let played = c .before .before .before .before .before .before .before .before in
-    let line = played .before .before .before .before .before .before .before in
-    let turn = line .before .before .before .before .before .before .before in (
-      omega (arith, turn .loop .inv .0, simp (length-take, length-drop) at (line .next-of .ensures .1)),
-      played .played .ensures,
-      search needs,
-      search needs,
-      search needs,
-      search needs,
-      search needs,
-    )
+    (omega (arith, c .before .before .before .before .before .before .before .before .before .before .before .before .before .before .before .before .before .before .before .before .before .before .loop .inv .0, simp (length-take, length-drop) at (c .before .before .before .before .before .before .before .before .before .before .before .before .before .before .before .next-of .ensures .1)), c .before .before .before .before .before .before .before .before .played .ensures, search needs, search needs, search needs, search needs, search needs)
 
 pub check-spec : {M : Type 1} → statement M
 check-spec =
