@@ -1,4 +1,4 @@
--- `buffers::add_hexes`: what is left to write comes to the same at every turn. Assumes nothing.
+-- `buffers::add_hexes`. The invariant: the buffer keeps its length, and what is left to add comes to the same. Assumes nothing.
 use Prim.Native.Nat.{_-_}
 use mathlib.Core.Path.{_≡_, refl, sym, _∙_}
 use lib.ListN.{length, drop}

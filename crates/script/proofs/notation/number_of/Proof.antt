@@ -1,4 +1,4 @@
--- The digits of a number one by one. Assumes nothing.
+-- The digits of a number one by one. The invariant: the place of the next digit lies in the word or at its end. Assumes nothing.
 use Prim.Native.Nat.{_≤_, _-_}
 use borrow.Author.Needs.{needs}
 use lib.ListN.{length}

@@ -1,4 +1,4 @@
--- Each pair of digits makes one byte. Assumes nothing.
+-- Each pair of digits makes one byte. The invariant: as many pairs were read as k says, and out keeps its length. Assumes nothing.
 use Prim.Native.Nat.{_≤_, _-_}
 use borrow.Author.Needs.{needs}
 use lib.ListN.{length}

@@ -1,4 +1,4 @@
--- The blanks of a line are counted. Assumes nothing.
+-- The blanks of a line are counted. The invariant: there are no more of them than bytes looked at. Assumes nothing.
 use Prim.Native.Nat.{_≤_, _-_}
 use mathlib.Core.Logic.{⊎-elim}
 use native.Mathlib.Omega.{arith}

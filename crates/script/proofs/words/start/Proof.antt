@@ -1,4 +1,4 @@
--- A word begins within its line. Assumes nothing.
+-- A word begins within its line. The invariant: the place looked at lies in the line or at its end. Assumes nothing.
 use Prim.Native.Nat.{_≤_, _-_}
 use borrow.Author.Needs.{needs}
 use lib.ListN.{length}
