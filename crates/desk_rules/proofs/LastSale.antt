@@ -7,15 +7,39 @@ use Prim.Native.Nat.{ℕ}
 use native.Mathlib.Omega.{arith}
 use lib.Dec.{eqb}
 use Rattle.zvt_rules.specs.Reading.{pick}
+use Rattle.zvt_rules.proofs.Tests.{eqb-test, and-test}
 use Rattle.desk_rules.specs.declared.Kind.{Kind}
 use Rattle.desk_rules.specs.declared.Kind.the-variants.{Sale, Refund, Reversal}
+use Rattle.desk_rules.specs.declared.Outcome.{Outcome}
+use Rattle.desk_rules.specs.declared.Outcome.the-variants.{Unclear, Declined, Approved}
 use Rattle.desk_rules.specs.declared.Line.{Line}
 use Rattle.desk_rules.specs.declared.Reference.{Reference}
 use Rattle.desk_rules.specs.declared.Reference.the-variants.{Sold}
 use Rattle.desk_rules.specs.Kinds.{isSale, isApproved}
 use Rattle.desk_rules.specs.Lanes.{blankLine}
-use Rattle.desk_rules.specs.Openings.{concerns, lastFrom, lastLine, sold}
-use Rattle.desk_rules.specs.Table.{NoneOf, Last, LastIsSale}
+use Rattle.desk_rules.specs.Openings.{looksAt, concerns, lastFrom, lastLine, sold}
+use Rattle.desk_rules.specs.Table.{Concerned, NoneOf, Last, LastIsSale}
+
+-- ---- the lines that a reversal looks at are those of the rule
+approved : (o : Outcome) → (isApproved o ≡ true) ↔ (o ≡ Approved)
+approved Approved = (λ e. refl, λ e. refl)
+approved Declined = (λ e. absurd (false≢true e), λ e. absurd (let z : _≡_ {A = ℕ} 0 1 = cc in omega arith))
+approved Unclear = (λ e. absurd (false≢true e), λ e. absurd (let z : _≡_ {A = ℕ} 0 1 = cc in omega arith))
+
+sale-or-reversal : (receipt : ℕ) (k : Kind) → (looksAt (Sold receipt) k ≡ true) ↔ ((k ≡ Sale) ⊎ (k ≡ Reversal))
+sale-or-reversal receipt Sale = (λ e. inl refl, λ e. refl)
+sale-or-reversal receipt Reversal = (λ e. inr refl, λ e. refl)
+sale-or-reversal receipt Refund = (
+  λ e. absurd (false≢true e),
+  λ e.
+      absurd (⊎-elim (λ h. let z : _≡_ {A = ℕ} 0 1 = cc in omega arith) (λ h. let z : _≡_ {A = ℕ} 0 1 = cc in omega arith) e),
+)
+
+pub concerned-exactly : (i receipt : ℕ) (l : Line) → (concerns i (Sold receipt) l ≡ true) ↔ Concerned i receipt l
+unfolding concerns
+concerned-exactly i receipt l =
+    and-test (eqb-test (l .lane) i)
+    (and-test (eqb-test (l .receipt) receipt) (and-test (approved (l .outcome)) (sale-or-reversal receipt (l .kind))))
 
 module _ (i : ℕ) (r : Reference) where
   none-last : (last : Line) (ls : List Line) → NoneOf i r ls → lastFrom i r last ls ≡ last

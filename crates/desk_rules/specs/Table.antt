@@ -10,7 +10,8 @@ use Rattle.zvt_rules.specs.Reading.{got, refused}
 use Rattle.zvt_rules.specs.Fields.{Field, plain}
 use Rattle.zvt_rules.specs.Message.{Heading, wholeHeader, bytes, listed, Message, readOf}
 use Rattle.zvt_rules.specs.Digits.{numberOf}
-use Rattle.desk_rules.specs.declared.Kind.the-variants.{Sale}
+use Rattle.desk_rules.specs.declared.Kind.the-variants.{Sale, Reversal}
+use Rattle.desk_rules.specs.declared.Outcome.the-variants.{Approved}
 use Rattle.desk_rules.specs.declared.Phase.{Phase}
 use Rattle.desk_rules.specs.declared.Phase.the-variants.{Idle, Waiting, Running}
 use Rattle.desk_rules.specs.declared.Line.{Line}
@@ -35,6 +36,11 @@ abbrev pub Within : Opening → Type 0
 Within (sale amount) = (1 ≤ amount) × (amount ≤ mostAsked)
 Within (refund password amount) = (password ≤ mostPassword) × ((1 ≤ amount) × (amount ≤ mostAsked))
 Within (reversal password receipt) = (password ≤ mostPassword) × ((1 ≤ receipt) × (receipt ≤ mostReceipt))
+
+-- P12: "of the approved sale and reversal lines of its lane with that receipt"
+abbrev pub Concerned : ℕ → ℕ → Line → Type 0
+Concerned i receipt l =
+    (l .lane ≡ i) × ((l .receipt ≡ receipt) × ((l .outcome ≡ Approved) × ((l .kind ≡ Sale) ⊎ (l .kind ≡ Reversal))))
 
 -- none of the lines is one that a reference looks at
 unfoldable pub NoneOf : ℕ → Reference → List Line → Type 0
