@@ -1,5 +1,6 @@
 -- The laws of the definitions, by subject.
 pub mod Readings
+pub mod Grids
 pub mod Tests
 pub mod ObjectReading
 pub mod Lengths

@@ -3,6 +3,7 @@ pub mod Reading
 pub mod Buffers
 pub mod Objects
 pub mod Fields
+pub mod Grids
 pub mod Message
 pub mod Writing
 pub mod Shortest
