@@ -36,9 +36,12 @@ use Rattle.desk_rules.specs.declared.Moved.{Moved}
 use Rattle.desk_rules.specs.declared.Moved.the-variants.{Refused, Stays, Becomes}
 use Rattle.desk_rules.specs.Lanes.{reportedLane, toldReceipt, receiptBy}
 use Rattle.desk_rules.specs.Kinds.{isReversal, isIdle}
-use Rattle.desk_rules.specs.Course.{pairIs, completedBy, abortedBy, reportedBy, movedBy, afterBody, heardWaiting, heardRunning, heardBy, afterHeader, heard}
+use Rattle.desk_rules.specs.Course.{runningPairs, pairIs, completedBy, abortedBy, reportedBy, movedBy, afterBody, heardWaiting, heardRunning, heardBy, afterHeader, heard}
 use Rattle.desk_rules.proofs.Phase as phase
-use Rattle.desk.specs.Hear.{ReadIn, headerBy, inCourse, waitingMoved, runningMoved, abortedIn, reportedAs, movedAs}
+use Rattle.desk.proofs.hear.Said as said
+use Rattle.desk.specs.Hear.{ReadIn, headerBy, saidBy, waitingMoved, runningMoved, abortedIn, reportedAs, movedFor, movedAs}
+use Rattle.desk.specs.declared.hear.Said.{Said}
+use Rattle.desk.specs.declared.hear.Said.the-variants.{Completion, Abort, Report, Passing, NotAllowed}
 
 -- ---- kinds and outcomes
 pub receipt-kind : (k : Kind) (named : ℕ) (told : ToldReceipt) → receiptBy k named told ≡ pick (isReversal k) named (toldReceipt told)
@@ -61,6 +64,40 @@ none-among [] x n = refl
 none-among (k ∷ []) x n = rw (ne-eqb k x (λ e. n (sym e)))
 none-among (k ∷ (j ∷ ks)) x n = rw (ne-eqb k x (λ e. n (inl (sym e)))) (none-among (j ∷ ks) x (λ h. n (inr h)))
 
+pub passing-said : (x : ℕ) → OneOf (0x04FF ∷ 0x06D1 ∷ 0x06D3 ∷ []) x → saidBy x ≡ Passing
+unfolding saidBy among
+passing-said x (inl e) = rw e
+passing-said x (inr (inl e)) = rw e
+passing-said x (inr (inr e)) = rw e
+
+pub none-said : (x : ℕ) → (OneOf runningPairs x → ⊥) → saidBy x ≡ NotAllowed
+unfolding saidBy
+none-said x n = rw (none-among runningPairs x n)
+
+-- it is not allowed exactly where the course does not have it
+refused-among : (x : ℕ) → saidBy x ≡ NotAllowed → among runningPairs x ≡ false
+unfolding saidBy
+refused-among x = go (among runningPairs x) (eqb x 0x060F) (eqb x 0x061E) (eqb x 0x040F)
+  where
+    go : (t a b c : Bool) → pick t (pick a Completion (pick b Abort (pick c Report Passing))) NotAllowed ≡ NotAllowed → t ≡ false
+    go true true b c e = absurd (let z : _≡_ {A = ℕ} 0 1 = cc in omega arith)
+    go true false true c e = absurd (let z : _≡_ {A = ℕ} 0 1 = cc in omega arith)
+    go true false false true e = absurd (let z : _≡_ {A = ℕ} 0 1 = cc in omega arith)
+    go true false false false e = absurd (let z : _≡_ {A = ℕ} 0 1 = cc in omega arith)
+    go false a b c e = refl
+
+taken-among : (x : ℕ) → (saidBy x ≡ NotAllowed → ⊥) → among runningPairs x ≡ true
+unfolding saidBy
+taken-among x = go (among runningPairs x) (eqb x 0x060F) (eqb x 0x061E) (eqb x 0x040F)
+  where
+    go : (t a b c : Bool) → (pick t (pick a Completion (pick b Abort (pick c Report Passing))) NotAllowed ≡ NotAllowed → ⊥) → t ≡ true
+    go true a b c n = refl
+    go false a b c n = absurd (n refl)
+
+pub allowed-tag : (x : Said) → OneOf (0 ∷ 1 ∷ 2 ∷ 3 ∷ []) (tagOf said.the-type x) → x ≡ NotAllowed → ⊥
+unfolding allIn
+allowed-tag x k e = false≢true (rw e at (at-key (λ t. not (eqb t 4)) (0 ∷ 1 ∷ 2 ∷ 3 ∷ []) refl _ k))
+
 -- two pairs are the same exactly where their bytes are
 pub pair-same : (class i c k : ℕ) → i < 256 → k < 256 → eqb (class * 256 + i) (c * 256 + k) ≡ pairIs class i c k
 pair-same class i c k l m = go (eqb class c) refl (eqb i k) refl
@@ -71,6 +108,29 @@ pair-same class i c k l m = go (eqb class c) refl (eqb i k) refl
     go false e y f = ne-eqb (class * 256 + i) (c * 256 + k) (λ q. eqb-false class c e (omega (arith, q)))
 
 -- ---- a message that was read
+
+-- a pair that acts is one of the course
+never : (k x : ℕ) → among runningPairs k ≡ true → eqb x k ≡ true → among runningPairs x ≡ false → ⊥
+never k x h e f = false≢true (sym f ∙ ap (among runningPairs) (eqb-true x k e) ∙ h)
+
+moved-pick : (x : ℕ) (l : Lane) (m : Outline) (s : List ℕ)
+    → movedFor (saidBy x) l m s
+    ≡ pick (eqb x 0x060F) (completedBy l (l .status .code)) (pick (eqb x 0x061E) (abortedIn m s) (pick (eqb x 0x040F) (reportedAs l (statusOf s)) Stays))
+unfolding movedFor saidBy among
+moved-pick x l m s = go (among runningPairs x) refl (eqb x 0x060F) refl (eqb x 0x061E) refl (eqb x 0x040F) refl
+  where
+    go : (t : Bool) → among runningPairs x ≡ t → (a : Bool) → eqb x 0x060F ≡ a → (b : Bool) → eqb x 0x061E ≡ b → (c : Bool) → eqb x 0x040F ≡ c
+        → movedFor (pick t (pick a Completion (pick b Abort (pick c Report Passing))) NotAllowed) l m s
+        ≡ pick a (completedBy l (l .status .code)) (pick b (abortedIn m s) (pick c (reportedAs l (statusOf s)) Stays))
+    go true e true ea b eb c ec = refl
+    go true e false ea true eb c ec = refl
+    go true e false ea false eb true ec = refl
+    go true e false ea false eb false ec = refl
+    go false e true ea b eb c ec = absurd (never 0x060F x refl ea e)
+    go false e false ea true eb c ec = absurd (never 0x061E x refl eb e)
+    go false e false ea false eb true ec = absurd (never 0x040F x refl ec e)
+    go false e false ea false eb false ec = refl
+
 pub reported-code : (l : Lane) (status : Status) (code : ℕ) → status .code ≡ Code code
     → reportedAs l status ≡ Becomes (reportedLane l status)
 unfolding reportedAs reportedBy
@@ -134,6 +194,7 @@ module _ (l : Lane) (s : List ℕ) (t : Message) (b : Bytes s) (e : readOf s ≡
   moved-same : movedAs l (outlineOf t) s ≡ movedBy l t
   unfolding movedAs movedBy outlineOf
   moved-same =
+      moved-pick (t .class * 256 + t .instruction) l (outlineOf t) s ∙
       let pair : (c k : ℕ) → k < 256 → _ = λ c k m. pair-same (t .class) (t .instruction) c k small m in
       rw (pair 0x06 0x0F (omega arith), pair 0x06 0x1E (omega arith), pair 0x04 0x0F (omega arith))
       (go (pairIs (t .class) (t .instruction) 0x06 0x0F) (pairIs (t .class) (t .instruction) 0x06 0x1E) refl)
@@ -157,15 +218,15 @@ module _ (l : Lane) (s : List ℕ) (t : Message) (b : Bytes s) (e : readOf s ≡
       go false false f = told (isStatus t) refl
 
 -- ---- a running lane
-pub running-refused : (l : Lane) (h : Header) (s : List ℕ) → inCourse (h .class) (h .instruction) ≡ false
+pub running-refused : (l : Lane) (h : Header) (s : List ℕ) → saidBy (h .class * 256 + h .instruction) ≡ NotAllowed
     → runningMoved l h s ≡ Refused (record { number = 15 })
-unfolding inCourse runningMoved headerBy heardRunning
-running-refused l h s e = rw e
+unfolding runningMoved headerBy heardRunning
+running-refused l h s e = rw (refused-among _ e)
 
-module _ (l : Lane) (h : Header) (s : List ℕ) (i : inCourse (h .class) (h .instruction) ≡ true) where
+module _ (l : Lane) (h : Header) (s : List ℕ) (i : saidBy (h .class * 256 + h .instruction) ≡ NotAllowed → ⊥) where
   running-read : runningMoved l h s ≡ afterBody l (readOf s)
-  unfolding inCourse runningMoved headerBy heardRunning
-  running-read = rw i
+  unfolding runningMoved headerBy heardRunning
+  running-read = rw (taken-among _ i)
 
   pub running-unread : (r : Refusal) → readAnswer s ≡ read-refused r → runningMoved l h s ≡ Refused r
   unfolding readAnswer asReadAnswer refusalOf afterBody

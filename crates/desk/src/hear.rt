@@ -6,7 +6,6 @@ use desk_rules::Moved;
 use desk_rules::Opening;
 use desk_rules::Outcome;
 use desk_rules::Phase;
-use desk_rules::Reference;
 use zvt_rules::Header;
 use zvt_rules::HeaderAnswer;
 use zvt_rules::Outline;
@@ -20,17 +19,17 @@ ghost use mathlib.Core.Path.{_≡_};
 ghost use Prim.Native.Nat.{_*_, _+_, _≤_};
 ghost use lib.ListN.{length};
 ghost use Rattle.desk_rules.specs.Lanes.{receiptBy, lineAt};
-ghost use Rattle.desk_rules.specs.Course.{completedBy, settledAs, amountBy, answered, heard, noMove, standing, openedBy};
-ghost use Rattle.desk.specs.Hear.{inCourse, waitingMoved, runningMoved, abortedIn, reportedAs, movedAs, ReadIn, replied};
+ghost use Rattle.desk_rules.specs.Course.{completedBy, settledAs, amountBy, answered, heard, noMove, openedBy};
+ghost use Rattle.desk.specs.Hear.{saidBy, waitingMoved, runningMoved, abortedIn, reportedAs, movedAs, ReadIn, replied};
 
-// What comes of an opening that refers to that line, if nothing else is against it.
-pub(crate) fn standing(reference: Reference, line: Line, m: Moved) -> Moved
-    ensures { λ r. ⌜ r ≡ standing reference line m ⌝ }
-{
-    match reference {
-        Reference::Nothing => m,
-        Reference::Sold(_) => { if line.is_sold() { m } else { refused(17) } }
-    }
+// What a message says to a running lane.
+pub(crate) enum Said {
+    Completion,
+    Abort,
+    Report,
+    // Taken, and changes nothing.
+    Passing,
+    NotAllowed,
 }
 
 fn refused(number: u8) -> Moved
@@ -39,7 +38,7 @@ fn refused(number: u8) -> Moved
     Moved::Refused(Refusal { number })
 }
 
-// An opening that refers to that line: 13, 16, 17.
+// An opening that refers to that line: 13, 16, and the number for a line that is not there.
 pub(crate) fn opened(l: Lane, opening: Opening, line: Line) -> Moved
     ensures { λ r. ⌜ r ≡ openedBy l opening line ⌝ }
 {
@@ -50,11 +49,11 @@ pub(crate) fn opened(l: Lane, opening: Opening, line: Line) -> Moved
     if !opening.within_limits() {
         return refused(16);
     }
-    standing(
-        opening.reference(),
-        line,
-        Moved::Becomes(opening.lane(line)),
-    )
+    let reference = opening.reference();
+    if !reference.stands(line) {
+        return refused(reference.missing_number());
+    }
+    Moved::Becomes(opening.lane(line))
 }
 
 // The receipt named for a reversal, else the one told, else 0.
@@ -159,11 +158,12 @@ pub(crate) fn moved_by(l: Lane, s: &[u8], m: Outline) -> Moved
     requires { ⌜ ReadIn m (now s) ⌝ }
     ensures { λ r. ⌜ r ≡ movedAs l m (now (s .entry)) ⌝ }
 {
-    match pair_of(m.class, m.instruction) {
-        0x060F => completed(l),
-        0x061E => aborted(s, m),
-        0x040F => reported(l, zvt::read_status(s)),
-        _ => Moved::Stays,
+    match said_by(m.class, m.instruction) {
+        Said::Completion => completed(l),
+        Said::Abort => aborted(s, m),
+        Said::Report => reported(l, zvt::read_status(s)),
+        Said::Passing => Moved::Stays,
+        Said::NotAllowed => Moved::Stays,
     }
 }
 
@@ -174,13 +174,16 @@ fn pair_of(class: u8, instruction: u8) -> u16
     (class as u16) * 256 + (instruction as u16)
 }
 
-// The pairs that a running lane takes.
-pub(crate) fn in_course(class: u8, instruction: u8) -> bool
-    ensures { λ r. ⌜ r ≡ inCourse class instruction ⌝ }
+// The pairs that a running lane takes, and what each says.
+pub(crate) fn said_by(class: u8, instruction: u8) -> Said
+    ensures { λ r. ⌜ r ≡ saidBy (class * 256 + instruction) ⌝ }
 {
     match pair_of(class, instruction) {
-        0x04FF | 0x06D1 | 0x06D3 | 0x040F | 0x061E | 0x060F => true,
-        _ => false,
+        0x060F => Said::Completion,
+        0x061E => Said::Abort,
+        0x040F => Said::Report,
+        0x04FF | 0x06D1 | 0x06D3 => Said::Passing,
+        _ => Said::NotAllowed,
     }
 }
 
@@ -205,7 +208,7 @@ pub(crate) fn heard_waiting(l: Lane, h: Header) -> Moved
 pub(crate) fn heard_running(l: Lane, s: &[u8], h: Header) -> Moved
     ensures { λ r. ⌜ r ≡ runningMoved l h (now (s .entry)) ⌝ }
 {
-    if !in_course(h.class, h.instruction) {
+    if let Said::NotAllowed = said_by(h.class, h.instruction) {
         return refused(15);
     }
     match zvt::read(s) {

@@ -26,12 +26,11 @@ use Rattle.desk_rules.specs.declared.Moved.the-variants.{Refused, Stays,
 use Rattle.desk_rules.specs.declared.Opening.{Opening}
 use Rattle.desk_rules.specs.declared.Opening.the-variants.{Sale as sale, Refund as refund, Reversal as reversal}
 use Rattle.desk_rules.specs.declared.Reference.{Reference}
-use Rattle.desk_rules.specs.declared.Reference.the-variants.{Nothing, Sold}
 use Rattle.desk_rules.specs.Numbers.{mostAsked, amountOk, passwordOk}
 use Rattle.desk_rules.specs.Kinds.{isReversal, isIdle}
 use Rattle.desk_rules.specs.Lanes.{blankLine}
-use Rattle.desk_rules.specs.Openings.{withinLimits, refersTo, concerns, lastFrom, lastLine, sold, askedBy, openedLane}
-use Rattle.desk_rules.specs.Course.{runningPairs, pairIs, heardWaiting, amountBy, settledAs, completedBy, abortedBy, reportedBy, movedBy, afterBody, heardRunning, heardBy, afterHeader, heard, lostBy, standing, openedBy, Call, opening, message, lost, NumbersFit, moves}
+use Rattle.desk_rules.specs.Openings.{withinLimits, refersTo, concerns, lastFrom, lastLine, stands, askedBy, openedLane}
+use Rattle.desk_rules.specs.Course.{runningPairs, pairIs, heardWaiting, amountBy, settledAs, completedBy, abortedBy, reportedBy, movedBy, afterBody, heardRunning, heardBy, afterHeader, heard, lostBy, openedBy, Call, opening, message, lost, NumbersFit, moves}
 use Rattle.desk_rules.specs.Memory.{toldSmall}
 
 abbrev pub Small : ℕ → Type 0
@@ -120,11 +119,8 @@ asked-fits (reversal password receipt) line h e = h
 opened-fits : (l : Lane) (o : Opening) (line : Line) → Small (line .settled) → Fits (openedBy l o line)
 unfolding openedBy toldSmall
 opened-fits l o line h =
-    pick-test Fits (isIdle (l .phase)) (λ _. pick-test Fits (withinLimits o) (λ e. go (asked-fits o line h e) (refersTo o)) (λ _. tt)) (λ _. tt)
-  where
-    go : Small (askedBy o line) → (r : Reference) → Fits (standing r line (Becomes (openedLane o line)))
-    go k Nothing = (k, tt)
-    go k (Sold receipt) = pick-test Fits (sold line) (λ _. (k, tt)) (λ _. tt)
+    pick-test Fits (isIdle (l .phase))
+    (λ _. pick-test Fits (withinLimits o) (λ e. pick-test Fits (stands (refersTo o) line) (λ _. (asked-fits o line h e, tt)) (λ _. tt)) (λ _. tt)) (λ _. tt)
 
 last-fits : (i : ℕ) (r : Reference) (last : Line) (ls : List Line) → Small (last .settled) → LinesFit ls → Small (lastFrom i r last ls .settled)
 unfolding lastFrom

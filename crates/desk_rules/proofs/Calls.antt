@@ -23,12 +23,10 @@ use Rattle.desk_rules.specs.declared.Line.{Line}
 use Rattle.desk_rules.specs.declared.Moved.{Moved}
 use Rattle.desk_rules.specs.declared.Moved.the-variants.{Refused, Stays, Becomes, Ends}
 use Rattle.desk_rules.specs.declared.Opening.{Opening}
-use Rattle.desk_rules.specs.declared.Reference.{Reference}
-use Rattle.desk_rules.specs.declared.Reference.the-variants.{Nothing, Sold}
 use Rattle.desk_rules.specs.Kinds.{isIdle}
 use Rattle.desk_rules.specs.Lanes.{runningLane, reportedLane}
-use Rattle.desk_rules.specs.Openings.{withinLimits, refersTo, sold, openedLane}
-use Rattle.desk_rules.specs.Course.{runningPairs, pairIs, heardWaiting, settledAs, completedBy, abortedBy, reportedBy, movedBy, afterBody, heardRunning, heardBy, afterHeader, heard, lostBy, standing, openedBy, Call, opening, message, lost, opens, moves}
+use Rattle.desk_rules.specs.Openings.{withinLimits, refersTo, stands, openedLane}
+use Rattle.desk_rules.specs.Course.{runningPairs, pairIs, heardWaiting, settledAs, completedBy, abortedBy, reportedBy, movedBy, afterBody, heardRunning, heardBy, afterHeader, heard, lostBy, openedBy, Call, opening, message, lost, opens, moves}
 use Rattle.desk_rules.specs.Payments.{endsBy, ends, askOf, orElse, remembered, verdictOf, verdict}
 
 -- not refused
@@ -45,14 +43,12 @@ Opened l n m = (isIdle (l .phase) ≡ true) × (m ≡ Becomes n)
 by-opening : (l : Lane) (o : Opening) (line : Line) → Passes (openedBy l o line) → Opened l (openedLane o line) (openedBy l o line)
 unfolding openedBy
 by-opening l o line =
-    pick-test P (isIdle (l .phase)) (λ e. pick-test P (withinLimits o) (λ _. go e (refersTo o)) (λ _ h. absurd h)) (λ _ h. absurd h)
+    pick-test P (isIdle (l .phase))
+    (λ e. pick-test P (withinLimits o) (λ _. pick-test P (stands (refersTo o) line) (λ _ _. (e, refl)) (λ _ h. absurd h)) (λ _ h. absurd h))
+    (λ _ h. absurd h)
   where
     P : Moved → Type 0
     P m = Passes m → Opened l (openedLane o line) m
-
-    go : isIdle (l .phase) ≡ true → (r : Reference) → P (standing r line (Becomes (openedLane o line)))
-    go e Nothing = λ _. (e, refl)
-    go e (Sold receipt) = pick-test P (sold line) (λ _ _. (e, refl)) (λ _ h. absurd h)
 
 pub opened : (l : Lane) (ls : List Line) (c : Call) → opens c ≡ true → Passes (moves l ls c) → Opened l (askOf ls c) (moves l ls c)
 unfolding opens moves askOf

@@ -14,7 +14,7 @@ use Rattle.desk_rules.specs.declared.Outcome.{Outcome}
 use Rattle.desk_rules.specs.declared.Outcome.the-variants.{Unclear, Declined, Approved}
 use Rattle.desk_rules.specs.declared.Line.{Line}
 use Rattle.desk_rules.specs.declared.Reference.{Reference}
-use Rattle.desk_rules.specs.declared.Reference.the-variants.{Sold}
+use Rattle.desk_rules.specs.declared.Reference.the-variants.{Nothing, Sold}
 use Rattle.desk_rules.specs.Kinds.{isSale, isApproved}
 use Rattle.desk_rules.specs.Lanes.{blankLine}
 use Rattle.desk_rules.specs.Openings.{looksAt, concerns, lastFrom, lastLine, sold}
@@ -40,6 +40,21 @@ unfolding concerns
 concerned-exactly i receipt l =
     and-test (eqb-test (l .lane) i)
     (and-test (eqb-test (l .receipt) receipt) (and-test (approved (l .outcome)) (sale-or-reversal receipt (l .kind))))
+
+-- who refers to nothing looks at no line
+pub nothing-last : (i : ℕ) (ls : List Line) → lastLine i Nothing ls ≡ blankLine
+unfolding lastLine lastFrom concerns
+nothing-last i ls = go blankLine ls
+  where
+    unseen : (a b c : Bool) → a && (b && (c && false)) ≡ false
+    unseen true true true = refl
+    unseen true true false = refl
+    unseen true false c = refl
+    unseen false b c = refl
+
+    go : (last : Line) (ls : List Line) → lastFrom i Nothing last ls ≡ last
+    go last [] = refl
+    go last (l ∷ ls) = rw (unseen (eqb (l .lane) i) (eqb (l .receipt) 0) (isApproved (l .outcome))) (go last ls)
 
 module _ (i : ℕ) (r : Reference) where
   none-last : (last : Line) (ls : List Line) → NoneOf i r ls → lastFrom i r last ls ≡ last

@@ -27,10 +27,10 @@ use Rattle.desk_rules.specs.declared.Reference.{Reference}
 use Rattle.desk_rules.specs.declared.Reference.the-variants.{Nothing, Sold}
 use Rattle.desk_rules.specs.Numbers.{laneCount, bookLines, mostAsked, mostReceipt, mostPassword}
 use Rattle.desk_rules.specs.Kinds.{isReversal, booked, isIdle}
-use Rattle.desk_rules.specs.Openings.{kindOf, withinLimits, refersTo, lastLine, sold, openedLane, commandBytes, commandSize}
-use Rattle.desk_rules.specs.Course.{runningPairs, pairIs, heardWaiting, completedBy, settledAs, abortedBy, reportedBy, movedBy, afterBody, heardRunning, heardBy, afterHeader, heard, lostBy, answered, standing, openedBy, Call, opening, message, lost, laneOf, needsPlace, moves, writes}
+use Rattle.desk_rules.specs.Openings.{kindOf, withinLimits, refersTo, lastLine, stands, missingNo, openedLane, commandBytes, commandSize}
+use Rattle.desk_rules.specs.Course.{runningPairs, pairIs, heardWaiting, completedBy, settledAs, abortedBy, reportedBy, movedBy, afterBody, heardRunning, heardBy, afterHeader, heard, lostBy, answered, openedBy, Call, opening, message, lost, laneOf, needsPlace, moves, writes}
 use Rattle.desk_rules.specs.Desk.{State, laneAt, load, Decision, refuse, accept, unlessRefused, decide}
-use Rattle.desk_rules.specs.Table.{phaseAt, Within, Stands, Ready, OneOf, Allowed, EmptyAbort, OpeningRow, no-lane, not-idle, outside, no-sale, full, tight, opened, HearingRow, is-idle, bad-header, not-allowed, bad-body, no-code, heard-waiting, heard-running, LosingRow, ended, Row}
+use Rattle.desk_rules.specs.Table.{phaseAt, Within, Stands, Lacks, no-sale, Ready, OneOf, Allowed, EmptyAbort, OpeningRow, no-lane, not-idle, outside, missing, full, tight, opened, HearingRow, is-idle, bad-header, not-allowed, bad-body, no-code, heard-waiting, heard-running, LosingRow, ended, Row}
 use Rattle.desk_rules.proofs.Commands.{command-size}
 use Rattle.desk_rules.proofs.LastSale.{last-sale}
 
@@ -52,12 +52,12 @@ within-test (refund password amount) = and-test (leb-test password mostPassword)
 within-test (reversal password receipt) = and-test (leb-test password mostPassword) (between receipt mostReceipt)
 
 module _ (s : State) (i : ℕ) (o : Opening) (room : ℕ) where
-  -- the tests of an opening, one after the other; those of a reference stand aside
+  -- the tests of an opening, one after the other; that of a reference stands aside
   few : Decision
   few = pick (booked (kindOf o) && leb bookLines (load s)) (refuse 18) (pick (ltb room (commandSize o)) (refuse 11) accept)
 
   referred : Reference → Decision
-  referred r = unlessRefused (standing r (lastLine i r (s .lines)) (Becomes (openedLane o (lastLine i r (s .lines))))) few
+  referred r = pick (stands r (lastLine i r (s .lines))) few (refuse (missingNo r))
 
   decide-opening : decide s (opening i o) room
       ≡ pick (leb laneCount i) (refuse 12)
@@ -65,10 +65,17 @@ module _ (s : State) (i : ℕ) (o : Opening) (room : ℕ) where
   unfolding decide moves writes needsPlace laneOf openedBy referred few unlessRefused
   decide-opening = rw command-size (simp unless-pick)
 
+  stands-test : (r : Reference) → (stands r (lastLine i r (s .lines)) ≡ true) ↔ Stands i r (s .lines)
+  stands-test Nothing = (λ _. tt, λ _. refl)
+  stands-test (Sold receipt) = last-sale i receipt (s .lines)
+
   stands-says : (r : Reference) → Stands i r (s .lines) → referred r ≡ few
-  unfolding referred unlessRefused
-  stands-says Nothing h = refl
-  stands-says (Sold receipt) h = rw (last-sale i receipt (s .lines) .1 h)
+  unfolding referred
+  stands-says r h = rw (stands-test r .1 h)
+
+  missing-says : {r : Reference} {number : ℕ} → Lacks i (s .lines) r number → referred r ≡ refuse number
+  unfolding referred
+  missing-says (no-sale receipt v) = rw (no-for (last-sale i receipt (s .lines)) v)
 
   from-idle : i < laneCount → phaseAt s i ≡ Idle → Within o → decide s (opening i o) room ≡ referred (refersTo o)
   from-idle l d w = decide-opening ∙ rw (lt-leb laneCount i l, idle-test (phaseAt s i) .1 d, within-test o .1 w)
@@ -89,7 +96,7 @@ module _ (s : State) (i : ℕ) (o : Opening) (room : ℕ) where
   opening-given (no-lane k) = decide-opening ∙ rw (le-leb laneCount i k)
   opening-given (not-idle l n) = decide-opening ∙ rw (lt-leb laneCount i l, no-for (idle-test (phaseAt s i)) n)
   opening-given (outside l d w) = decide-opening ∙ rw (lt-leb laneCount i l, idle-test (phaseAt s i) .1 d, no-for (within-test o) w)
-  opening-given (no-sale l d w receipt r v) = from-idle l d w ∙ rw (r, no-for (last-sale i receipt (s .lines)) v)
+  opening-given (missing l d w number v) = from-idle l d w ∙ missing-says v
   opening-given (full l d w v b f) = from-idle l d w ∙ stands-says (refersTo o) v ∙ rw (b, le-leb bookLines (load s) f)
   opening-given (tight y r) = ready-says y ∙ rw (lt-ltb room (commandSize o) r)
   opening-given (opened y r) = ready-says y ∙ rw (le-ltb room (commandSize o) r)
@@ -110,17 +117,21 @@ module _ (s : State) (i : ℕ) (o : Opening) (room : ℕ) where
       go true b = case (leb-test bookLines (load s)) (λ f. put-opening (full l d w v b f)) (λ f. ready-found (ready (λ _. omega arith)))
       go false b = ready-found (ready (λ e. absurd (false≢true (sym b ∙ e))))
 
-  within-found : i < laneCount → phaseAt s i ≡ Idle → Within o → (r : Reference) → refersTo o ≡ r → OpeningRow s i o room (decide s (opening i o) room)
-  within-found l d w Nothing e = stands-found l d w (rw e tt)
-  within-found l d w (Sold receipt) e =
-      case (last-sale i receipt (s .lines)) (λ v. stands-found l d w (rw e v)) (λ v. put-opening (no-sale l d w receipt e v))
+  what-misses : (r : Reference) → (Stands i r (s .lines) → ⊥) → (number : ℕ) × Lacks i (s .lines) r number
+  what-misses Nothing v = absurd (v tt)
+  what-misses (Sold receipt) v = (17, no-sale receipt v)
+
+  within-found : i < laneCount → phaseAt s i ≡ Idle → Within o → OpeningRow s i o room (decide s (opening i o) room)
+  within-found l d w =
+      case (stands-test (refersTo o)) (stands-found l d w)
+      (λ v. let m = what-misses (refersTo o) v in put-opening (missing l d w (m .0) (m .1)))
 
   opening-found : OpeningRow s i o room (decide s (opening i o) room)
   opening-found =
       case (leb-test laneCount i) (λ k. put-opening (no-lane k)) λ k.
       let l : i < laneCount = omega arith in
       case (idle-test (phaseAt s i))
-      (λ d. case (within-test o) (λ w. within-found l d w (refersTo o) refl) (λ w. put-opening (outside l d w)))
+      (λ d. case (within-test o) (within-found l d) (λ w. put-opening (outside l d w)))
       (λ n. put-opening (not-idle l n))
 
 -- ---- a message from the terminal

@@ -23,11 +23,9 @@ use Rattle.desk_rules.specs.declared.Line.{Line}
 use Rattle.desk_rules.specs.declared.Moved.{Moved}
 use Rattle.desk_rules.specs.declared.Moved.the-variants.{Refused, Stays, Becomes, Ends}
 use Rattle.desk_rules.specs.declared.Opening.{Opening}
-use Rattle.desk_rules.specs.declared.Reference.{Reference}
-use Rattle.desk_rules.specs.declared.Reference.the-variants.{Nothing, Sold}
 use Rattle.desk_rules.specs.Kinds.{isReversal, booked, isIdle}
 use Rattle.desk_rules.specs.Lanes.{runningLane, reportedLane}
-use Rattle.desk_rules.specs.Openings.{kindOf, withinLimits, refersTo, lastLine, sold, openedLane, commandBytes}
+use Rattle.desk_rules.specs.Openings.{kindOf, withinLimits, refersTo, lastLine, stands, missingNo, openedLane, commandBytes}
 
 abbrev pub noMove : ℕ → Moved
 noMove number = Refused (record { number = number })
@@ -114,16 +112,13 @@ lostBy l = pick (isIdle (l .phase)) (noMove 14) (Ends Unclear 0 0)
 
 -- ---- opening
 
--- R17: "there is no sale to reverse (P12)"; who refers to nothing needs none. The move is what comes of it if nothing else is against it
-abbrev pub standing : Reference → Line → Moved → Moved
-standing Nothing line m = m
-standing (Sold receipt) line m = pick (sold line) m (noMove 17)
-
--- R34: "13, 16, 17"
+-- R34: "13, 16, 17", or another number in the place of 17 for a kind that refers to another line
 unfoldable pub openedBy : Lane → Opening → Line → Moved
 openedBy l o line =
     pick (isIdle (l .phase))
-    (pick (withinLimits o) (standing (refersTo o) line (Becomes (openedLane o line))) (noMove 16))
+    (pick (withinLimits o)
+    (pick (stands (refersTo o) line) (Becomes (openedLane o line)) (noMove (missingNo (refersTo o))))
+    (noMove 16))
     (noMove 13)
 
 -- ---- the calls: an opening on a lane, a message from its terminal, a lost link

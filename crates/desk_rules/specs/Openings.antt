@@ -67,6 +67,16 @@ lastLine i r ls = lastFrom i r blankLine ls
 abbrev pub sold : Line → Bool
 sold l = isApproved (l .outcome) && isSale (l .kind)
 
+-- ---- whether that line is there; who refers to nothing needs none
+abbrev pub stands : Reference → Line → Bool
+stands Nothing line = true
+stands (Sold receipt) line = sold line
+
+-- ---- and the number of refusal where it is not. R17: "there is no sale to reverse (P12)". For nothing there is none
+abbrev pub missingNo : Reference → ℕ
+missingNo Nothing = 0
+missingNo (Sold receipt) = 17
+
 -- ---- the amount that it asks for. P13: "A reversal asks for the settled amount of that sale"
 abbrev pub askedBy : Opening → Line → ℕ
 askedBy (sale amount) line = amount

@@ -66,6 +66,10 @@ abbrev pub Stands : ℕ → Reference → List Line → Type 0
 Stands i Nothing ls = Unit {0}
 Stands i (Sold receipt) ls = LastIsSale i receipt ls
 
+-- or it is not, and then that number is given. R17: "there is no sale to reverse (P12)"
+pub data Lacks (i : ℕ) (ls : List Line) : Reference → ℕ → Type 0 where
+  no-sale : (receipt : ℕ) → (LastIsSale i receipt ls → ⊥) → Lacks i ls (Sold receipt) 17
+
 -- R18: a payment that takes a place finds one
 abbrev pub Placed : State → Opening → Type 0
 Placed s o = booked (kindOf o) ≡ true → load s < bookLines
@@ -83,8 +87,8 @@ pub data OpeningRow (s : State) (i : ℕ) (o : Opening) (room : ℕ) : Decision 
   no-lane : laneCount ≤ i → OpeningRow s i o room (refuse 12)
   not-idle : i < laneCount → (phaseAt s i ≡ Idle → ⊥) → OpeningRow s i o room (refuse 13)
   outside : i < laneCount → phaseAt s i ≡ Idle → (Within o → ⊥) → OpeningRow s i o room (refuse 16)
-  no-sale : i < laneCount → phaseAt s i ≡ Idle → Within o → (receipt : ℕ) → refersTo o ≡ Sold receipt → (LastIsSale i receipt (s .lines) → ⊥)
-      → OpeningRow s i o room (refuse 17)
+  missing : i < laneCount → phaseAt s i ≡ Idle → Within o → (number : ℕ) → Lacks i (s .lines) (refersTo o) number
+      → OpeningRow s i o room (refuse number)
   full : i < laneCount → phaseAt s i ≡ Idle → Within o → Stands i (refersTo o) (s .lines) → booked (kindOf o) ≡ true → bookLines ≤ load s
       → OpeningRow s i o room (refuse 18)
   tight : Ready s i o → room < commandSize o → OpeningRow s i o room (refuse 11)

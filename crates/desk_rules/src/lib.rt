@@ -11,7 +11,7 @@ ghost use Rattle.desk_rules.specs.Kinds.{isSale, isReversal, booked, isA
 ghost use Rattle.desk_rules.specs.Lanes.{noStatus, blankLine, idleLane, waitingLane, runningLane, reportedLane, placeTaken};
 ghost use Rattle.desk_rules.specs.Memory.{emptyBook, freshDesk, Valid};
 ghost use Rattle.desk_rules.specs.Numbers.{amountOk, receiptOk, passwordOk};
-ghost use Rattle.desk_rules.specs.Openings.{kindOf, withinLimits, refersTo, askedBy, namedBy, commandSize, looksAt, receiptNamed, concerns, sold, openedLane};
+ghost use Rattle.desk_rules.specs.Openings.{kindOf, withinLimits, refersTo, askedBy, namedBy, commandSize, looksAt, receiptNamed, concerns, sold, stands, missingNo, openedLane};
 ghost use Rattle.desk_rules.specs.Turnover.{counted, gain, loss};
 
 pub enum Kind {
@@ -262,6 +262,26 @@ impl Reference {
         match self {
             Reference::Nothing => 0,
             Reference::Sold(receipt) => receipt,
+        }
+    }
+
+    // Whether the line that it looks at is there.
+    pub fn stands(self, line: Line) -> bool
+        ensures { λ r. ⌜ r ≡ stands self line ⌝ }
+    {
+        match self {
+            Reference::Nothing => true,
+            Reference::Sold(_) => line.is_sold(),
+        }
+    }
+
+    // The number of refusal where it is not.
+    pub fn missing_number(self) -> u8
+        ensures { λ r. ⌜ r ≡ missingNo self ⌝ }
+    {
+        match self {
+            Reference::Nothing => 0,
+            Reference::Sold(_) => 17,
         }
     }
 }

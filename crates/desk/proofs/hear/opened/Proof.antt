@@ -3,6 +3,7 @@ use mathlib.Core.Path.{_≡_, sym, _∙_}
 use mathlib.Core.Bool.{true}
 use borrow.Author.Tests.{not-true, not-false}
 use Rattle.desk_rules.specs.Kinds.{isIdle}
+use Rattle.desk_rules.specs.Openings.{withinLimits}
 use Rattle.desk_rules.specs.Course.{openedBy}
 use borrow.Author.Needs.{needs}
 use Rattle.desk.proofs.hear.opened.Statement.{statement}
@@ -10,6 +11,9 @@ use Rattle.desk.proofs.hear.opened.Tie as tie
 
 idle : (c : tie.Else1) → isIdle (c .before .before .args .l .phase) ≡ true
 idle c = sym (c .before .is-idle .ensures) ∙ not-false _ (c .if1 .left)
+
+within : (c : tie.Else2) → withinLimits (c .before .before .before .before .args .opening) ≡ true
+within c = sym (c .before .within-limits .ensures) ∙ not-false _ (c .if2 .left)
 
 returns : tie.Need-returns
 unfolding openedBy
@@ -24,13 +28,21 @@ returns-2 c =
 returns-3 : tie.Need-returns-3
 unfolding openedBy
 returns-3 c =
-    let q = c .before .before .before in
-    let w = q .before in
-    c .standing .ensures
-    ∙ rw (idle (w .before), sym (w .within-limits .ensures) ∙ not-false _ (q .if2 .left), c .before .before .reference .ensures, c .before .lane .ensures)
+    let number = c .before in
+    let line = number .before .before in
+    let w = line .before .before in
+    rw (c .refused3 .ensures, number .missing-number .ensures, idle (w .before .before), within w, ← line .before .reference .ensures, sym (line .stands .ensures) ∙ not-true _ (number .before .if3 .taken))
+
+returns-4 : tie.Need-returns-4
+unfolding openedBy
+returns-4 c =
+    let line = c .before .before in
+    let w = line .before .before in
+    rw (c .lane .ensures, idle (w .before .before), within w, ← line .before .reference .ensures, sym (line .stands .ensures) ∙ not-false _ (c .before .if3 .left))
 
 pub opened-spec : {M : Type 1} → statement M
 opened-spec =
     tie.close
     (tie.spec (λ c κs. search needs) (λ c κs. search needs) returns (λ c κs. search needs) (λ c κs. search needs) returns-2
-    (λ c κs. search needs) (λ c κs. search needs) (λ c κs. search needs) returns-3)
+    (λ c κs. search needs) (λ c κs. search needs) (λ c κs. search needs) (λ c κs. search needs) returns-3
+    (λ c κs. search needs) returns-4)

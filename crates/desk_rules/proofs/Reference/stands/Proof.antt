@@ -1,0 +1,12 @@
+-- `desk_rules::Reference::stands` meets its contract. Assumes nothing.
+use borrow.Author.Needs.{needs}
+use Rattle.desk_rules.proofs.Reference.stands.Statement.{statement}
+use Rattle.desk_rules.proofs.Reference.stands.Tie as tie
+
+returns-2 : tie.Need-returns-2
+returns-2 c = rw (c .before .enum-told2 .given .1, c .is-sold .ensures)
+
+pub stands-spec : {M : Type 1} → statement M
+stands-spec =
+    tie.close
+    (tie.spec (λ c. search needs) (λ c. search needs) (λ c κs. search needs) (λ c. search needs) returns-2)
