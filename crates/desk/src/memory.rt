@@ -28,11 +28,14 @@ pub(crate) fn with_line(b: Book, l: Line) -> Book
     next
 }
 
-// The last line of a lane that a reference looks at, or a blank one.
+// The last line of a lane that a reference looks at, or a blank one. Who refers to nothing looks at none.
 pub(crate) fn last_line(b: Book, lane: u8, reference: Reference) -> Line
     requires { ⌜ (b .count ≤ bookLines) × (length (b .lines) ≡ bookLines) ⌝ }
     ensures { λ r. ⌜ r ≡ lastLine lane reference (take (b .count) (b .lines)) ⌝ }
 {
+    if let Reference::Nothing = reference {
+        return Line::blank();
+    }
     let count = b.count;
     let mut last = Line::blank();
     let mut i: usize = 0;

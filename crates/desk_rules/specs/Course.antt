@@ -1,6 +1,6 @@
 -- The course of a payment: what a call does to its lane. It depends on the lane and on the lane's own lines alone. Definitions only.
 use Prim.Native.Nat.{ℕ, _+_, _*_}
-use mathlib.Core.Bool.{Bool, true, false, not, _&&_, _||_}
+use mathlib.Core.Bool.{Bool, true, false, not, _&&_}
 use mathlib.Core.List.{List, [], _∷_}
 use lib.Dec.{eqb}
 use Rattle.zvt_rules.specs.Reading.{Reading, got, refused, pick, among}
@@ -13,8 +13,6 @@ use Rattle.zvt_rules.specs.declared.ToldCode.the-variants.{Missing as no-code, 
 use Rattle.zvt_rules.specs.declared.ToldAmount.{ToldAmount}
 use Rattle.zvt_rules.specs.declared.ToldAmount.the-variants.{Missing as no-amount, Amount}
 use Rattle.desk_rules.specs.declared.Kind.{Kind}
-use Rattle.desk_rules.specs.declared.Kind.the-variants.{Sale, Refund, Reversal}
-use Rattle.desk_rules.specs.declared.Outcome.{Outcome}
 use Rattle.desk_rules.specs.declared.Outcome.the-variants.{Unclear, Declined, Approved}
 use Rattle.desk_rules.specs.declared.Phase.{Phase}
 use Rattle.desk_rules.specs.declared.Phase.the-variants.{Idle, Waiting, Running}

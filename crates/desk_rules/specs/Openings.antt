@@ -1,6 +1,5 @@
 -- The kinds of opening, a row for each in every table: what it opens, its limits, the line that it refers to, the amount that it asks
 -- for, the receipt that it names, its command. Definitions only.
-use mathlib.Core.Path.{_≡_}
 use Prim.Native.Nat.{ℕ}
 use mathlib.Core.Bool.{Bool, true, false, _&&_}
 use mathlib.Core.List.{List, [], _∷_}

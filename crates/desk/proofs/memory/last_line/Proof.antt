@@ -8,6 +8,8 @@ use lib.ListN.{length, getD, take}
 use Rattle.desk_rules.specs.Lanes.{blankLine}
 use Rattle.desk_rules.specs.Openings.{concerns, lastFrom, lastLine}
 use Rattle.desk_rules.proofs.Sums.{last-take}
+use Rattle.desk_rules.proofs.LastSale.{nothing-last}
+use borrow.Author.Needs.{needs}
 use Rattle.desk.proofs.memory.last_line.Statement.{statement}
 use Rattle.desk.proofs.memory.last_line.Tie as tie
 
@@ -19,12 +21,12 @@ abbrev μ-loop : tie.MeasureT-loop
 
 loop-holds : tie.Need-loop-holds Inv-loop μ-loop
 unfolding lastLine lastFrom
-loop-holds c = (omega arith, c .blank .ensures)
+loop-holds c = (omega arith, c .blank2 .ensures)
 
 loop-again : tie.Need-loop-again Inv-loop μ-loop
 loop-again c =
     let q = c .before .before .before .before in
-    let a = q .before .before .args in
+    let a = q .before .before .before .before .args in
     let i = q .loop .i in
     let l = getD (a .t1 .lines) i blankLine in
     let h : i < length (a .t1 .lines) = omega arith in
@@ -35,12 +37,15 @@ loop-again c =
     )
 
 returns : tie.Need-returns Inv-loop μ-loop
-returns c =
-    let e : c .before .loop .i ≡ c .before .before .before .args .t1 .count = omega arith in
+returns c = c .blank .ensures ∙ rw (c .before .enum-told .given .1) (sym (nothing-last _ _))
+
+returns-2 : tie.Need-returns-2 Inv-loop μ-loop
+returns-2 c =
+    let e : c .before .loop .i ≡ c .before .before .before .before .before .args .t1 .count = omega arith in
     rw (← e) (c .before .loop .inv .1)
 
 pub last-line-spec : {M : Type 1} → statement M
 last-line-spec =
     tie.close
-    (tie.spec Inv-loop μ-loop (λ c κs. tt) loop-holds (λ c. omega arith) (λ c. omega arith) (λ c κs. tt)
-    (λ c. omega arith) (λ c. omega arith) loop-again returns)
+    (tie.spec Inv-loop μ-loop (λ c. search needs) (λ c κs. tt) returns (λ c. search needs) (λ c κs. tt) loop-holds
+    (λ c. omega arith) (λ c. omega arith) (λ c κs. tt) (λ c. omega arith) (λ c. omega arith) loop-again returns-2)
