@@ -90,10 +90,6 @@ Roomy d i m =
     let l = laneAt (d .lanes) i in
     d .book .count + placesTaken (d .lanes) + (placeTaken (laneAfter l m) + length (linesFrom i l m)) ≤ bookLines + placeTaken l
 
-lines-if : (b : Bool) (k : Book) (x : Line) → pick b (withLine k x) k .count ≡ k .count + length (lineIf b x)
-lines-if true k x = refl
-lines-if false k x = omega arith
-
 module _ (d : Desk) (v : Valid d) where
   pub load-is : load (view d) ≡ d .book .count + placesTaken (d .lanes)
   unfolding load view
