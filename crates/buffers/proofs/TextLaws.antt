@@ -1,6 +1,5 @@
 -- Laws of text in a buffer and of numbers as text. Assumes nothing.
 use mathlib.Core.Path.{_≡_, refl, sym, _∙_, ap, ap₂}
-use mathlib.Core.Bool.{Bool, true, false}
 use mathlib.Core.List.{List, [], _∷_, _++_}
 use Prim.Native.Nat.{ℕ, zero, suc, _+_, _-_, _*_, _/_, _%_, _^_, _≤_, _<_}
 use native.Mathlib.Nat.{mod-eq-of-lt, div-lt-iff-lt-mul, le-div-iff-mul-le, pow-suc, one-le-pow, mod-lt}
@@ -10,7 +9,7 @@ use borrow.Author.Tests.{lt-ltb, le-ltb}
 use lib.ListN.{length, drop, set, getD, length-set, drop-of-length-le}
 use lib.Seq.{drop-cons}
 use lib.Dec.{ltb}
-use Rattle.zvt_rules.specs.Reading.{pick}
+use Rattle.zvt_rules.proofs.Tests.{pick-test}
 use Rattle.io.specs.Digits.{digits, glyph, Fewest}
 use Rattle.zvt_rules.specs.Text.{Text, text, addOne, addAll, hexText, hexes, bytesText, decimalBy, decimalText}
 
@@ -41,11 +40,8 @@ addAll-step v i t h = rw (add-one, drop-cons v i 0) (addAll-first _ _ _)
 
 addOne-room : (b : ℕ) (t : Text) → length ((addOne b t) .bytes) ≡ length (t .bytes)
 unfolding addOne
-addOne-room b t = go (ltb (t .at) (length (t .bytes)))
-  where
-    go : (x : Bool) → length ((pick x (text (t .at + 1) (set (t .bytes) (t .at) b)) t) .bytes) ≡ length (t .bytes)
-    go true = length-set (t .bytes) (t .at) b
-    go false = refl
+addOne-room b t =
+    pick-test (λ (u : Text). length (u .bytes) ≡ length (t .bytes)) (ltb (t .at) (length (t .bytes))) (λ _. length-set (t .bytes) (t .at) b) (λ _. refl)
 
 pub addAll-room : (w : List ℕ) (t : Text) → length ((addAll w t) .bytes) ≡ length (t .bytes)
 unfolding addAll addOne

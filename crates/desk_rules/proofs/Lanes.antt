@@ -9,7 +9,7 @@ use lib.ListN.{length, getD, set, length-append, length-set}
 use lib.Seq.{getD-set-same, getD-set-other}
 use borrow.Author.Tests.{eqb-true, eqb-false, eq-eqb, ne-eqb, leb-false, lt-leb, le-ltb}
 use Rattle.zvt_rules.specs.Reading.{pick}
-use Rattle.zvt_rules.proofs.Tests.{pick-same}
+use Rattle.zvt_rules.proofs.Tests.{pick-same, pick-under}
 use Rattle.desk_rules.specs.declared.Lane.{Lane}
 use Rattle.desk_rules.specs.declared.Line.{Line}
 use Rattle.desk_rules.specs.declared.Moved.{Moved}
@@ -30,12 +30,7 @@ use Rattle.desk_rules.proofs.Calls.{Passes, opened, Later, later}
 pub having-append : {A : Type 0} (f : A → ℕ) (k : ℕ) (xs ys : List A) → having f k (xs ++ ys) ≡ having f k xs ++ having f k ys
 unfolding having
 having-append f k [] ys = refl
-having-append f k (x ∷ xs) ys = rw (having-append f k xs ys) (go (eqb (f x) k))
-  where
-    go : (b : Bool) → pick b (x ∷ (having f k xs ++ having f k ys)) (having f k xs ++ having f k ys)
-        ≡ pick b (x ∷ having f k xs) (having f k xs) ++ having f k ys
-    go true = refl
-    go false = refl
+having-append f k (x ∷ xs) ys = rw (having-append f k xs ys) (sym (pick-under (λ zs. zs ++ having f k ys) (eqb (f x) k) _ _))
 
 pub total-append : {A : Type 0} (f : A → ℕ) (xs ys : List A) → total f (xs ++ ys) ≡ total f xs + total f ys
 unfolding total
