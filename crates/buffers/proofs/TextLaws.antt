@@ -1,16 +1,15 @@
 -- Laws of text in a buffer and of numbers as text. Assumes nothing.
 use mathlib.Core.Path.{_≡_, refl, sym, _∙_, ap, ap₂}
-use mathlib.Core.Bool.{Bool, true, false}
 use mathlib.Core.List.{List, [], _∷_, _++_}
 use Prim.Native.Nat.{ℕ, zero, suc, _+_, _-_, _*_, _/_, _%_, _^_, _≤_, _<_}
 use native.Mathlib.Nat.{mod-eq-of-lt, div-lt-iff-lt-mul, le-div-iff-mul-le, pow-suc, one-le-pow, mod-lt}
 use native.Mathlib.Numerals.{add-one}
 use native.Mathlib.Omega.{arith}
-use borrow.Author.Tests.{lt-ltb, le-ltb, ltb-true}
+use borrow.Author.Tests.{lt-ltb, le-ltb}
 use lib.ListN.{length, drop, set, getD, length-set, drop-of-length-le}
 use lib.Seq.{drop-cons}
 use lib.Dec.{ltb}
-use Rattle.zvt_rules.specs.Reading.{pick}
+use Rattle.zvt_rules.proofs.Tests.{pick-test}
 use Rattle.io.specs.Digits.{digits, glyph, Fewest}
 use Rattle.zvt_rules.specs.Text.{Text, text, addOne, addAll, hexText, hexes, bytesText, decimalBy, decimalText}
 
@@ -41,35 +40,13 @@ addAll-step v i t h = rw (add-one, drop-cons v i 0) (addAll-first _ _ _)
 
 addOne-room : (b : ℕ) (t : Text) → length ((addOne b t) .bytes) ≡ length (t .bytes)
 unfolding addOne
-addOne-room b t = go (ltb (t .at) (length (t .bytes)))
-  where
-    go : (x : Bool) → length ((pick x (text (t .at + 1) (set (t .bytes) (t .at) b)) t) .bytes) ≡ length (t .bytes)
-    go true = length-set (t .bytes) (t .at) b
-    go false = refl
+addOne-room b t =
+    pick-test (λ (u : Text). length (u .bytes) ≡ length (t .bytes)) (ltb (t .at) (length (t .bytes))) (λ _. length-set (t .bytes) (t .at) b) (λ _. refl)
 
 pub addAll-room : (w : List ℕ) (t : Text) → length ((addAll w t) .bytes) ≡ length (t .bytes)
 unfolding addAll addOne
 addAll-room [] t = refl
 addAll-room (b ∷ w) t = addAll-room w (addOne b t) ∙ addOne-room b t
-
-addOne-in : (b : ℕ) (t : Text) → t .at ≤ length (t .bytes) → (addOne b t) .at ≤ length ((addOne b t) .bytes)
-unfolding addOne
-addOne-in b t h = go (ltb (t .at) (length (t .bytes))) refl
-  where
-    go : (x : Bool) → ltb (t .at) (length (t .bytes)) ≡ x
-        → (pick x (text (t .at + 1) (set (t .bytes) (t .at) b)) t) .at ≤ length ((pick x (text (t .at + 1) (set (t .bytes) (t .at) b)) t) .bytes)
-    go true e = omega (arith, ltb-true (t .at) (length (t .bytes)) e, length-set (t .bytes) (t .at) b)
-    go false e = h
-
-addAll-in : (w : List ℕ) (t : Text) → t .at ≤ length (t .bytes) → (addAll w t) .at ≤ length ((addAll w t) .bytes)
-unfolding addAll
-addAll-in [] t h = h
-addAll-in (b ∷ w) t h = addAll-in w (addOne b t) (addOne-in b t h)
-
-pub written-in : (w : List ℕ) (at : ℕ) (entry : List ℕ) (r : ℕ) (exit : List ℕ) → text r exit ≡ addAll w (text at entry)
-    → at ≤ length entry → r ≤ length exit
-written-in w at entry r exit e h =
-    omega (arith, addAll-in w (text at entry) h, ap (λ (t : Text). t .at) e, ap (λ (t : Text). length (t .bytes)) e)
 
 -- a loop that adds the part w: the room stays, and what is left, l and then l′, comes to the same
 pub goes-on : (w l l′ : List ℕ) (t : Text) {u s : Text} {room : ℕ} → u ≡ addAll w t → addAll l t ≡ addAll l′ (addAll w t)

@@ -6,7 +6,7 @@ use Prim.Native.Nat.{ℕ, _+_, _*_, _<_}
 use native.Mathlib.Omega.{arith}
 use lib.Dec.{eqb}
 use borrow.Author.Tests.{eqb-true, ne-eqb}
-use Rattle.zvt_rules.specs.Reading.{Reading, got, refused, pick, andThen, part, among}
+use Rattle.zvt_rules.specs.Reading.{Reading, got, refused, andThen, part, among}
 use Rattle.zvt_rules.specs.Message.{Heading, wholeHeader, Body, bytes, listed, Message, readOf, messageOf, bodyOf, layoutOf, start, end}
 use Rattle.zvt_rules.specs.Values.{isStatus, statusOf, statusIn, statusFields, bodyFields, codeIn, codeOf, valueIn}
 use Rattle.zvt_rules.specs.declared.Refusal.{Refusal}
@@ -108,14 +108,10 @@ Closing Stays = ⊥
 Closing (Becomes l) = ⊥
 Closing (Ends outcome settled code) = Unit {0}
 
-either-closes : (t : Bool) (x y : Moved) → Closing x → Closing y → Closing (pick t x y)
-either-closes true x y p q = p
-either-closes false x y p q = q
-
 completed-closes : (l : Lane) (t : ToldCode) → Closing (completedBy l t)
 unfolding completedBy settledAs
 completed-closes l no-code = tt
-completed-closes l (Code c) = search (either-closes, tt)
+completed-closes l (Code c) = search (pick-test Closing, tt)
 
 completed-running : (l : Lane) (t : ToldCode) → completedBy (runningLane l) t ≡ completedBy l t
 unfolding completedBy

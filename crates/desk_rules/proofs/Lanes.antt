@@ -9,6 +9,7 @@ use lib.ListN.{length, getD, set, length-append, length-set}
 use lib.Seq.{getD-set-same, getD-set-other}
 use borrow.Author.Tests.{eqb-true, eqb-false, eq-eqb, ne-eqb, leb-false, lt-leb, le-ltb}
 use Rattle.zvt_rules.specs.Reading.{pick}
+use Rattle.zvt_rules.proofs.Tests.{pick-same, pick-under}
 use Rattle.desk_rules.specs.declared.Lane.{Lane}
 use Rattle.desk_rules.specs.declared.Line.{Line}
 use Rattle.desk_rules.specs.declared.Moved.{Moved}
@@ -17,7 +18,7 @@ use Rattle.desk_rules.specs.declared.Reference.{Reference}
 use Rattle.desk_rules.specs.Numbers.{laneCount, bookLines}
 use Rattle.desk_rules.specs.Kinds.{booked, isIdle}
 use Rattle.desk_rules.specs.Lanes.{noStatus, idleLane, runningLane, lineAt, placeTaken}
-use Rattle.desk_rules.specs.Openings.{kindOf, refersTo, concerns, lastFrom, lastLine, openedLane}
+use Rattle.desk_rules.specs.Openings.{refersTo, concerns, lastFrom, lastLine, openedLane}
 use Rattle.desk_rules.specs.Course.{openedBy, Call, opening, message, lost, laneOf, opens, needsPlace, moves, writes}
 use Rattle.desk_rules.specs.Desk.{State, laneAt, placesTaken, load, Decision, refuse, accept, unlessRefused, decide, laneAfter, lineIf, linesFrom, step, Accepts}
 use Rattle.desk_rules.specs.Runs.{having, ofLane, Own, ownOf, total, oneOpened}
@@ -29,17 +30,7 @@ use Rattle.desk_rules.proofs.Calls.{Passes, opened, Later, later}
 pub having-append : {A : Type 0} (f : A → ℕ) (k : ℕ) (xs ys : List A) → having f k (xs ++ ys) ≡ having f k xs ++ having f k ys
 unfolding having
 having-append f k [] ys = refl
-having-append f k (x ∷ xs) ys = rw (having-append f k xs ys) (go (eqb (f x) k))
-  where
-    go : (b : Bool) → pick b (x ∷ (having f k xs ++ having f k ys)) (having f k xs ++ having f k ys)
-        ≡ pick b (x ∷ having f k xs) (having f k xs) ++ having f k ys
-    go true = refl
-    go false = refl
-
--- no element, whatever the test
-pub none : {A : Type 0} (b : Bool) → _≡_ {A = List A} [] (pick b [] [])
-none true = refl
-none false = refl
+having-append f k (x ∷ xs) ys = rw (having-append f k xs ys) (sym (pick-under (λ zs. zs ++ having f k ys) (eqb (f x) k) _ _))
 
 pub total-append : {A : Type 0} (f : A → ℕ) (xs ys : List A) → total f (xs ++ ys) ≡ total f xs + total f ys
 unfolding total
@@ -86,14 +77,14 @@ after o c =
 
 lines-own : (i k : ℕ) (l : Lane) (m : Moved) → ofLane k (linesFrom i l m) ≡ pick (eqb i k) (linesFrom i l m) []
 unfolding linesFrom having lineAt
-lines-own i k l (Refused r) = none (eqb i k)
-lines-own i k l Stays = none (eqb i k)
-lines-own i k l (Becomes n) = none (eqb i k)
+lines-own i k l (Refused r) = sym (pick-same (eqb i k) refl)
+lines-own i k l Stays = sym (pick-same (eqb i k) refl)
+lines-own i k l (Becomes n) = sym (pick-same (eqb i k) refl)
 lines-own i k l (Ends outcome settled code) = go (booked (l .kind))
   where
     go : (b : Bool) → let x = lineAt i l outcome settled code in ofLane k (lineIf b x) ≡ pick (eqb i k) (lineIf b x) []
     go true = refl
-    go false = none (eqb i k)
+    go false = sym (pick-same (eqb i k) refl)
 
 own-same : (s : State) (c : Call) → laneOf c < length (s .lanes) → ownOf (laneOf c) (step s c) ≡ after (ownOf (laneOf c) s) c
 unfolding step after
@@ -226,11 +217,6 @@ unfolding opens askOf placeTaken oneOpened needsPlace
 asked-place ls (opening i o) e = refl
 asked-place ls (message i s) e = let z : _≡_ {A = ℕ} 0 1 = cc in absurd (omega arith)
 asked-place ls (lost i) e = let z : _≡_ {A = ℕ} 0 1 = cc in absurd (omega arith)
-
--- an open lane takes a place as its kind says
-pub place-kind : (l : Lane) → isIdle (l .phase) ≡ false → placeTaken l ≡ pick (booked (l .kind)) 1 0
-unfolding placeTaken
-place-kind l e = rw e
 
 line-count : (b : Bool) (x : Line) → length (lineIf b x) ≡ pick b 1 0
 line-count true x = refl

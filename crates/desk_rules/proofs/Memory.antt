@@ -1,7 +1,6 @@
 -- What every desk is: the fresh one, and each that a call or closing leaves; and each follows the course. Assumes nothing.
 use mathlib.Core.Path.{_≡_, refl, ap, _∙_}
 use mathlib.Core.Bool.{Bool, true, false, _&&_}
-use mathlib.Core.Logic.{_↔_}
 use mathlib.Core.List.{List, [], _∷_, _++_, append-nil}
 use Prim.Native.Nat.{ℕ, zero, suc, _+_, _≤_, _<_}
 use native.Mathlib.Numerals.{add-one}
@@ -29,7 +28,7 @@ use Rattle.desk_rules.specs.Runs.{oneOpened}
 use Rattle.desk_rules.specs.Desk.{fresh, laneAt, placesTaken, allIdle, load, Decision, refuse, accept, decide, laneAfter, lineIf, linesFrom, step}
 use Rattle.desk_rules.specs.Memory.{freshDesk, linesOfDesk, view, laneFor, toldSmall, Valid, withLine, endedDesk, movedDesk, refusedAnswer, answerBy, answerOf, leavesBy, leavesOf, closeAnswer}
 use Rattle.desk_rules.proofs.Calls.{Passes}
-use Rattle.desk_rules.proofs.Lanes.{total-set, places-total, opened-one, kept, not-refused, passed}
+use Rattle.desk_rules.proofs.Lanes.{total-set, places-total, kept, not-refused, passed}
 use Rattle.desk_rules.proofs.Amounts.{Small, LaneFits, LinesFit, Fits, moves-fit}
 
 -- ---- lists
@@ -90,10 +89,6 @@ abbrev pub Roomy : Desk → ℕ → Moved → Type 0
 Roomy d i m =
     let l = laneAt (d .lanes) i in
     d .book .count + placesTaken (d .lanes) + (placeTaken (laneAfter l m) + length (linesFrom i l m)) ≤ bookLines + placeTaken l
-
-lines-if : (b : Bool) (k : Book) (x : Line) → pick b (withLine k x) k .count ≡ k .count + length (lineIf b x)
-lines-if true k x = refl
-lines-if false k x = omega arith
 
 module _ (d : Desk) (v : Valid d) where
   pub load-is : load (view d) ≡ d .book .count + placesTaken (d .lanes)

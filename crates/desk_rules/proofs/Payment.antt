@@ -8,19 +8,20 @@ use lib.Dec.{eqb}
 use lib.ListN.{length, set}
 use lib.Seq.{getD-set-same, set-set, set-getD}
 use Rattle.zvt_rules.specs.Reading.{pick}
+use Rattle.zvt_rules.proofs.Tests.{pick-same}
 use Rattle.zvt_rules.specs.declared.Status.{Status}
 use Rattle.desk_rules.specs.declared.Lane.{Lane}
 use Rattle.desk_rules.specs.declared.Line.{Line}
 use Rattle.desk_rules.specs.declared.Moved.{Moved}
 use Rattle.desk_rules.specs.declared.Moved.the-variants.{Refused, Stays, Becomes, Ends}
 use Rattle.desk_rules.specs.Lanes.{noStatus, idleLane, lineAt}
-use Rattle.desk_rules.specs.Kinds.{booked, isIdle}
+use Rattle.desk_rules.specs.Kinds.{booked}
 use Rattle.desk_rules.specs.Course.{Call, laneOf, opens, moves}
 use Rattle.desk_rules.specs.Desk.{State, laneAt, laneAfter, lineIf, linesFrom, step, run}
 use Rattle.desk_rules.specs.Runs.{having, ofLane, callsOf, Own}
 use Rattle.desk_rules.specs.Payments.{askOf, remembered, verdict, askedLane, lineBy, judged, lineOf, recalled, NoneOpens, Begins, pays, LaneSays}
 use Rattle.desk_rules.proofs.Calls.{Passes, opened, retold, Later, later}
-use Rattle.desk_rules.proofs.Lanes.{having-append, none, ask-local, asked-kind, asked-open, moves-local}
+use Rattle.desk_rules.proofs.Lanes.{having-append, ask-local, asked-kind, asked-open, moves-local}
 use Rattle.desk_rules.proofs.Runs.{run-append}
 
 -- ---- what its calls say of its lane, and of the line at its end
@@ -109,7 +110,7 @@ pub record Open (k : ℕ) (w : Own) (q : List Call) : Type 0 where
 
 pub open-none : (k : ℕ) (ls : List Line) → Open k (record { lane = idleLane; lines = ls }) []
 unfolding having LaneSays
-open-none k ls = record { its = λ j. none (eqb k j); brings = brings-none k ls; says = refl }
+open-none k ls = record { its = λ j. sym (pick-same (eqb k j) refl); brings = brings-none k ls; says = refl }
 
 pub its-more : (q : List Call) (c : Call) → ((j : ℕ) → callsOf j q ≡ pick (eqb (laneOf c) j) q [])
     → (j : ℕ) → callsOf j (q ++ (c ∷ [])) ≡ pick (eqb (laneOf c) j) (q ++ (c ∷ [])) []

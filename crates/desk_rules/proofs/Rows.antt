@@ -1,14 +1,13 @@
 -- A call is decided as one of its rows says, and as no other: the rows of refusal read both ways. Assumes nothing.
 use mathlib.Core.Path.{_≡_, refl, sym, ap, _∙_, subst}
 use mathlib.Core.Bool.{Bool, true, false, not, _&&_, _||_, false≢true}
-use mathlib.Core.Logic.{_↔_, _⊎_, inl, inr, ⊎-elim}
+use mathlib.Core.Logic.{_↔_}
 use mathlib.Core.List.{List, [], _∷_}
-use Prim.Native.Nat.{ℕ, suc, _+_, _*_, _≤_, _<_}
+use Prim.Native.Nat.{ℕ, suc, _+_, _*_, _<_}
 use native.Mathlib.Omega.{arith}
 use lib.ListN.{length}
 use lib.Dec.{ltb, leb, eqb}
-use borrow.Author.Tests.{leb-true, lt-ltb, le-ltb, le-leb, lt-leb, eqb-true, eq-eqb}
-use Rattle.zvt_rules.specs.declared.Fault.{Fault}
+use borrow.Author.Tests.{lt-ltb, le-ltb, le-leb, lt-leb}
 use Rattle.zvt_rules.specs.declared.Status.{Status}
 use Rattle.zvt_rules.specs.declared.ToldCode.{ToldCode}
 use Rattle.zvt_rules.specs.declared.ToldCode.the-variants.{Missing, Code}
@@ -20,14 +19,13 @@ use Rattle.desk_rules.specs.declared.Phase.{Phase}
 use Rattle.desk_rules.specs.declared.Phase.the-variants.{Idle, Waiting, Running}
 use Rattle.desk_rules.specs.declared.Lane.{Lane}
 use Rattle.desk_rules.specs.declared.Moved.{Moved}
-use Rattle.desk_rules.specs.declared.Moved.the-variants.{Becomes}
 use Rattle.desk_rules.specs.declared.Opening.{Opening}
 use Rattle.desk_rules.specs.declared.Opening.the-variants.{Sale as sale, Refund as refund, Reversal as reversal}
 use Rattle.desk_rules.specs.declared.Reference.{Reference}
 use Rattle.desk_rules.specs.declared.Reference.the-variants.{Nothing, Sold}
 use Rattle.desk_rules.specs.Numbers.{laneCount, bookLines, mostAsked, mostReceipt, mostPassword}
 use Rattle.desk_rules.specs.Kinds.{isReversal, booked, isIdle}
-use Rattle.desk_rules.specs.Openings.{kindOf, withinLimits, refersTo, lastLine, stands, missingNo, openedLane, commandBytes, commandSize}
+use Rattle.desk_rules.specs.Openings.{kindOf, withinLimits, refersTo, lastLine, stands, missingNo, commandSize}
 use Rattle.desk_rules.specs.Course.{runningPairs, pairIs, heardWaiting, completedBy, settledAs, abortedBy, reportedBy, movedBy, afterBody, heardRunning, heardBy, afterHeader, heard, lostBy, answered, openedBy, Call, opening, message, lost, laneOf, needsPlace, moves, writes}
 use Rattle.desk_rules.specs.Desk.{State, laneAt, load, Decision, refuse, accept, unlessRefused, decide}
 use Rattle.desk_rules.specs.Table.{phaseAt, Within, Stands, Lacks, no-sale, Ready, OneOf, Allowed, EmptyAbort, OpeningRow, no-lane, not-idle, outside, missing, full, tight, opened, HearingRow, is-idle, bad-header, not-allowed, bad-body, no-code, heard-waiting, heard-running, LosingRow, ended, Row}
@@ -39,10 +37,6 @@ idle-test : (p : Phase) → (isIdle p ≡ true) ↔ (p ≡ Idle)
 idle-test Idle = (λ e. refl, λ e. refl)
 idle-test Waiting = (λ e. absurd (false≢true e), λ e. cc)
 idle-test Running = (λ e. absurd (false≢true e), λ e. cc)
-
-unless-pick : (t : Bool) (m n : Moved) (x : Decision) → unlessRefused (pick t m n) x ≡ pick t (unlessRefused m x) (unlessRefused n x)
-unless-pick true m n x = refl
-unless-pick false m n x = refl
 
 -- ---- opening
 
@@ -63,7 +57,7 @@ module _ (s : State) (i : ℕ) (o : Opening) (room : ℕ) where
       ≡ pick (leb laneCount i) (refuse 12)
       (pick (isIdle (phaseAt s i)) (pick (withinLimits o) (referred (refersTo o)) (refuse 16)) (refuse 13))
   unfolding decide moves writes needsPlace laneOf openedBy referred few unlessRefused
-  decide-opening = rw command-size (simp unless-pick)
+  decide-opening = rw command-size (simp (pick-under (λ m. unlessRefused m few)))
 
   stands-test : (r : Reference) → (stands r (lastLine i r (s .lines)) ≡ true) ↔ Stands i r (s .lines)
   stands-test Nothing = (λ _. tt, λ _. refl)
@@ -156,7 +150,7 @@ allowed-test Running h = among-test _ _
 
 waiting-says : (l : Lane) (h : Heading) (x : Decision) → unlessRefused (heardWaiting l h) x ≡ pick (allowedBy Waiting h) x (refuse 15)
 unfolding unlessRefused heardWaiting allowedBy
-waiting-says l h x = simp unless-pick (go (eqb (h .size) 0) (pairIs (h .class) (h .instruction) 0x80 0x00) (eqb (h .class) 0x84))
+waiting-says l h x = simp (pick-under (λ m. unlessRefused m x)) (go (eqb (h .size) 0) (pairIs (h .class) (h .instruction) 0x80 0x00) (eqb (h .class) 0x84))
   where
     go : (a b c : Bool) → pick a (pick b x (pick c x (refuse 15))) (refuse 15) ≡ pick (a && (b || c)) x (refuse 15)
     go true true c = refl
@@ -170,11 +164,8 @@ Goes m = (x : Decision) → unlessRefused m x ≡ x
 completed-goes : (l : Lane) (code : ToldCode) → Goes (completedBy l code)
 unfolding Goes unlessRefused completedBy settledAs
 completed-goes l Missing x = refl
-completed-goes l (Code c) x = simp unless-pick (same (eqb c 0) (same (isReversal (l .kind) && not (eqb _ (l .asked))) refl))
-  where
-    same : (t : Bool) {y z : Decision} → y ≡ z → pick t y z ≡ z
-    same true e = e
-    same false e = refl
+completed-goes l (Code c) x =
+    simp (pick-under (λ m. unlessRefused m x)) (pick-same (eqb c 0) (pick-same (isReversal (l .kind) && not (eqb _ (l .asked))) refl))
 
 reported-goes : (l : Lane) (status : Status) (code : ToldCode) → Goes (reportedBy l status code)
 unfolding Goes unlessRefused reportedBy
@@ -268,7 +259,7 @@ module _ (s : State) (i : ℕ) (b : List ℕ) (room : ℕ) where
   unfolding unlessRefused heardBy heardRunning allowedBy said answered further
   allowed-says Idle h n = absurd (n refl)
   allowed-says Waiting h n = waiting-says _ h _ ∙ rw (le-ltb room 0 (omega arith))
-  allowed-says Running h n = unless-pick (allowedBy Running h) _ _ _
+  allowed-says Running h n = pick-under (λ m. unlessRefused m (said Running)) (allowedBy Running h) _ _
 
   from-phase : (h : Heading) → i < laneCount → (phaseAt s i ≡ Idle → ⊥) → wholeHeader b ≡ got h
       → decide s (message i b) room ≡ pick (allowedBy (phaseAt s i) h) (further (phaseAt s i)) (refuse 15)

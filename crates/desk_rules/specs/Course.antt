@@ -29,6 +29,7 @@ abbrev pub noMove : ℕ → Moved
 noMove number = Refused (record { number = number })
 
 -- ---- from the terminal
+-- P31: "Only an approved line has a settled amount; in others it is 0.": so says every end here that is not approved
 
 abbrev pub pairIs : ℕ → ℕ → ℕ → ℕ → Bool
 pairIs class instruction c i = eqb class c && eqb instruction i

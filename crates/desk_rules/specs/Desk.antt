@@ -51,6 +51,7 @@ unlessRefused Stays other = other
 unlessRefused (Becomes l) other = other
 unlessRefused (Ends outcome settled code) other = other
 
+-- R30: "Of the numbers in the order of a call, one is given exactly where its row holds and none before it there does."
 -- R34: "12, 13, 16, 17, 18, 11." R35: "12, 14, header, 15, body, 11." R36: "12, 14."
 unfoldable pub decide : State → Call → ℕ → Decision
 decide s c room =

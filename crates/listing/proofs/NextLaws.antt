@@ -1,7 +1,7 @@
 -- The next line of a listing, case by case, and the lines from there on. Assumes nothing.
 use mathlib.Core.Path.{_≡_, refl, _∙_, ap}
-use mathlib.Core.List.{List, [], _∷_, _++_}
-use Prim.Native.Nat.{ℕ, zero, suc, _+_, _-_, _≤_, _<_}
+use mathlib.Core.List.{List, [], _∷_}
+use Prim.Native.Nat.{ℕ, suc, _+_, _-_, _≤_, _<_}
 use native.Mathlib.Omega.{arith}
 use borrow.Author.Tests.{lt-ltb, le-ltb, eq-eqb, ne-eqb}
 use lib.ListN.{length, take, drop, length-take}
@@ -10,8 +10,8 @@ use Rattle.zvt_rules.specs.Reading.{Reading, got, refused}
 use Rattle.zvt_rules.specs.Message.{Message, readOf, firstOf}
 use Rattle.zvt_rules.specs.Writing.{messageBytes}
 use Rattle.zvt_rules.specs.Grammar.{Bytes}
-use Rattle.zvt_rules.specs.Text.{Text, text, addAll}
-use Rattle.zvt_rules.specs.Listing.{messageText, okText, refusedText, idsOf, NextLine, message, last, nextBy, nextOf, andRest, linesBy}
+use Rattle.zvt_rules.specs.Text.{Text, addAll}
+use Rattle.zvt_rules.specs.Listing.{messageText, okText, refusedText, idsOf, message, last, nextBy, nextOf, andRest, linesBy}
 use Rattle.zvt_rules.proofs.ObjectReading.{tail}
 use Rattle.zvt_rules.proofs.MessageBytes.{first-sound, read-complete}
 use Rattle.zvt_rules.specs.declared.Refusal.{Refusal}

@@ -2,13 +2,10 @@
 -- test beforehand. A refusal is given exactly where the rules say, with its number, and changes neither the desk nor a byte of
 -- the buffers it was lent." The first sentence is each function's own theorem (Ends.antt); here is the second. Assumes nothing.
 use mathlib.Core.Path.{_≡_}
-use mathlib.Core.Bool.{true, false}
 use mathlib.Core.Logic.{_↔_, Iff·trans}
 use mathlib.Core.List.{List}
-use Prim.Native.Nat.{ℕ, _<_, _≤_}
+use Prim.Native.Nat.{ℕ}
 use lib.ListN.{length, drop}
-use Rattle.zvt_rules.specs.Reading.{got}
-use Rattle.zvt_rules.specs.Message.{Heading, wholeHeader}
 use Rattle.zvt_rules.specs.declared.HeaderAnswer.the-variants.{Refused as header-refused}
 use Rattle.zvt_rules.specs.declared.ReadAnswer.the-variants.{Refused as read-refused}
 use Rattle.zvt_rules.specs.declared.FirstAnswer.the-variants.{Refused as first-refused}

@@ -9,12 +9,10 @@ use Prim.Native.Nat.{ℕ, _≤_}
 use native.Mathlib.Omega.{arith}
 use lib.ListN.{length, take}
 use Rattle.zvt_rules.specs.Reading.{Reading, got, refused, unless, andThen, among}
-use Rattle.zvt_rules.specs.Fields.{Field}
-use Rattle.zvt_rules.specs.Message.{bytes, listed, Message, lengthOf, headerWith, headerOf, layoutOf, bodyOf, messageOf, wholeHeader, readOf, firstOf, countOf}
+use Rattle.zvt_rules.specs.Message.{bytes, Message, lengthOf, headerWith, headerOf, layoutOf, bodyOf, messageOf, wholeHeader, readOf, firstOf, countOf}
 use Rattle.zvt_rules.specs.Writing.{messageBytes}
 use Rattle.zvt_rules.specs.Shortest.{shortMessage, isShort, write, shorten, SameValues}
 use Rattle.zvt_rules.specs.Grammar.{Bytes, MessageOk}
-use Rattle.zvt_rules.specs.Digits.{numberOf}
 use Rattle.zvt_rules.specs.Values.{valueIn, statusFields}
 use Rattle.zvt_rules.proofs.Readings.{got-same, then-on}
 use Rattle.zvt_rules.proofs.MessageBytes as reading

@@ -93,11 +93,11 @@ module _ (s : List ℕ) (b : Bytes s) where
   unfolding statusOf statusFields maskMessage
   masked-status =
       of-masked (λ r. statusIn (statusFields r))
-      (λ m. pick-alike (isStatus m) (bodyFields (maskBody (m .body))) (bodyFields (m .body)) (mask-same m .status)) s b
+      (λ m. same-status (isStatus m) (bodyFields (maskBody (m .body))) (bodyFields (m .body)) (mask-same m .status)) s b
     where
-      pick-alike : (t : Bool) (fs gs : List Field) → statusIn fs ≡ statusIn gs → statusIn (pick t fs []) ≡ statusIn (pick t gs [])
-      pick-alike true fs gs e = e
-      pick-alike false fs gs e = refl
+      same-status : (t : Bool) (fs gs : List Field) → statusIn fs ≡ statusIn gs → statusIn (pick t fs []) ≡ statusIn (pick t gs [])
+      same-status true fs gs e = e
+      same-status false fs gs e = refl
 
 -- ---- the records of accepted calls
 hiding-append : (rs ts : List Record) → Hiding rs → Hiding ts → Hiding (rs ++ ts)

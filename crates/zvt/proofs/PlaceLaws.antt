@@ -13,13 +13,13 @@ use Rattle.zvt_rules.specs.declared.Fault.{Fault}
 use Rattle.zvt_rules.specs.declared.Layout.{Layout}
 use Rattle.zvt_rules.specs.declared.Layout.the-variants.{Plain, List as FieldList, Secured}
 use Rattle.zvt_rules.specs.Reading.{Reading, got, refused, pick, part, among}
-use Rattle.zvt_rules.specs.Fields.{Field, listBy, listOf}
+use Rattle.zvt_rules.specs.Fields.{Field, listOf}
 use Rattle.zvt_rules.specs.Message.{headerSize, layoutOf, Body, bytes, listed, Message, readOf}
 use Rattle.zvt_rules.specs.Writing.{listBytes, bodyBytes, lengthBytes, messageBytes}
 use Rattle.zvt_rules.specs.Grammar.{Bytes, FieldsOk, LayoutOk, MessageOk}
 use Rattle.zvt_rules.proofs.ObjectReading.{tail}
 use Rattle.zvt_rules.proofs.FieldBytes.{list-complete}
-use Rattle.zvt_rules.proofs.FieldReading.{header-most}
+use Rattle.zvt_rules.proofs.FieldReading.{header-most, list-none}
 use Rattle.zvt_rules.proofs.MessageBytes.{read-sound, message-size}
 use Rattle.zvt_rules.proofs.MessageShort.{fields-ok, length-bound}
 use Rattle.zvt_rules.specs.declared.Refusal.{Refusal}
@@ -34,6 +34,7 @@ use Rattle.zvt.specs.ListSteps.{listFields, fieldsBetween, listedIn, Lis
 use Rattle.zvt_rules.specs.Values.{isStatus, bodyFields, statusFields}
 use Rattle.zvt_rules.specs.Name.{own, NameAt, nameIn, nameOf, nameAt}
 use Rattle.zvt.specs.WritingSteps.{ListReads}
+use Rattle.zvt.proofs.ListedLaws.{list-empty}
 
 -- ---- the list of a message that is read
 -- it stands behind header and password
@@ -190,8 +191,8 @@ list-nowhere s e h = go (readOf s) (sym e ∙ h)
 
 -- no bytes are a list without fields
 pub no-list : (s : List ℕ) → ListIn 0 0 s × (listedIn 0 0 s ≡ [])
-unfolding ListReads listedIn fieldsBetween listFields listOf listBy listedFrom
-no-list s = (record { order = omega arith; inside = omega arith; short = omega arith; reads = (_, refl) }, refl)
+unfolding ListReads
+no-list s = (record { order = omega arith; inside = omega arith; short = omega arith; reads = (_, list-none [] 0 0 [] refl) }, list-empty 0 0 s refl)
 
 -- the list of a status information: which fields it has, and where the card name is
 pub record StatusIn (from end : ℕ) (s : List ℕ) : Type 0 where

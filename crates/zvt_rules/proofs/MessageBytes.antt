@@ -75,7 +75,7 @@ header-sound (c ∷ (i ∷ t)) h b e =
     let l = length-sound t (k .0) (bytes-drop 2 (c ∷ (i ∷ t)) b) (k .1) in
     rw (w .2) (rw (l .0) (sym (cut (k .0 .long) c i t (k .0 .value))), length-ok (k .0 .long) (k .0 .value) (l .1) (w .0))
 
-abbrev headerFor : Message → Heading
+abbrev pub headerFor : Message → Heading
 headerFor m = record { class = m .class; instruction = m .instruction; long = m .long; size = length (bodyBytes (m .body)) }
 
 with-on : (c i : ℕ) (s : List ℕ) (l : BodyLength) → l .value ≤ 4096 → headerSize (l .long) + l .value ≤ length s

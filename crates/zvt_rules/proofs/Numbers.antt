@@ -165,8 +165,5 @@ small-number : {A : Type 0} {x : Reading A} (f : Fault) → Small x → x ≡ re
 small-number f (is a) e = absurd (got-not-refused e)
 small-number f (no g l) e = let same : g .number ≡ f .number = cc in rw same at (between (g .number) 10 .0 l)
 
-pub header-numbers : (s : List ℕ) (f : Fault) → wholeHeader s ≡ refused f → (1 ≤ f .number) × (f .number ≤ 10)
-header-numbers s f e = small-number f (whole-small s) e
-
 pub read-numbers : (s : List ℕ) (f : Fault) → readOf s ≡ refused f → (1 ≤ f .number) × (f .number ≤ 10)
 read-numbers s f e = small-number f (read-small s) e

@@ -75,5 +75,6 @@ asShortenAnswer (refused f) = short-refused (refusalOf f)
 unfoldable pub shortenAnswer : ℕ → List ℕ → ShortenAnswer
 shortenAnswer room s = asShortenAnswer (shortened room s)
 
+-- M12: "Only opening, replying and shortening write messages."
 unfoldable pub shortenLeaves : List ℕ → List ℕ → List ℕ
 shortenLeaves s out = writtenLeaves (shortened (length out) s) out

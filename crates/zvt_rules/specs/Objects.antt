@@ -70,7 +70,8 @@ from h = h .tag + formSize (h .form)
 abbrev pub to : Head → ℕ
 to h = from h + h .value
 
--- R43: "value 1". O13: "Tag, length and value end within the nearest run or container around them."
+-- R43: "value 1". O13: "Tag, length and value end within the nearest run or container around them." R44: "What runs past the nearest
+-- run or container (O13) is 1, also where more bytes follow that.": s ends where that does
 unfoldable pub headWith : ℕ → List ℕ → ℕ → Len → Reading Head
 headWith at s tag l =
     unless (ltb (length s) (tag + formSize (l .form) + l .value)) (no 1 (at + length s))

@@ -3,11 +3,8 @@ use borrow.Author.Needs.{needs}
 use Rattle.desk_rules.proofs.Lane.waiting.Statement.{statement}
 use Rattle.desk_rules.proofs.Lane.waiting.Tie as tie
 
-nothing-told-requires : tie.Need-nothing-told-requires
-nothing-told-requires c κs = search needs
-
 returns : tie.Need-returns
 returns c = rw (c .nothing-told .ensures)
 
 pub waiting-spec : {M : Type 1} → statement M
-waiting-spec = tie.close (tie.spec nothing-told-requires returns)
+waiting-spec = tie.close (tie.spec (λ c κs. search needs) returns)

@@ -20,13 +20,13 @@ abbrev μ-loop : tie.MeasureT-loop
 μ-loop s at seen₀ i₀ objects₀ spare₀ seen i objects spare = length s - i
 
 -- where a field is read, and how the function began
-abbrev Turn : Type 0
-Turn = tie.After-read-field-arg Inv-loop μ-loop
+abbrev AtField : Type 0
+AtField = tie.After-read-field-arg Inv-loop μ-loop
 
-abbrev begun : Turn → tie.Start Inv-loop μ-loop
+abbrev begun : AtField → tie.Start Inv-loop μ-loop
 begun c = c .before .before .before .before .before
 
-id-byte : (c : Turn) → getD (begun c .args .s .now) (c .before .before .before .loop .i) 0 < 256
+id-byte : (c : AtField) → getD (begun c .args .s .now) (c .before .before .before .loop .i) 0 < 256
 id-byte c = omega (arith, c .before .shared-slice-known2 .given (c .before .before .before .loop .i))
 
 -- what the field that was read says of the list
