@@ -1,11 +1,7 @@
 // Scripts of calls that drive a desk with its tape: played, one answer for each line, or checked against the answers beside them.
-mod answers;
 pub mod cases;
-mod notation;
-mod orders;
 mod plain;
 mod turns;
-mod words;
 
 use buffers::upto;
 use libc::STDOUT_FILENO;

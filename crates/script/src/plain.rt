@@ -1,16 +1,16 @@
 // Lines that leave the desk alone: what the reader, the lister and the blocks of a tape answer.
-use crate::answers;
-use crate::answers::BLANK;
-use crate::answers::bytes_line;
-use crate::orders::Order;
-use crate::orders::Script;
-use crate::orders::What;
 use buffers::add;
 use buffers::add_all;
 use buffers::add_decimal;
 use buffers::add_hex;
 use buffers::upto;
 use desk_rules::Reply;
+use script_text::answers;
+use script_text::answers::BLANK;
+use script_text::answers::bytes_line;
+use script_text::orders::Order;
+use script_text::orders::Script;
+use script_text::orders::What;
 use std::num::wrapping_add_u64;
 use tape_rules::Block;
 use tape_rules::BlockAnswer;

@@ -1,9 +1,4 @@
 // What a line does to a desk with its tape, and its answer.
-use crate::answers;
-use crate::orders;
-use crate::orders::Order;
-use crate::orders::Script;
-use crate::orders::What;
 use crate::plain;
 use crate::plain::BYTE;
 use crate::plain::SHORT;
@@ -17,6 +12,11 @@ use desk_rules::LaneAnswer;
 use desk_rules::LineAnswer;
 use desk_rules::Opening;
 use desk_rules::Reply;
+use script_text::answers;
+use script_text::orders;
+use script_text::orders::Order;
+use script_text::orders::Script;
+use script_text::orders::What;
 use tape_rules::Taped;
 use tape_rules::TapedAnswer;
 ghost use Rattle.desk_rules.specs.Memory.{Valid};
