@@ -15,6 +15,7 @@ use std::num::wrapping_add_u64;
 ghost use Prim.Native.Nat.{_<_, _≤_};
 ghost use lib.ListN.{length};
 ghost use Rattle.desk_rules.specs.Memory.{Valid};
+ghost use Rattle.io.specs.Counts.{Counts};
 
 // How many answers a file of cases has, and how many of them differ.
 pub struct Tally {
@@ -118,20 +119,35 @@ fn next_of(from: usize, s: &[u8], count: usize, added: &[u8], want: &mut [u8]) -
     }
 }
 
-// The line s of a case that goes on; behind the end of a case, which is a blank line, a fresh desk.
+// The line s in full, as text: how long it is, with the first count bytes of those added.
+fn full_line(s: &[u8], count: usize, added: &[u8], full: &mut [u8]) -> usize
+    ensures { λ r. ⌜ Counts r (now (full .exit)) ⌝ }
+{
+    let n = upto(count, added);
+    let size = add_expanded(s, &added[..n], 0, full);
+    upto(size, full)
+}
+
+// The line s of a case that goes on.
 fn played(turn: Turn, s: &[u8], payload: &mut [u8], added: &mut [u8], out: &mut [u8]) -> Turn
+    requires { ⌜ Valid (turn .taped .desk) ⌝ }
+    ensures { λ r. ⌜ Valid (r .taped .desk) ⌝ }
+{
+    let mut full = [0u8; LINE];
+    let at = turn.at;
+    let n = full_line(s, at.added, added, &mut full);
+    turns::line(turn, &full[..n], payload, added, out)
+}
+
+// The next line of a file. One that is blank ends a case, and behind it stands a fresh desk.
+fn passed(turn: Turn, s: &[u8], payload: &mut [u8], added: &mut [u8], out: &mut [u8]) -> Turn
     requires { ⌜ Valid (turn .taped .desk) ⌝ }
     ensures { λ r. ⌜ Valid (r .taped .desk) ⌝ }
 {
     if s.len() == 0 {
         return turns::fresh(true);
     }
-    let mut full = [0u8; LINE];
-    let at = turn.at;
-    let n = upto(at.added, added);
-    let size = add_expanded(s, &added[..n], 0, &mut full);
-    let m = upto(size, &full);
-    turns::line(turn, &full[..m], payload, added, out)
+    played(turn, s, payload, added, out)
 }
 
 // An answer is compared with what the file has for it, counted, and told where it differs.
@@ -184,7 +200,7 @@ fn check_in(
         let at = turn.at;
         let e = next_of(from, s, at.added, added, want);
         let end = e.end;
-        turn = played(turn, &s[from..end], payload, added, text);
+        turn = passed(turn, &s[from..end], payload, added, text);
         let spot = Spot {
             number,
             size: turn.size,

@@ -11,7 +11,6 @@ use script_text::answers::bytes_line;
 use script_text::orders::Order;
 use script_text::orders::Script;
 use script_text::orders::What;
-use std::num::wrapping_add_u64;
 use tape_rules::Block;
 use tape_rules::BlockAnswer;
 use zvt_rules::FieldAnswer;
@@ -344,13 +343,6 @@ fn asked_of(o: Order, room: usize, bytes: &mut [u8], out: &mut [u8]) -> usize
         What::Each | What::Damage | What::DamageLast => change(o, &mut bytes[..size], out),
         _ => reading_in(o, bytes, out),
     }
-}
-
-// One line more.
-pub(crate) fn begun(at: Script) -> Script {
-    let mut after = at;
-    after.number = wrapping_add_u64(at.number, 1);
-    after
 }
 
 // A line that is not understood ends the script.

@@ -17,6 +17,7 @@ use script_text::orders;
 use script_text::orders::Order;
 use script_text::orders::Script;
 use script_text::orders::What;
+use std::num::wrapping_add_u64;
 use tape_rules::Taped;
 use tape_rules::TapedAnswer;
 ghost use Prim.Native.Nat.{_≤_};
@@ -163,6 +164,31 @@ fn call(turn: Turn, o: Order, s: &[u8], payload: &mut [u8], out: &mut [u8]) -> T
     }
 }
 
+// A question about the desk, which leaves all as it is.
+fn asked(turn: Turn, what: What, payload: &[u8], out: &mut [u8]) -> Turn
+    requires { ⌜ Valid (turn .taped .desk) ⌝ }
+    ensures { λ r. ⌜ Valid (r .taped .desk) ⌝ }
+{
+    let mut after = turn;
+    after.size = question(turn.taped, what, payload, out);
+    after
+}
+
+// A line that leaves the desk alone.
+fn aside(turn: Turn, o: Order, bytes: &mut [u8], added: &mut [u8], out: &mut [u8]) -> Turn
+    requires { ⌜ Valid (turn .taped .desk) × (o .size ≤ o .end) × (o .end ≤ length (now bytes)) ⌝ }
+    ensures { λ r. ⌜ Valid (r .taped .desk) ⌝ }
+{
+    let said = plain::answered(turn.at, o, bytes, added, out);
+    let taped = turn.taped;
+    let at = said.at;
+    Turn {
+        taped,
+        at,
+        size: said.size,
+    }
+}
+
 // What a line with this order does; its bytes stand at the start of bytes.
 fn done(
     turn: Turn,
@@ -177,25 +203,11 @@ fn done(
 {
     let what = o.what;
     let size = o.size;
-    let taped = turn.taped;
-    let at = turn.at;
     match what {
         What::Close | What::Sale | What::Refund | What::Reversal | What::Terminal | What::Lost =>
             call(turn, o, &bytes[..size], payload, out),
-        What::Book | What::Lanes | What::Net | What::Tape => Turn {
-            taped,
-            at,
-            size: question(taped, what, payload, out),
-        },
-        _ => {
-            let said = plain::answered(at, o, bytes, added, out);
-            let after = said.at;
-            Turn {
-                taped,
-                at: after,
-                size: said.size,
-            }
-        }
+        What::Book | What::Lanes | What::Net | What::Tape => asked(turn, what, payload, out),
+        _ => aside(turn, o, bytes, added, out),
     }
 }
 
@@ -211,9 +223,9 @@ pub(crate) fn line(
     ensures { λ r. ⌜ Valid (r .taped .desk) ⌝ }
 {
     let mut bytes = [0u8; BYTES];
-    let at = plain::begun(turn.at);
-    let o = orders::order_of(at, s, &mut bytes);
-    let taped = turn.taped;
-    let begun = Turn { taped, at, size: 0 };
+    let number = wrapping_add_u64(turn.at.number, 1);
+    let mut begun = turn;
+    begun.at.number = number;
+    let o = orders::order_of(begun.at, s, &mut bytes);
     done(begun, o, &mut bytes, payload, added, out)
 }
