@@ -31,7 +31,7 @@ struct Wanted {
 }
 
 // The next line of a file: where it ends, how long the text of the answer is that the file has for it, where the line behind that answer
-// begins, and how many lines of the file that is on.
+// begins, and on how many lines of the file both stand.
 struct Entry {
     end: usize,
     due: usize,
@@ -73,7 +73,7 @@ fn add_expanded(s: &[u8], bytes: &[u8], at: usize, out: &mut [u8]) -> usize {
     to
 }
 
-// The lines of s from there on that begin with `= `, as text.
+// The lines of s from at on that begin with `= `, as text.
 fn wants(at: usize, s: &[u8], bytes: &[u8], out: &mut [u8]) -> Wanted
     requires { ⌜ at ≤ length (now s) ⌝ }
     ensures { λ r. ⌜ (at ≤ r .end) × (r .end ≤ length (now (s .entry))) ⌝ }
@@ -103,7 +103,7 @@ fn wants(at: usize, s: &[u8], bytes: &[u8], out: &mut [u8]) -> Wanted
     }
 }
 
-// The line of s that begins there, and its answer behind it, as text, with the first count bytes of those added.
+// The line of s that begins at from; its answer behind it goes to want as text, with the first count bytes of those added.
 fn next_of(from: usize, s: &[u8], count: usize, added: &[u8], want: &mut [u8]) -> Entry
     requires { ⌜ from < length (now s) ⌝ }
     ensures { λ r. ⌜ (from ≤ r .end) × (r .end ≤ length (now (s .entry))) × (from < r .next) × (r .next ≤ length (now (s .entry))) ⌝ }
@@ -119,7 +119,7 @@ fn next_of(from: usize, s: &[u8], count: usize, added: &[u8], want: &mut [u8]) -
     }
 }
 
-// The line s in full, as text: how long it is, with the first count bytes of those added.
+// The line s in full, as text with the first count bytes of those added: how long it is.
 fn full_line(s: &[u8], count: usize, added: &[u8], full: &mut [u8]) -> usize
     ensures { λ r. ⌜ Counts r (now (full .exit)) ⌝ }
 {
