@@ -1,5 +1,6 @@
 // Files of cases: script lines, each with its answer behind it on lines that begin with `= `. A blank line ends a case, and the next
 // one starts with a fresh desk. The word `added`, in a line or in an answer, stands for the bytes that the lines `add` put together.
+use crate::behind;
 use crate::turns;
 use crate::turns::BYTES;
 use crate::turns::TEXT;
@@ -14,6 +15,7 @@ use std::num::wrapping_add_u64;
 ghost use Prim.Native.Nat.{_<_, _≤_};
 ghost use lib.ListN.{length};
 ghost use Rattle.desk_rules.specs.Memory.{Valid};
+ghost use Rattle.io.specs.Counts.{Counts};
 
 // How many answers a file of cases has, and how many of them differ.
 pub struct Tally {
@@ -21,20 +23,19 @@ pub struct Tally {
     pub differ: u64,
 }
 
-// The answer that a file has for a line: how many bytes of the file it takes, on how many lines, and how long its text is.
+// The answer that a file has for a line: where it ends in the file, on how many lines it stands, and how long its text is.
 struct Wanted {
-    used: usize,
+    end: usize,
     lines: u64,
     size: usize,
 }
 
-// The next line of a file: whether it is blank and ends a case, how long its text is and that of the answer that the file has for it, and
-// how many bytes and lines of the file both take.
+// The next line of a file: where it ends, how long the text of the answer is that the file has for it, where the line behind that answer
+// begins, and on how many lines of the file both stand.
 struct Entry {
-    blank: bool,
-    size: usize,
+    end: usize,
     due: usize,
-    used: usize,
+    next: usize,
     lines: u64,
 }
 
@@ -72,18 +73,19 @@ fn add_expanded(s: &[u8], bytes: &[u8], at: usize, out: &mut [u8]) -> usize {
     to
 }
 
-// The lines at the start of s that begin with `= `, as text.
-fn wants(s: &[u8], bytes: &[u8], out: &mut [u8]) -> Wanted
-    ensures { λ r. ⌜ r .used ≤ length (now (s .entry)) ⌝ }
+// The lines of s from at on that begin with `= `, as text.
+fn wants(at: usize, s: &[u8], bytes: &[u8], out: &mut [u8]) -> Wanted
+    requires { ⌜ at ≤ length (now s) ⌝ }
+    ensures { λ r. ⌜ (at ≤ r .end) × (r .end ≤ length (now (s .entry))) ⌝ }
 {
     let mut size: usize = 0;
     let mut lines: u64 = 0;
-    let mut from: usize = 0;
+    let mut from = at;
     while from < s.len() {
         let end = bytes::scan::find(s, from, s.len(), b'\n');
         if end - from < 2 || s[from] != b'=' {
             return Wanted {
-                used: from,
+                end: from,
                 lines,
                 size,
             };
@@ -92,69 +94,60 @@ fn wants(s: &[u8], bytes: &[u8], out: &mut [u8]) -> Wanted
         size = add_expanded(&s[start..end], bytes, size, out);
         size = add(b'\n', size, out);
         lines = wrapping_add_u64(lines, 1);
-        if end == s.len() {
-            return Wanted {
-                used: end,
-                lines,
-                size,
-            };
-        }
-        from = end + 1;
+        from = behind(end, s);
     }
     Wanted {
-        used: from,
+        end: from,
         lines,
         size,
     }
 }
 
-// Where the line behind one begins that ends there.
-fn behind(end: usize, s: &[u8]) -> usize
-    requires { ⌜ (end ≤ length (now s)) × (0 < length (now s)) ⌝ }
-    ensures { λ r. ⌜ (0 < r) × (r ≤ length (now (s .entry))) ⌝ }
-{
-    if end == s.len() {
-        return end;
-    }
-    end + 1
-}
-
-// The line that the rest of a file begins with, and its answer behind it, as text, with the first count bytes of those added.
-fn next_of(rest: &[u8], count: usize, added: &[u8], full: &mut [u8], want: &mut [u8]) -> Entry
-    requires { ⌜ 0 < length (now rest) ⌝ }
-    ensures { λ r. ⌜ (0 < r .used) × (r .used ≤ length (now (rest .entry))) ⌝ }
+// The line of s that begins at from; its answer behind it goes to want as text, with the first count bytes of those added.
+fn next_of(from: usize, s: &[u8], count: usize, added: &[u8], want: &mut [u8]) -> Entry
+    requires { ⌜ from < length (now s) ⌝ }
+    ensures { λ r. ⌜ (from ≤ r .end) × (r .end ≤ length (now (s .entry))) × (from < r .next) × (r .next ≤ length (now (s .entry))) ⌝ }
 {
     let n = upto(count, added);
-    let end = bytes::scan::find(rest, 0, rest.len(), b'\n');
-    let start = behind(end, rest);
-    let size = add_expanded(&rest[..end], &added[..n], 0, full);
-    let w = wants(&rest[start..], &added[..n], want);
+    let end = bytes::scan::find(s, from, s.len(), b'\n');
+    let w = wants(behind(end, s), s, &added[..n], want);
     Entry {
-        blank: end == 0,
-        size,
+        end,
         due: w.size,
-        used: start + w.used,
+        next: w.end,
         lines: wrapping_add_u64(w.lines, 1),
     }
 }
 
-// The line of a case that goes on; a fresh desk behind its end.
-fn played(
-    turn: Turn,
-    e: Entry,
-    full: &[u8],
-    payload: &mut [u8],
-    added: &mut [u8],
-    out: &mut [u8],
-) -> Turn
+// The line s in full, as text with the first count bytes of those added: how long it is.
+fn full_line(s: &[u8], count: usize, added: &[u8], full: &mut [u8]) -> usize
+    ensures { λ r. ⌜ Counts r (now (full .exit)) ⌝ }
+{
+    let n = upto(count, added);
+    let size = add_expanded(s, &added[..n], 0, full);
+    upto(size, full)
+}
+
+// The line s of a case that goes on.
+fn played(turn: Turn, s: &[u8], payload: &mut [u8], added: &mut [u8], out: &mut [u8]) -> Turn
     requires { ⌜ Valid (turn .taped .desk) ⌝ }
     ensures { λ r. ⌜ Valid (r .taped .desk) ⌝ }
 {
-    if e.blank {
+    let mut full = [0u8; LINE];
+    let at = turn.at;
+    let n = full_line(s, at.added, added, &mut full);
+    turns::line(turn, &full[..n], payload, added, out)
+}
+
+// The next line of a file. One that is blank ends a case, and behind it stands a fresh desk.
+fn passed(turn: Turn, s: &[u8], payload: &mut [u8], added: &mut [u8], out: &mut [u8]) -> Turn
+    requires { ⌜ Valid (turn .taped .desk) ⌝ }
+    ensures { λ r. ⌜ Valid (r .taped .desk) ⌝ }
+{
+    if s.len() == 0 {
         return turns::fresh(true);
     }
-    let n = upto(e.size, full);
-    turns::line(turn, &full[..n], payload, added, out)
+    played(turn, s, payload, added, out)
 }
 
 // An answer is compared with what the file has for it, counted, and told where it differs.
@@ -182,9 +175,20 @@ fn told(tally: Tally, name: &[u8], spot: Spot, text: &[u8], want: &[u8]) -> Tall
 pub fn check(name: &[u8], s: &[u8]) -> Tally {
     let mut payload = [0u8; turns::PAYLOAD];
     let mut added = [0u8; BYTES];
-    let mut full = [0u8; LINE];
     let mut want = [0u8; TEXT];
     let mut text = [0u8; TEXT];
+    check_in(name, s, &mut payload, &mut added, &mut want, &mut text)
+}
+
+// The same with buffers for the tape's payload, for the bytes added, and for the text of an answer as it should be and as it is.
+fn check_in(
+    name: &[u8],
+    s: &[u8],
+    payload: &mut [u8],
+    added: &mut [u8],
+    want: &mut [u8],
+    text: &mut [u8],
+) -> Tally {
     let mut turn = turns::fresh(true);
     let mut tally = Tally {
         answers: 0,
@@ -194,16 +198,17 @@ pub fn check(name: &[u8], s: &[u8]) -> Tally {
     let mut from: usize = 0;
     while from < s.len() {
         let at = turn.at;
-        let e = next_of(&s[from..], at.added, &added, &mut full, &mut want);
-        turn = played(turn, e, &full, &mut payload, &mut added, &mut text);
+        let e = next_of(from, s, at.added, added, want);
+        let end = e.end;
+        turn = passed(turn, &s[from..end], payload, added, text);
         let spot = Spot {
             number,
             size: turn.size,
             due: e.due,
         };
-        tally = told(tally, name, spot, &text, &want);
+        tally = told(tally, name, spot, text, want);
         number = wrapping_add_u64(number, e.lines);
-        from += e.used;
+        from = e.next;
     }
     tally
 }

@@ -1,17 +1,27 @@
 // Scripts of calls that drive a desk with its tape: played, one answer for each line, or checked against the answers beside them.
-mod answers;
 pub mod cases;
-mod notation;
-mod orders;
 mod plain;
 mod turns;
-mod words;
 
 use buffers::upto;
 use libc::STDOUT_FILENO;
+ghost use mathlib.Core.Path.{_≡_};
+ghost use Prim.Native.Nat.{_+_, _≤_, min};
+ghost use lib.ListN.{length};
 
 // The most bytes of a script.
 pub const LIMIT: usize = 65536;
+
+// Where the line behind one begins that ends there.
+pub(crate) fn behind(end: usize, s: &[u8]) -> usize
+    requires { ⌜ end ≤ length (now s) ⌝ }
+    ensures { λ r. ⌜ r ≡ min (end + 1) (length (now (s .entry))) ⌝ }
+{
+    if end == s.len() {
+        return end;
+    }
+    end + 1
+}
 
 // The answers to a script go to standard output. No contract can say what is written there.
 pub fn play(script: &[u8]) {
@@ -22,16 +32,18 @@ pub fn play(script: &[u8]) {
     let mut payload = [0u8; turns::PAYLOAD];
     let mut added = [0u8; 1];
     let mut text = [0u8; turns::TEXT];
+    play_in(script, &mut payload, &mut added, &mut text);
+}
+
+// The same with buffers for the tape's payload, for added bytes and for the text of an answer.
+fn play_in(script: &[u8], payload: &mut [u8], added: &mut [u8], text: &mut [u8]) {
     let mut turn = turns::fresh(false);
     let mut from: usize = 0;
     while from < script.len() {
         let to = bytes::scan::find(script, from, script.len(), b'\n');
-        turn = turns::line(turn, &script[from..to], &mut payload, &mut added, &mut text);
-        let end = upto(turn.size, &text);
+        turn = turns::line(turn, &script[from..to], payload, added, text);
+        let end = upto(turn.size, text);
         io::write_all(STDOUT_FILENO, &text[..end]);
-        if to == script.len() {
-            return;
-        }
-        from = to + 1;
+        from = behind(to, script);
     }
 }

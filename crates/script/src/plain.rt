@@ -1,17 +1,16 @@
 // Lines that leave the desk alone: what the reader, the lister and the blocks of a tape answer.
-use crate::answers;
-use crate::answers::BLANK;
-use crate::answers::bytes_line;
-use crate::orders::Order;
-use crate::orders::Script;
-use crate::orders::What;
 use buffers::add;
 use buffers::add_all;
 use buffers::add_decimal;
 use buffers::add_hex;
 use buffers::upto;
 use desk_rules::Reply;
-use std::num::wrapping_add_u64;
+use script_text::answers;
+use script_text::answers::BLANK;
+use script_text::answers::bytes_line;
+use script_text::orders::Order;
+use script_text::orders::Script;
+use script_text::orders::What;
 use tape_rules::Block;
 use tape_rules::BlockAnswer;
 use zvt_rules::FieldAnswer;
@@ -96,7 +95,11 @@ fn field(k: usize, s: &[u8], out: &mut [u8]) -> usize {
     }
 }
 
-fn judged(s: &[u8]) -> Verdict {
+// What reading s comes to with that value for its byte at place.
+fn judged_with(value: u8, place: usize, s: &mut [u8]) -> Verdict
+    requires { ⌜ place < length (now s) ⌝ }
+{
+    s[place] = value;
     match zvt::read(s) {
         ReadAnswer::Refused(f) => Verdict::Refused(f.number),
         ReadAnswer::Accepted(_) => Verdict::Accepted,
@@ -145,13 +148,11 @@ fn each(place: usize, s: &mut [u8], out: &mut [u8]) -> usize {
     let mut to: usize = 0;
     let mut first: u8 = 0;
     let mut value: u8 = 0;
-    s[place] = 0;
-    let mut v = judged(s);
+    let mut v = judged_with(0, place, s);
     while value < 255 {
         let last = value;
         value += 1;
-        s[place] = value;
-        let next = judged(s);
+        let next = judged_with(value, place, s);
         if !agree(v, next) {
             to = add_range(first, last, v, to, out);
             to = add(b' ', to, out);
@@ -232,20 +233,21 @@ pub(crate) fn cut(n: u64, greatest: u64) -> u64
     if greatest < n { greatest } else { n }
 }
 
-// What is read, and nothing changed; or the digits of a number.
-fn reading<'a>(o: Order, s: &'a [u8], own: &'a [u8], out: &mut [u8]) -> usize {
+// The block that is due, by its number: the last of its tape, or one before the last.
+fn due_of(o: Order) -> Block {
+    let what = o.what;
+    let number = cut(o.first, WORD) as u32;
+    match what {
+        What::LastBlock | What::DamageLast => Block::at_end(number),
+        _ => Block::before_last(number),
+    }
+}
+
+// The digits of a number, as a command has them.
+fn digits(o: Order, out: &mut [u8]) -> usize {
     let what = o.what;
     let n = o.first;
     match what {
-        What::Read => read(s, out),
-        What::Name => bytes_line(zvt::card_name(s, own), out),
-        What::Header => header(s, out),
-        What::First => first(s, out),
-        What::Status => answers::add_status(zvt::read_status(s), 0, out),
-        What::Field => field(n as usize, s, out),
-        What::List => listing::list(s, out),
-        What::Block => block(Block::before_last(cut(n, WORD) as u32), s, out),
-        What::LastBlock => block(Block::at_end(cut(n, WORD) as u32), s, out),
         What::Amount => bytes_line(&zvt::amount_bytes(n), out),
         What::Password => bytes_line(&zvt::password_bytes(cut(n, WORD) as u32), out),
         What::Receipt => bytes_line(&zvt::receipt_bytes(cut(n, SHORT) as u16), out),
@@ -253,12 +255,31 @@ fn reading<'a>(o: Order, s: &'a [u8], own: &'a [u8], out: &mut [u8]) -> usize {
     }
 }
 
+// What is read of bytes, and nothing changed; or the digits of a number.
+fn reading(o: Order, s: &[u8], out: &mut [u8]) -> usize {
+    let what = o.what;
+    match what {
+        What::Read => read(s, out),
+        What::Header => header(s, out),
+        What::First => first(s, out),
+        What::Status => answers::add_status(zvt::read_status(s), 0, out),
+        What::Field => field(o.first as usize, s, out),
+        What::List => listing::list(s, out),
+        What::Block | What::LastBlock => block(due_of(o), s, out),
+        _ => digits(o, out),
+    }
+}
+
 fn reading_in(o: Order, bytes: &[u8], out: &mut [u8]) -> usize
     requires { ⌜ (o .size ≤ o .end) × (o .end ≤ length (now bytes)) ⌝ }
 {
+    let what = o.what;
     let size = o.size;
     let end = o.end;
-    reading(o, &bytes[..size], &bytes[size..end], out)
+    if let What::Name = what {
+        return bytes_line(zvt::card_name(&bytes[..size], &bytes[size..end]), out);
+    }
+    reading(o, &bytes[..size], out)
 }
 
 fn shorten(s: &[u8], lent: &mut [u8]) -> Reply {
@@ -287,12 +308,10 @@ fn writing(o: Order, s: &[u8], lent: &mut [u8], out: &mut [u8]) -> usize {
 // Bytes that are read with every value for the byte at a place, or a block with every change of a digit.
 fn change(o: Order, s: &mut [u8], out: &mut [u8]) -> usize {
     let what = o.what;
-    let n = o.first;
-    match what {
-        What::Each => each(n as usize, s, out),
-        What::Damage => damage(Block::before_last(cut(n, WORD) as u32), s, out),
-        _ => damage(Block::at_end(cut(n, WORD) as u32), s, out),
+    if let What::Each = what {
+        return each(o.first as usize, s, out);
     }
+    damage(due_of(o), s, out)
 }
 
 // So many times the bytes s, behind the first at bytes of out.
@@ -326,13 +345,6 @@ fn asked_of(o: Order, room: usize, bytes: &mut [u8], out: &mut [u8]) -> usize
     }
 }
 
-// One line more.
-pub(crate) fn begun(at: Script) -> Script {
-    let mut after = at;
-    after.number = wrapping_add_u64(at.number, 1);
-    after
-}
-
 // A line that is not understood ends the script.
 fn ended(at: Script, out: &mut [u8]) -> Said {
     let mut after = at;
@@ -340,6 +352,29 @@ fn ended(at: Script, out: &mut [u8]) -> Said {
     Said {
         at: after,
         size: answers::not_understood(at.number, out),
+    }
+}
+
+// So many bytes are lent from now on, if there are that many.
+fn roomed(at: Script, room: u64, out: &mut [u8]) -> Said {
+    if (Script::ROOM as u64) < room {
+        return ended(at, out);
+    }
+    let mut after = at;
+    after.room = room as usize;
+    Said {
+        at: after,
+        size: add_all(b"ok\n", 0, out),
+    }
+}
+
+// So many times the bytes s are added.
+fn extended(at: Script, s: &[u8], times: u64, added: &mut [u8], out: &mut [u8]) -> Said {
+    let mut after = at;
+    after.added = repeated(s, times, at.added, added);
+    Said {
+        at: after,
+        size: answers::counted(b"bytes", after.added as u64, 0, out),
     }
 }
 
@@ -353,29 +388,12 @@ pub(crate) fn answered(
 ) -> Said
     requires { ⌜ (o .size ≤ o .end) × (o .end ≤ length (now bytes)) ⌝ }
 {
-    let mut after = at;
     let what = o.what;
     let size = o.size;
     match what {
         What::Bad => ended(at, out),
-        What::Room => {
-            if (Script::ROOM as u64) < o.first {
-                return ended(at, out);
-            }
-            after.room = o.first as usize;
-            Said {
-                at: after,
-                size: add_all(b"ok\n", 0, out),
-            }
-        }
-        What::Add => {
-            let end = repeated(&bytes[..size], o.first, at.added, added);
-            after.added = end;
-            Said {
-                at: after,
-                size: answers::counted(b"bytes", end as u64, 0, out),
-            }
-        }
+        What::Room => roomed(at, o.first, out),
+        What::Add => extended(at, &bytes[..size], o.first, added, out),
         _ => Said {
             at,
             size: asked_of(o, at.room, bytes, out),

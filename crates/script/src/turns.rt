@@ -1,9 +1,4 @@
 // What a line does to a desk with its tape, and its answer.
-use crate::answers;
-use crate::orders;
-use crate::orders::Order;
-use crate::orders::Script;
-use crate::orders::What;
 use crate::plain;
 use crate::plain::BYTE;
 use crate::plain::SHORT;
@@ -17,8 +12,16 @@ use desk_rules::LaneAnswer;
 use desk_rules::LineAnswer;
 use desk_rules::Opening;
 use desk_rules::Reply;
+use script_text::answers;
+use script_text::orders;
+use script_text::orders::Order;
+use script_text::orders::Script;
+use script_text::orders::What;
+use std::num::wrapping_add_u64;
 use tape_rules::Taped;
 use tape_rules::TapedAnswer;
+ghost use Prim.Native.Nat.{_≤_};
+ghost use lib.ListN.{length};
 ghost use Rattle.desk_rules.specs.Memory.{Valid};
 
 // The day's payload, more than a script can fill; and its blocks, 261.
@@ -37,18 +40,6 @@ pub(crate) struct Turn {
     pub(crate) taped: Taped,
     pub(crate) at: Script,
     pub(crate) size: usize,
-}
-
-struct Numbers {
-    lane: u8,
-    password: u32,
-    receipt: u16,
-}
-
-// What a call leaves, and how long the text of its answer is.
-struct Called {
-    taped: Taped,
-    size: usize,
 }
 
 // A fresh desk, and a script that has not begun.
@@ -102,15 +93,21 @@ fn lanes(desk: Desk, out: &mut [u8]) -> usize
 fn tape_of(used: usize, payload: &[u8], out: &mut [u8]) -> usize {
     let mut blocks = [0u8; TAPE];
     let n = upto(used, payload);
-    match tape::write_tape(&payload[..n], &mut blocks) {
+    tape_in(&mut blocks, &payload[..n], out)
+}
+
+// The blocks of a payload, written into a buffer for them.
+fn tape_in(blocks: &mut [u8], payload: &[u8], out: &mut [u8]) -> usize {
+    match tape::write_tape(payload, blocks) {
         Reply::Refused(r) => answers::refused(r.number, out),
         Reply::Written(size) => {
-            let end = upto(size, &blocks);
+            let end = upto(size, blocks);
             answers::tape(&blocks[..end], out)
         }
     }
 }
 
+// What is asked about the desk: the book, the lanes, the net turnover or the tape.
 fn question(taped: Taped, what: What, payload: &[u8], out: &mut [u8]) -> usize
     requires { ⌜ Valid (taped .desk) ⌝ }
 {
@@ -123,62 +120,94 @@ fn question(taped: Taped, what: What, payload: &[u8], out: &mut [u8]) -> usize
     }
 }
 
-// The numbers of a call. One over the width of its type is passed on as the greatest of that type: the desk refuses it.
-fn numbers_of(o: Order) -> Numbers {
-    Numbers {
-        lane: cut(o.first, BYTE) as u8,
-        password: cut(o.second, WORD) as u32,
-        receipt: cut(o.third, SHORT) as u16,
+// What a line opens. A number over the width of its type is passed on as the greatest of that type: the desk refuses it.
+fn opening_of(o: Order) -> Opening {
+    let what = o.what;
+    match what {
+        What::Sale => Opening::Sale(o.second),
+        What::Refund => Opening::Refund(cut(o.second, WORD) as u32, o.third),
+        _ => Opening::Reversal(cut(o.second, WORD) as u32, cut(o.third, SHORT) as u16),
     }
 }
 
-// The call itself, and its records.
+// The call itself, and its records. The lane is passed on as numbers of an opening are.
 fn made(taped: Taped, o: Order, s: &[u8], lent: &mut [u8], payload: &mut [u8]) -> TapedAnswer
     requires { ⌜ Valid (taped .desk) ⌝ }
     ensures { λ r. ⌜ Valid (r .taped .desk) ⌝ }
 {
     let what = o.what;
-    let n = numbers_of(o);
+    let lane = cut(o.first, BYTE) as u8;
     match what {
-        What::Sale => tape::open(taped, n.lane, Opening::Sale(o.second), lent, payload),
-        What::Refund => tape::open(
-            taped,
-            n.lane,
-            Opening::Refund(n.password, o.third),
-            lent,
-            payload,
-        ),
-        What::Reversal => tape::open(
-            taped,
-            n.lane,
-            Opening::Reversal(n.password, n.receipt),
-            lent,
-            payload,
-        ),
-        What::Terminal => tape::terminal(taped, n.lane, s, lent, payload),
-        What::Lost => tape::link_lost(taped, n.lane, payload),
-        _ => tape::close(taped),
+        What::Close => tape::close(taped),
+        What::Terminal => tape::terminal(taped, lane, s, lent, payload),
+        What::Lost => tape::link_lost(taped, lane, payload),
+        _ => tape::open(taped, lane, opening_of(o), lent, payload),
     }
 }
 
-// The call and its answer.
-fn call(
-    taped: Taped,
-    o: Order,
-    s: &[u8],
-    lent: &mut [u8],
-    payload: &mut [u8],
-    out: &mut [u8],
-) -> Called
-    requires { ⌜ Valid (taped .desk) ⌝ }
+// The call and its answer, with so much of the room lent as the script says.
+fn call(turn: Turn, o: Order, s: &[u8], payload: &mut [u8], out: &mut [u8]) -> Turn
+    requires { ⌜ Valid (turn .taped .desk) ⌝ }
     ensures { λ r. ⌜ Valid (r .taped .desk) ⌝ }
 {
-    let a = made(taped, o, s, lent, payload);
+    let mut lent = [answers::BLANK; Script::ROOM];
+    let at = turn.at;
+    let n = upto(at.room, &lent);
+    let part = &mut lent[..n];
+    let a = made(turn.taped, o, s, part, payload);
     let r = a.reply;
-    let after = a.taped;
-    Called {
-        taped: after,
-        size: answers::reply(r, lent, out),
+    let taped = a.taped;
+    Turn {
+        taped,
+        at,
+        size: answers::reply(r, part, out),
+    }
+}
+
+// A question about the desk, which leaves all as it is.
+fn asked(turn: Turn, what: What, payload: &[u8], out: &mut [u8]) -> Turn
+    requires { ⌜ Valid (turn .taped .desk) ⌝ }
+    ensures { λ r. ⌜ Valid (r .taped .desk) ⌝ }
+{
+    let mut after = turn;
+    after.size = question(turn.taped, what, payload, out);
+    after
+}
+
+// A line that leaves the desk alone.
+fn aside(turn: Turn, o: Order, bytes: &mut [u8], added: &mut [u8], out: &mut [u8]) -> Turn
+    requires { ⌜ Valid (turn .taped .desk) × (o .size ≤ o .end) × (o .end ≤ length (now bytes)) ⌝ }
+    ensures { λ r. ⌜ Valid (r .taped .desk) ⌝ }
+{
+    let said = plain::answered(turn.at, o, bytes, added, out);
+    let taped = turn.taped;
+    let at = said.at;
+    Turn {
+        taped,
+        at,
+        size: said.size,
+    }
+}
+
+// What a line with this order does; its bytes stand at the start of bytes.
+fn done(
+    turn: Turn,
+    o: Order,
+    bytes: &mut [u8],
+    payload: &mut [u8],
+    added: &mut [u8],
+    out: &mut [u8],
+) -> Turn
+    requires { ⌜ Valid (turn .taped .desk) × (o .size ≤ o .end) × (o .end ≤ length (now bytes)) ⌝ }
+    ensures { λ r. ⌜ Valid (r .taped .desk) ⌝ }
+{
+    let what = o.what;
+    let size = o.size;
+    match what {
+        What::Close | What::Sale | What::Refund | What::Reversal | What::Terminal | What::Lost =>
+            call(turn, o, &bytes[..size], payload, out),
+        What::Book | What::Lanes | What::Net | What::Tape => asked(turn, what, payload, out),
+        _ => aside(turn, o, bytes, added, out),
     }
 }
 
@@ -194,36 +223,9 @@ pub(crate) fn line(
     ensures { λ r. ⌜ Valid (r .taped .desk) ⌝ }
 {
     let mut bytes = [0u8; BYTES];
-    let at = plain::begun(turn.at);
-    let o = orders::order_of(at, s, &mut bytes);
-    let what = o.what;
-    let taped = turn.taped;
-    match what {
-        What::Close | What::Sale | What::Refund | What::Reversal | What::Terminal | What::Lost => {
-            let mut lent = [answers::BLANK; Script::ROOM];
-            let size = o.size;
-            let n = upto(at.room, &lent);
-            let a = call(taped, o, &bytes[..size], &mut lent[..n], payload, out);
-            let after = a.taped;
-            Turn {
-                taped: after,
-                at,
-                size: a.size,
-            }
-        }
-        What::Book | What::Lanes | What::Net | What::Tape => Turn {
-            taped,
-            at,
-            size: question(taped, what, payload, out),
-        },
-        _ => {
-            let said = plain::answered(at, o, &mut bytes, added, out);
-            let after = said.at;
-            Turn {
-                taped,
-                at: after,
-                size: said.size,
-            }
-        }
-    }
+    let number = wrapping_add_u64(turn.at.number, 1);
+    let mut begun = turn;
+    begun.at.number = number;
+    let o = orders::order_of(begun.at, s, &mut bytes);
+    done(begun, o, &mut bytes, payload, added, out)
 }

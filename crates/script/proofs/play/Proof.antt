@@ -1,33 +1,18 @@
--- The lines of a script. The loop's invariant: from lies in the script, the desk is valid, and the buffers keep their lengths. Assumes nothing.
+-- Each buffer has its length by a law: to count its bytes takes seconds. Assumes nothing.
 use lib.ListN.{length-replicate}
-use Prim.Native.Nat.{ℕ, _-_, _≤_}
-use lib.ListN.{length}
-use mathlib.Core.Path.{_≡_}
+use Prim.Native.Nat.{ℕ}
+use mathlib.Core.Path.{sym}
 use borrow.Author.Needs.{needs}
-use Rattle.desk_rules.specs.Memory.{Valid}
 use Rattle.script.proofs.play.Statement.{statement}
 use Rattle.script.proofs.play.Tie as tie
 
-abbrev Inv-loop : tie.InvT-loop
-Inv-loop script payload₀ added₀ text₀ turn₀ from₀ payload added text turn from =
-    (from ≤ length script) × (Valid (turn .taped .desk)) × (length payload ≡ 131072) × (length added ≡ 1) × (length text ≡ 458752)
+payload : tie.Need-slice-aggregate-play-in
+payload c = sym (length-replicate {A = ℕ} 131072 0)
 
-abbrev μ-loop : tie.MeasureT-loop
-μ-loop script payload₀ added₀ text₀ turn₀ from₀ payload added text turn from = length script - from
-
-loop-holds : tie.Need-loop-holds Inv-loop μ-loop
-loop-holds c =
-    (search needs, c .fresh .ensures, length-replicate {A = ℕ} 131072 0, length-replicate {A = ℕ} 1 0, length-replicate {A = ℕ} 458752 0)
-
-loop-again : tie.Need-loop-again Inv-loop μ-loop
-loop-again c =
-    (search needs, c .before .before .before .before .before .before .before .before .line .ensures, search needs, search needs, search needs)
+text : tie.Need-slice-aggregate-play-in-3
+text c = sym (length-replicate {A = ℕ} 458752 0)
 
 pub play-spec : {M : Type 1} → statement M
 play-spec =
     tie.close
-    (tie.spec Inv-loop μ-loop (λ c. search needs) (λ c κs. search needs) (λ c. search needs) (λ c κs. search needs)
-    loop-holds (λ c κs. search needs) (λ c. search needs) (λ c. search needs) (λ c. search needs) (λ c. search needs)
-    (λ c. search needs) (λ c. search needs) (λ c κs. search needs) (λ c. search needs) (λ c κs. search needs)
-    (λ c. search needs) (λ c. search needs) (λ c κs. search needs) (λ c. search needs) (λ c. search needs)
-    (λ c. search needs) loop-again (λ c. search needs))
+    (tie.spec (λ c. search needs) (λ c κs. search needs) (λ c. search needs) payload (λ c. search needs) text (λ c κs. search needs) (λ c. search needs))

@@ -1,7 +1,7 @@
 -- The bytes of a line lie in their buffer. Assumes nothing.
 use lib.Seq.{length-take-le}
-use mathlib.Core.Path.{sym}
 use lib.ListN.{length}
+use mathlib.Core.Path.{sym}
 use native.Mathlib.Omega.{arith}
 use borrow.Author.Needs.{needs}
 use Rattle.script.proofs.plain.asked_of.Statement.{statement}

@@ -1,21 +1,15 @@
--- Whatever a line asks for, it leaves a valid desk. Assumes nothing.
-use lib.Seq.{length-take-le}
+-- The buffer has its length by a law: to count its bytes takes long. Assumes nothing.
+use lib.ListN.{length-replicate}
+use Prim.Native.Nat.{ℕ}
 use mathlib.Core.Path.{sym}
-use lib.ListN.{length}
-use native.Mathlib.Omega.{arith}
 use borrow.Author.Needs.{needs}
 use Rattle.script.proofs.turns.line.Statement.{statement}
 use Rattle.script.proofs.turns.line.Tie as tie
 
-slice-aggregate-call : tie.Need-slice-aggregate-call
-slice-aggregate-call c =
-    sym (length-take-le _ _ (omega arith))
+bytes : tie.Need-slice-aggregate-order-of
+bytes c = sym (length-replicate {A = ℕ} 65537 0)
 
 pub line-spec : {M : Type 1} → statement M
 line-spec =
     tie.close
-    (tie.spec (λ c κs. search needs) (λ c. search needs) (λ c κs. search needs) (λ c. search needs)
-    (λ c κs. search needs) (λ c. search needs) slice-aggregate-call (λ c. search needs) (λ c. search needs)
-    (λ c κs. search needs) (λ c κs. search needs) (λ c. search needs) (λ c κs. search needs) (λ c. search needs)
-    (λ c. search needs) (λ c. search needs) (λ c. search needs) (λ c. search needs) (λ c. search needs)
-    (λ c. search needs) (λ c. search needs) (λ c. search needs))
+    (tie.spec (λ c κs. search needs) bytes (λ c κs. search needs) (λ c. search needs) (λ c κs. search needs) (λ c. search needs) (λ c. search needs) (λ c. search needs) (λ c. search needs))

@@ -2,8 +2,8 @@
 use Prim.Native.Nat.{_-_, _≤_}
 use lib.ListN.{length}
 use borrow.Author.Needs.{needs}
-use Rattle.script.proofs.answers.changed.Statement.{statement}
-use Rattle.script.proofs.answers.changed.Tie as tie
+use Rattle.script_text.proofs.answers.changed.Statement.{statement}
+use Rattle.script_text.proofs.answers.changed.Tie as tie
 
 abbrev Inv-loop : tie.InvT-loop
 Inv-loop n lent i₀ i =

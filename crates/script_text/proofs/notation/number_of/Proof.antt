@@ -2,8 +2,8 @@
 use Prim.Native.Nat.{_≤_, _-_}
 use borrow.Author.Needs.{needs}
 use lib.ListN.{length}
-use Rattle.script.proofs.notation.number_of.Statement.{statement}
-use Rattle.script.proofs.notation.number_of.Tie as tie
+use Rattle.script_text.proofs.notation.number_of.Statement.{statement}
+use Rattle.script_text.proofs.notation.number_of.Tie as tie
 
 abbrev Inv-loop : tie.InvT-loop
 Inv-loop w n₀ i₀ n i = i ≤ length w

@@ -22,23 +22,23 @@ ghost use mathlib.Core.Path.{_≡_};
 ghost use lib.IntN.{natAbs};
 
 // A number with a blank before it.
-pub(crate) fn add_number(n: u64, at: usize, out: &mut [u8]) -> usize {
+pub fn add_number(n: u64, at: usize, out: &mut [u8]) -> usize {
     let to = add(b' ', at, out);
     add_decimal(n, to, out)
 }
 
 // A word, a number, and the line's end.
-pub(crate) fn counted(name: &[u8], n: u64, at: usize, out: &mut [u8]) -> usize {
+pub fn counted(name: &[u8], n: u64, at: usize, out: &mut [u8]) -> usize {
     let mut to = add_all(name, at, out);
     to = add_number(n, to, out);
     add(b'\n', to, out)
 }
 
-pub(crate) fn refused(number: u8, out: &mut [u8]) -> usize {
+pub fn refused(number: u8, out: &mut [u8]) -> usize {
     counted(b"refused", number as u64, 0, out)
 }
 
-pub(crate) fn not_understood(line: u64, out: &mut [u8]) -> usize {
+pub fn not_understood(line: u64, out: &mut [u8]) -> usize {
     let mut to = add_all(b"line", 0, out);
     to = add_number(line, to, out);
     add_all(b" not understood\n", to, out)
@@ -57,7 +57,7 @@ fn magnitude(n: i64) -> u64
     n as u64
 }
 
-pub(crate) fn signed(n: i64, out: &mut [u8]) -> usize {
+pub fn signed(n: i64, out: &mut [u8]) -> usize {
     if n < 0 {
         let minus = add(b'-', 0, out);
         let to = add_decimal(magnitude(n), minus, out);
@@ -94,7 +94,7 @@ fn add_ending(outcome: Outcome, code: u8, at: usize, out: &mut [u8]) -> usize {
 }
 
 // A line of the book, with its number.
-pub(crate) fn add_line(number: u64, l: Line, at: usize, out: &mut [u8]) -> usize {
+pub fn add_line(number: u64, l: Line, at: usize, out: &mut [u8]) -> usize {
     let kind = l.kind;
     let outcome = l.outcome;
     let mut to = add_decimal(number, at, out);
@@ -106,7 +106,7 @@ pub(crate) fn add_line(number: u64, l: Line, at: usize, out: &mut [u8]) -> usize
 }
 
 // The blocks of a tape, a line of hex for each, and their count.
-pub(crate) fn tape(blocks: &[u8], out: &mut [u8]) -> usize {
+pub fn tape(blocks: &[u8], out: &mut [u8]) -> usize {
     let mut to: usize = 0;
     let mut at: usize = 0;
     while Block::SIZE <= blocks.len() - at {
@@ -140,7 +140,7 @@ fn add_receipt(r: ToldReceipt, at: usize, out: &mut [u8]) -> usize {
 }
 
 // What a status information told, and the line's end.
-pub(crate) fn add_status(s: Status, at: usize, out: &mut [u8]) -> usize {
+pub fn add_status(s: Status, at: usize, out: &mut [u8]) -> usize {
     let code = s.code;
     let amount = s.amount;
     let receipt = s.receipt;
@@ -176,7 +176,7 @@ fn add_payment(phase: &[u8], l: Lane, at: usize, out: &mut [u8]) -> usize {
 }
 
 // A lane, with its number.
-pub(crate) fn add_lane(lane: u8, l: Lane, at: usize, out: &mut [u8]) -> usize {
+pub fn add_lane(lane: u8, l: Lane, at: usize, out: &mut [u8]) -> usize {
     let p = l.phase;
     let status = l.status;
     let to = add_decimal(lane as u64, at, out);
@@ -195,7 +195,7 @@ pub(crate) fn add_lane(lane: u8, l: Lane, at: usize, out: &mut [u8]) -> usize {
 }
 
 // The message that s is, read as m.
-pub(crate) fn message(s: &[u8], m: Outline, out: &mut [u8]) -> usize {
+pub fn message(s: &[u8], m: Outline, out: &mut [u8]) -> usize {
     let mut to = add_hex(m.class, 0, out);
     to = add_hex(m.instruction, to, out);
     to = listing::add_size(m, to, out);
@@ -204,13 +204,13 @@ pub(crate) fn message(s: &[u8], m: Outline, out: &mut [u8]) -> usize {
 }
 
 // Bytes as a line of hex.
-pub(crate) fn bytes_line(v: &[u8], out: &mut [u8]) -> usize {
+pub fn bytes_line(v: &[u8], out: &mut [u8]) -> usize {
     let to = add_bytes(v, 0, out);
     add(b'\n', to, out)
 }
 
 // What every byte of the lent room is before a call.
-pub(crate) const BLANK: u8 = 0xC3;
+pub const BLANK: u8 = 0xC3;
 
 // Whether a call that wrote n bytes changed one behind them, or claims more than there are.
 fn changed(n: usize, lent: &[u8]) -> bool {
@@ -237,7 +237,7 @@ fn written(v: &[u8], out: &mut [u8]) -> usize {
 }
 
 // What a call answered that had this room to write into, and should have left the rest of it alone.
-pub(crate) fn reply(r: Reply, lent: &[u8], out: &mut [u8]) -> usize {
+pub fn reply(r: Reply, lent: &[u8], out: &mut [u8]) -> usize {
     let n = match r {
         Reply::Written(size) => size,
         Reply::Refused(_) => 0,

@@ -3,8 +3,8 @@ use Prim.Native.Nat.{_≤_, _-_}
 use borrow.Author.Needs.{needs}
 use lib.ListN.{length}
 use mathlib.Core.Path.{_≡_}
-use Rattle.script.proofs.notation.pairs.Statement.{statement}
-use Rattle.script.proofs.notation.pairs.Tie as tie
+use Rattle.script_text.proofs.notation.pairs.Statement.{statement}
+use Rattle.script_text.proofs.notation.pairs.Tie as tie
 
 abbrev Inv-loop : tie.InvT-loop
 Inv-loop w count out₀ k₀ out k = (k ≤ count) × (length out ≡ length out₀)

@@ -4,8 +4,8 @@ use mathlib.Core.Logic.{⊎-elim}
 use native.Mathlib.Omega.{arith}
 use borrow.Author.Needs.{needs}
 use lib.ListN.{length}
-use Rattle.script.proofs.words.following.Statement.{statement}
-use Rattle.script.proofs.words.following.Tie as tie
+use Rattle.script_text.proofs.words.following.Statement.{statement}
+use Rattle.script_text.proofs.words.following.Tie as tie
 
 abbrev Inv-loop : tie.InvT-loop
 Inv-loop s n₀ i₀ n i = (i ≤ length s) × (n ≤ i)

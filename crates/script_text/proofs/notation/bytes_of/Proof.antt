@@ -4,8 +4,8 @@ use mathlib.Core.Path.{sym}
 use lib.ListN.{length}
 use native.Mathlib.Omega.{arith}
 use borrow.Author.Needs.{needs}
-use Rattle.script.proofs.notation.bytes_of.Statement.{statement}
-use Rattle.script.proofs.notation.bytes_of.Tie as tie
+use Rattle.script_text.proofs.notation.bytes_of.Statement.{statement}
+use Rattle.script_text.proofs.notation.bytes_of.Tie as tie
 
 returns-6 : tie.Need-returns-6
 returns-6 c =

@@ -10,8 +10,8 @@ use lib.Dec.{T}
 use mir.Syntax.{w64}
 use mir.Val.{SFits, Fits, toZ, ofZ}
 use mir.ValLaws.{toZ-ofZ}
-use Rattle.script.proofs.answers.magnitude.Statement.{statement}
-use Rattle.script.proofs.answers.magnitude.Tie as tie
+use Rattle.script_text.proofs.answers.magnitude.Statement.{statement}
+use Rattle.script_text.proofs.answers.magnitude.Tie as tie
 
 -- a number as it is read back from its bits
 abbrev back : ℤ → ℤ

@@ -2,8 +2,8 @@
 use Prim.Native.Nat.{_-_, _≤_}
 use lib.ListN.{length}
 use borrow.Author.Needs.{needs}
-use Rattle.script.proofs.words.place.Statement.{statement}
-use Rattle.script.proofs.words.place.Tie as tie
+use Rattle.script_text.proofs.words.place.Statement.{statement}
+use Rattle.script_text.proofs.words.place.Tie as tie
 
 abbrev Inv-loop : tie.InvT-loop
 Inv-loop w table k₀ k =

@@ -2,8 +2,8 @@
 use Prim.Native.Nat.{_≤_, _-_}
 use borrow.Author.Needs.{needs}
 use lib.ListN.{length}
-use Rattle.script.proofs.words.start.Statement.{statement}
-use Rattle.script.proofs.words.start.Tie as tie
+use Rattle.script_text.proofs.words.start.Statement.{statement}
+use Rattle.script_text.proofs.words.start.Tie as tie
 
 abbrev Inv-loop : tie.InvT-loop
 Inv-loop s k left₀ i₀ left i = i ≤ length s

@@ -10,19 +10,19 @@ ghost use lib.ListN.{length};
 
 // Where a script stands, but for its desk: whether the further words are understood, whether it goes on, how many bytes are lent to a
 // call that writes, how many lines were played, and how many bytes were added.
-pub(crate) struct Script {
-    pub(crate) further: bool,
-    pub(crate) more: bool,
-    pub(crate) room: usize,
-    pub(crate) number: u64,
-    pub(crate) added: usize,
+pub struct Script {
+    pub further: bool,
+    pub more: bool,
+    pub room: usize,
+    pub number: u64,
+    pub added: usize,
 }
 
 impl Script {
     // The most bytes that can be lent: a message with a body of 4,096 bytes.
-    pub(crate) const ROOM: usize = 4101;
+    pub const ROOM: usize = 4101;
 
-    pub(crate) fn start(further: bool) -> Self {
+    pub fn start(further: bool) -> Self {
         Script {
             further,
             more: true,
@@ -34,7 +34,7 @@ impl Script {
 }
 
 // The first word of a line. Bad: the line is not understood. Pass: it is blank or begins with #, or the script has ended.
-pub(crate) enum What {
+pub enum What {
     Bad,
     Pass,
     Close,
@@ -78,13 +78,13 @@ struct Form {
 }
 
 // A line: its word, its numbers, as far as it has any, and its bytes: a message up to size, and from there the till's own name up to end.
-pub(crate) struct Order {
-    pub(crate) what: What,
-    pub(crate) first: u64,
-    pub(crate) second: u64,
-    pub(crate) third: u64,
-    pub(crate) size: usize,
-    pub(crate) end: usize,
+pub struct Order {
+    pub what: What,
+    pub first: u64,
+    pub second: u64,
+    pub third: u64,
+    pub size: usize,
+    pub end: usize,
 }
 
 fn written(what: What, numbers: usize, bytes: usize) -> Form {
@@ -265,7 +265,7 @@ fn read_as(form: Form, s: &[u8], bytes: &mut [u8]) -> Order
 }
 
 // The order of a line; its bytes go to the start of bytes.
-pub(crate) fn order_of(at: Script, s: &[u8], bytes: &mut [u8]) -> Order
+pub fn order_of(at: Script, s: &[u8], bytes: &mut [u8]) -> Order
     ensures { λ r. ⌜ (r .size ≤ r .end) × (r .end ≤ length (now (bytes .exit))) ⌝ }
 {
     if !at.more {

@@ -1,0 +1,32 @@
+-- The lines of a file. The loop's invariant: from lies in the file, the desk is valid, and the buffers keep their lengths. Assumes nothing.
+use Prim.Native.Nat.{_-_, _≤_}
+use lib.ListN.{length}
+use mathlib.Core.Path.{_≡_}
+use borrow.Author.Needs.{needs}
+use Rattle.desk_rules.specs.Memory.{Valid}
+use Rattle.script.proofs.cases.check_in.Statement.{statement}
+use Rattle.script.proofs.cases.check_in.Tie as tie
+
+abbrev Inv-loop : tie.InvT-loop
+Inv-loop name s payload₀ added₀ want₀ text₀ turn₀ tally₀ number₀ from₀ payload added want text turn tally number from =
+    (from ≤ length s) × (Valid (turn .taped .desk)) × (length payload ≡ length payload₀) × (length added ≡ length added₀)
+    × (length want ≡ length want₀) × (length text ≡ length text₀)
+
+abbrev μ-loop : tie.MeasureT-loop
+μ-loop name s payload₀ added₀ want₀ text₀ turn₀ tally₀ number₀ from₀ payload added want text turn tally number from = length s - from
+
+loop-holds : tie.Need-loop-holds Inv-loop μ-loop
+loop-holds c =
+    (search needs, c .fresh .ensures, search needs, search needs, search needs, search needs)
+
+loop-again : tie.Need-loop-again Inv-loop μ-loop
+loop-again c =
+    (search needs, c .before .before .before .before .before .before .before .before .before .before .passed .ensures, search (needs, c .before .before .before .before .before .before .before .before .before .payload .given, c .before .before .before .before .before .before .before .before .before .before .before .before .before .before .before .before .before .before .before .before .before .before .loop .inv .2), search (needs, c .before .before .before .before .before .before .before .added .given, c .before .before .before .before .before .before .before .before .before .before .before .before .before .before .before .before .before .before .before .before .before .before .loop .inv .3), search (needs, c .before .before .before .before .before .before .before .before .before .before .before .before .before .before .before .before .want .given, c .before .before .before .before .before .before .before .before .before .before .before .before .before .before .before .before .before .before .before .before .before .before .loop .inv .4), search (needs, c .before .before .before .before .before .text .given, c .before .before .before .before .before .before .before .before .before .before .before .before .before .before .before .before .before .before .before .before .before .before .loop .inv .5))
+
+pub check-in-spec : {M : Type 1} → statement M
+check-in-spec =
+    tie.close
+    (tie.spec Inv-loop μ-loop (λ c κs. search needs) loop-holds (λ c κs. search needs) (λ c. search needs)
+    (λ c. search needs) (λ c. search needs) (λ c κs. search needs) (λ c κs. search needs) (λ c κs. search needs)
+    (λ c. search needs) loop-again (λ c. search needs) (λ c. search needs) (λ c. search needs) (λ c. search needs)
+    (λ c. search needs))
