@@ -111,11 +111,11 @@ commandOf (reversal password receipt) = command 0x30 (digitBytesOf 3 password) (
 unfoldable pub commandBytes : Opening → List ℕ
 commandBytes o = messageBytes (commandOf o)
 
--- R38: "A sale needs 13 bytes of room, a refund 16, a reversal 9"; no command is longer than the longest of these
-abbrev pub commandSize : Opening → ℕ
-commandSize (sale amount) = 13
-commandSize (refund password amount) = 16
-commandSize (reversal password receipt) = 9
-
+-- R38: "A sale needs 13 bytes of room, a refund 16, a reversal 9"; no command is longer than a refund's
 abbrev pub mostCommand : ℕ
 mostCommand = 16
+
+abbrev pub commandSize : Opening → ℕ
+commandSize (sale amount) = 13
+commandSize (refund password amount) = mostCommand
+commandSize (reversal password receipt) = 9

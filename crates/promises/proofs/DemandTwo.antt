@@ -9,6 +9,7 @@ use Prim.Native.Nat.{ℕ, _≤_}
 use native.Mathlib.Omega.{arith}
 use lib.ListN.{length, take}
 use Rattle.zvt_rules.specs.Reading.{Reading, got, refused, unless, andThen, among}
+use Rattle.zvt_rules.specs.Limits.{mostObjects}
 use Rattle.zvt_rules.specs.Message.{bytes, Message, lengthOf, headerWith, headerOf, layoutOf, bodyOf, messageOf, wholeHeader, readOf, firstOf, countOf}
 use Rattle.zvt_rules.specs.Writing.{messageBytes}
 use Rattle.zvt_rules.specs.Shortest.{shortMessage, isShort, write, shorten, SameValues}
@@ -56,7 +57,7 @@ first-of-many = reading.first-complete
 
 -- The number of objects that the reader reports is the number that the definition counts, at most 64: O11, O10.
 pub objects-counted : (s : List ℕ) (t : Outline) → Bytes s → readAnswer s ≡ Accepted t
-    → (m : Message) × (readOf s ≡ got m) × (t .objects ≡ countOf m) × (countOf m ≤ 64)
+    → (m : Message) × (readOf s ≡ got m) × (t .objects ≡ countOf m) × (countOf m ≤ mostObjects)
 unfolding outlineOf
 objects-counted s t b h =
     let k = read-exactly s t b .0 h in

@@ -10,12 +10,13 @@ use lib.Dec.{ltb, eqb}
 use borrow.Author.Tests.{lt-ltb, le-ltb, ltb-true, ltb-false, eqb-true, eqb-false, ne-eqb}
 use Rattle.zvt_rules.specs.declared.Fault.{Fault}
 use Rattle.zvt_rules.specs.Reading.{Reading, got, refused, noHeader, unless, andThen}
+use Rattle.zvt_rules.specs.Limits.{mostBody}
 use Rattle.zvt_rules.specs.Message.{longLength, lengthOf, Heading, headerSize, end, headerWith, headerOf, messageOf, wholeHeader, firstOf, readOf}
 use Rattle.zvt_rules.specs.Shortest.{write, shorten}
 use Rattle.zvt_rules.specs.Answers.{shortened}
 use Rattle.zvt_rules.proofs.Readings.{got-same, got-not-refused, unless-got, unless-on, then-got, then-on, then-stop}
 use Rattle.zvt_rules.proofs.FieldReading.{header-in}
-use Rattle.promises.specs.ReadRows.{LengthSays, HeaderRow, header-missing, long-missing, over-4096, cut-short, there}
+use Rattle.promises.specs.ReadRows.{LengthSays, HeaderRow, header-missing, long-missing, body-over, cut-short, there}
 use Rattle.promises.specs.ReadRows.{HeaderNo, WholeRow, WholeNo, BodyNo, FirstNo, ReadNo, ShortNo}
 
 -- ---- what the length bytes say is what is read
@@ -50,9 +51,9 @@ given (c ∷ (i ∷ (b ∷ t))) (header-missing h) = absurd (omega arith)
 given (c ∷ (i ∷ (b ∷ []))) (long-missing m n e) = rw e
 given (c ∷ (i ∷ (b ∷ (l ∷ [])))) (long-missing m n e) = rw e
 given (c ∷ (i ∷ (b ∷ (l ∷ (k ∷ t))))) (long-missing m n e) = absurd (omega arith)
-given s (over-4096 long v h m) = sized s long v h ∙ rw (lt-ltb 4096 v m)
-given s (cut-short long v h m c) = sized s long v h ∙ rw (le-ltb 4096 v m, lt-ltb (length s) (headerSize long + v) c)
-given s (there long v h m e) = sized s long v h ∙ rw (le-ltb 4096 v m, le-ltb (length s) (headerSize long + v) e)
+given s (body-over long v h m) = sized s long v h ∙ rw (lt-ltb mostBody v m)
+given s (cut-short long v h m c) = sized s long v h ∙ rw (le-ltb mostBody v m, lt-ltb (length s) (headerSize long + v) c)
+given s (there long v h m e) = sized s long v h ∙ rw (le-ltb mostBody v m, le-ltb (length s) (headerSize long + v) e)
 
 -- ---- and one of them is
 module _ (s : List ℕ) where
@@ -60,12 +61,12 @@ module _ (s : List ℕ) where
   put x = rw (given s x) x
 
   by-size : (long : Bool) (v : ℕ) → LengthSays s long v → HeaderRow s (headerOf s)
-  by-size long v h = go (ltb 4096 v) (ltb (length s) (headerSize long + v)) refl refl
+  by-size long v h = go (ltb mostBody v) (ltb (length s) (headerSize long + v)) refl refl
     where
-      go : (large short : Bool) → ltb 4096 v ≡ large → ltb (length s) (headerSize long + v) ≡ short → HeaderRow s (headerOf s)
-      go true short a b = put (over-4096 long v h (ltb-true 4096 v a))
-      go false true a b = put (cut-short long v h (ltb-false 4096 v a) (ltb-true (length s) (headerSize long + v) b))
-      go false false a b = put (there long v h (ltb-false 4096 v a) (ltb-false (length s) (headerSize long + v) b))
+      go : (large short : Bool) → ltb mostBody v ≡ large → ltb (length s) (headerSize long + v) ≡ short → HeaderRow s (headerOf s)
+      go true short a b = put (body-over long v h (ltb-true mostBody v a))
+      go false true a b = put (cut-short long v h (ltb-false mostBody v a) (ltb-true (length s) (headerSize long + v) b))
+      go false false a b = put (there long v h (ltb-false mostBody v a) (ltb-false (length s) (headerSize long + v) b))
 
 found : (s : List ℕ) → HeaderRow s (headerOf s)
 found [] = put [] (header-missing (omega arith))
@@ -120,7 +121,7 @@ header-no s n = (λ h. row (h .0) (header-table s _ .0 (h .1)) (h .2), λ r. (no
     row : (f : Fault) → HeaderRow s (refused f) → f .number ≡ n → HeaderNo s n
     row _ (header-missing h) e = rw (← e) (header-missing h)
     row _ (long-missing a b c) e = rw (← e) (long-missing a b c)
-    row _ (over-4096 long v h m) e = rw (← e) (over-4096 long v h m)
+    row _ (body-over long v h m) e = rw (← e) (body-over long v h m)
     row _ (cut-short long v h m c) e = rw (← e) (cut-short long v h m c)
 
 -- ---- R3, R11: a bound that is broken

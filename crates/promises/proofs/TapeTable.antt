@@ -15,7 +15,7 @@ use Rattle.zvt_rules.specs.Grammar.{Bytes}
 use Rattle.zvt_rules.proofs.ObjectBytes.{bytes-drop, bytes-take}
 use Rattle.zvt_rules.proofs.Readings.{got-same, got-not-refused, unless-got, unless-on, then-got, then-on}
 use Rattle.zvt_rules.proofs.Tests.{true-false, by-test, either}
-use Rattle.tape_rules.specs.Block.{numberOk, payloadOk, checkOf, numberIn, usedIn, payloadIn, checkIn, allZero, wrongNumber, wrongCount, wrongFilling, blockBytes, writeBlock, readBlock}
+use Rattle.tape_rules.specs.Block.{blockSize, headSize, payloadSize, checkedSize, mostNumber, numberOk, payloadOk, checkOf, numberIn, usedIn, payloadIn, checkIn, allZero, wrongNumber, wrongCount, wrongFilling, blockBytes, writeBlock, readBlock}
 use Rattle.tape_rules.specs.Tape.{cut, blocksFor, blocksFrom, tapeBytes, payloadOf}
 use Rattle.tape_rules.specs.Recording.{writeTape, readTape}
 use Rattle.tape_rules.proofs.BlockLaws.{block-size, number-test, count-test, limits-test, BlockRead, read-got, outside-refused, room-refused, block-written, short-refused, long-refused, check-refused, wrong-refused, right-read, block-sound, block-exactly}
@@ -40,7 +40,7 @@ module _ {A : Type 0} (x : Reading A) (Row : ℕ → Type 0) (given : (m : ℕ) 
           rw same at (k .1)
 
 -- ---- writing a block
-pub in-limits : (number : ℕ) (p : List ℕ) → 1 ≤ number → 1 ≤ length p → length p ≤ 504 → Outside number p → ⊥
+pub in-limits : (number : ℕ) (p : List ℕ) → 1 ≤ number → 1 ≤ length p → length p ≤ payloadSize → Outside number p → ⊥
 in-limits number p one some most (number-0 e) = omega arith
 in-limits number p one some most (payload-0 e) = omega arith
 in-limits number p one some most (payload-over l) = omega arith
@@ -50,11 +50,11 @@ module _ (number : ℕ) (p : List ℕ) (room : ℕ) where
   test = numberOk number && payloadOk (length p)
 
   -- within its limits
-  pub within : (Outside number p → ⊥) → (1 ≤ number) × (1 ≤ length p) × (length p ≤ 504)
+  pub within : (Outside number p → ⊥) → (1 ≤ number) × (1 ≤ length p) × (length p ≤ payloadSize)
   within n =
       let one : number ≡ 0 → ⊥ = λ e. n (number-0 e) in
       let some : length p ≡ 0 → ⊥ = λ e. n (payload-0 e) in
-      let most : 504 < length p → ⊥ = λ l. n (payload-over l) in
+      let most : payloadSize < length p → ⊥ = λ l. n (payload-over l) in
       omega arith
 
   inside : (Outside number p → ⊥) → test ≡ true
@@ -69,21 +69,21 @@ module _ (number : ℕ) (p : List ℕ) (room : ℕ) where
       (λ a.
       by-test (leb 1 (length p))
       (λ b.
-      by-test (ltb 504 (length p)) (λ c. payload-over (ltb-true 504 (length p) c))
+      by-test (ltb payloadSize (length p)) (λ c. payload-over (ltb-true payloadSize (length p) c))
       (λ c.
-      absurd (true-false (limits-test number (length p) .1 (leb-true 1 number a, leb-true 1 (length p) b, ltb-false 504 (length p) c)) e)))
+      absurd (true-false (limits-test number (length p) .1 (leb-true 1 number a, leb-true 1 (length p) b, ltb-false payloadSize (length p) c)) e)))
       (λ b. payload-0 (omega (arith, leb-false 1 (length p) b))))
       (λ a. number-0 (omega (arith, leb-false 1 number a)))
 
-  pub block-fits : (Outside number p → ⊥) → 512 ≤ room → writeBlock number p room ≡ got (blockBytes number p)
+  pub block-fits : (Outside number p → ⊥) → blockSize ≤ room → writeBlock number p room ≡ got (blockBytes number p)
   block-fits n = block-written number p room (inside n)
 
-  pub block-got : (w : List ℕ) → writeBlock number p room ≡ got w → (Outside number p → ⊥) × (512 ≤ room) × (blockBytes number p ≡ w)
+  pub block-got : (w : List ℕ) → writeBlock number p room ≡ got w → (Outside number p → ⊥) × (blockSize ≤ room) × (blockBytes number p ≡ w)
   unfolding writeBlock
   block-got w e =
       let limits = unless-got (not test) _ _ w e in
-      let fits = unless-got (ltb room 512) _ _ w (limits .1) in
-      (not-outside (not-false _ (limits .0)), ltb-false room 512 (fits .0), got-same (fits .1))
+      let fits = unless-got (ltb room blockSize) _ _ w (limits .1) in
+      (not-outside (not-false _ (limits .0)), ltb-false room blockSize (fits .0), got-same (fits .1))
 
   given-write : (m : ℕ) → WriteNo number p room m → writeBlock number p room ≡ refused (noHeader m)
   given-write _ (outside o) = by-test test (λ e. absurd (not-outside e o)) (outside-refused number p room)
@@ -93,8 +93,8 @@ module _ (number : ℕ) (p : List ℕ) (room : ℕ) where
   found-write =
       by-test test
       (λ e.
-      by-test (ltb room 512) (λ f. inr (11, too-small (not-outside e) (ltb-true room 512 f)))
-      (λ f. inl (blockBytes number p, block-written number p room e (ltb-false room 512 f))))
+      by-test (ltb room blockSize) (λ f. inr (11, too-small (not-outside e) (ltb-true room blockSize f)))
+      (λ f. inl (blockBytes number p, block-written number p room e (ltb-false room blockSize f))))
       (λ e. inr (16, outside (tested e)))
 
   pub write-no : (n : ℕ) → No (writeBlock number p room) n ↔ WriteNo number p room n
@@ -139,24 +139,24 @@ module _ (due : ℕ) (last : Bool) (s : List ℕ) where
   wrong-count e =
       by-test (leb 1 used)
       (λ a.
-      by-test (ltb 504 used) (λ b. count-over (ltb-true 504 used b))
+      by-test (ltb payloadSize used) (λ b. count-over (ltb-true payloadSize used b))
       (λ b.
-      let most = ltb-false 504 used b in
+      let most = ltb-false payloadSize used b in
       let right = count-test last used .1 in
       by-test last (λ l. absurd (true-false (right (leb-true 1 used a, most, λ f. absurd (true-false l f))) (not-true _ e)))
       (λ l.
-      by-test (eqb used 504)
-      (λ f. absurd (true-false (right (leb-true 1 used a, most, λ _. eqb-true used 504 f)) (not-true _ e)))
-      (λ f. let other = eqb-false used 504 f in short-before-last l (omega arith)))))
+      by-test (eqb used payloadSize)
+      (λ f. absurd (true-false (right (leb-true 1 used a, most, λ _. eqb-true used payloadSize f)) (not-true _ e)))
+      (λ f. let other = eqb-false used payloadSize f in short-before-last l (omega arith)))))
       (λ a. count-0 (omega (arith, leb-false 1 used a)))
 
   wrong-filling : wrongFilling s ≡ true → Wrong due last s
   wrong-filling e =
-      let at = 6 + usedIn s in
-      let k = some-byte (part at 510 s) (not-true _ e) in
-      let size = length-take (510 - at) (drop at s) in
-      let here : at + k .0 < 510 = omega (arith, k .1) in
-      filling (at + k .0) (omega arith) here (λ z. k .2 (part-at at 510 s (k .0) here ∙ z))
+      let at = headSize + usedIn s in
+      let k = some-byte (part at checkedSize s) (not-true _ e) in
+      let size = length-take (checkedSize - at) (drop at s) in
+      let here : at + k .0 < checkedSize = omega (arith, k .1) in
+      filling (at + k .0) (omega arith) here (λ z. k .2 (part-at at checkedSize s (k .0) here ∙ z))
 
   wrongly : wrong ≡ true → Wrong due last s
   wrongly e = ⊎-elim wrong-number (λ k. ⊎-elim wrong-count wrong-filling (either _ _ k)) (either _ _ e)
@@ -169,9 +169,9 @@ module _ (due : ℕ) (last : Bool) (s : List ℕ) where
   not-wrong p r (count-over l) = omega (arith, r .count .1)
   not-wrong p r (short-before-last e l) = omega (arith, r .count .2 e)
   not-wrong p r (filling i a l n) =
-      let at = 6 + usedIn s in
+      let at = headSize + usedIn s in
       let j : at + (i - at) ≡ i = omega arith in
-      n (ap (λ (k : ℕ). getD s k 0) (sym j) ∙ sym (part-at at 510 s (i - at) (omega arith)) ∙ no-byte (part at 510 s) (i - at) (r .filling))
+      n (ap (λ (k : ℕ). getD s k 0) (sym j) ∙ sym (part-at at checkedSize s (i - at) (omega arith)) ∙ no-byte (part at checkedSize s) (i - at) (r .filling))
 
   given-read : (m : ℕ) → BlockNo due last s m → readBlock due last s ≡ refused (noHeader m)
   given-read _ (ends-early h) = short-refused due last s h
@@ -183,12 +183,12 @@ module _ (due : ℕ) (last : Bool) (s : List ℕ) where
 
   found-read : ((p : List ℕ) × (readBlock due last s ≡ got p)) ⊎ ((m : ℕ) × BlockNo due last s m)
   found-read =
-      by-test (ltb (length s) 512) (λ e. inr (1, ends-early (ltb-true (length s) 512 e)))
+      by-test (ltb (length s) blockSize) (λ e. inr (1, ends-early (ltb-true (length s) blockSize e)))
       (λ e.
-      by-test (ltb 512 (length s)) (λ f. inr (3, left-over (ltb-true 512 (length s) f)))
+      by-test (ltb blockSize (length s)) (λ f. inr (3, left-over (ltb-true blockSize (length s) f)))
       (λ f.
-      let size : length s ≡ 512 = omega (arith, ltb-false (length s) 512 e, ltb-false 512 (length s) f) in
-      by-test (eqb (checkOf (take 510 s)) (checkIn s))
+      let size : length s ≡ blockSize = omega (arith, ltb-false (length s) blockSize e, ltb-false blockSize (length s) f) in
+      by-test (eqb (checkOf (take checkedSize s)) (checkIn s))
       (λ g.
       let same = eqb-true _ _ g in
       by-test wrong (λ h. inr (21, contents-wrong size same (wrongly h))) (λ h. inl (payloadIn s, right-read due last s size same h .0)))
@@ -199,49 +199,49 @@ module _ (due : ℕ) (last : Bool) (s : List ℕ) where
 
 -- ---- a block that is read was written, and one that was written is read
 pub block-back-and-forth : (due : ℕ) (last : Bool) (s p : List ℕ) → Bytes s → due < 2 ^ 32
-    → (readBlock due last s ≡ got p) ↔ ((writeBlock due p 512 ≡ got s) × (last ≡ false → length p ≡ 504))
+    → (readBlock due last s ≡ got p) ↔ ((writeBlock due p blockSize ≡ got s) × (last ≡ false → length p ≡ payloadSize))
 block-back-and-forth due last s p b fits =
     let law = block-exactly due last s p b fits in (
       λ e.
           let k = law .0 e in
-          (block-fits due p 512 (in-limits due p (k .1) (k .2) (k .3)) (omega arith) ∙ ap got (sym (k .0)), k .4),
+          (block-fits due p blockSize (in-limits due p (k .1) (k .2) (k .3)) (omega arith) ∙ ap got (sym (k .0)), k .4),
       λ h.
-          let k = block-got due p 512 s (h .0) in
-          let w = within due p 512 (k .0) in
+          let k = block-got due p blockSize s (h .0) in
+          let w = within due p blockSize (k .0) in
           law .1 (sym (k .2), omega (arith, w .0), omega (arith, w .1), w .2, h .1),
     )
 
 -- ---- writing a tape
-pub tape-bytes : (p : List ℕ) → length (tapeBytes p) ≡ blocksFor (length p) * 512
-tape-bytes p = tape-size p ∙ ap (λ (m : ℕ). m * 512) (cut-count p)
+pub tape-bytes : (p : List ℕ) → length (tapeBytes p) ≡ blocksFor (length p) * blockSize
+tape-bytes p = tape-size p ∙ ap (λ (m : ℕ). m * blockSize) (cut-count p)
 
 module _ (p : List ℕ) (room : ℕ) where
   by-size : writeTape p room
-      ≡ unless (ltb 4_294_967_295 (blocksFor (length p))) (noHeader 16) (unless (ltb room (blocksFor (length p) * 512)) (noHeader 11) (got (tapeBytes p)))
+      ≡ unless (ltb mostNumber (blocksFor (length p))) (noHeader 16) (unless (ltb room (blocksFor (length p) * blockSize)) (noHeader 11) (got (tapeBytes p)))
   unfolding writeTape
   by-size = rw (tape-size p, cut-count p)
 
-  pub tape-fits : blocksFor (length p) ≤ 4_294_967_295 → blocksFor (length p) * 512 ≤ room → writeTape p room ≡ got (tapeBytes p)
-  tape-fits few h = by-size ∙ unless-on _ _ (le-ltb 4_294_967_295 (blocksFor (length p)) few) ∙ unless-on _ _ (le-ltb room (blocksFor (length p) * 512) h)
+  pub tape-fits : blocksFor (length p) ≤ mostNumber → blocksFor (length p) * blockSize ≤ room → writeTape p room ≡ got (tapeBytes p)
+  tape-fits few h = by-size ∙ unless-on _ _ (le-ltb mostNumber (blocksFor (length p)) few) ∙ unless-on _ _ (le-ltb room (blocksFor (length p) * blockSize) h)
 
-  pub tape-got : (w : List ℕ) → writeTape p room ≡ got w → (blocksFor (length p) ≤ 4_294_967_295) × (blocksFor (length p) * 512 ≤ room) × (tapeBytes p ≡ w)
+  pub tape-got : (w : List ℕ) → writeTape p room ≡ got w → (blocksFor (length p) ≤ mostNumber) × (blocksFor (length p) * blockSize ≤ room) × (tapeBytes p ≡ w)
   tape-got w e =
-      let few = unless-got (ltb 4_294_967_295 (blocksFor (length p))) _ _ w (sym by-size ∙ e) in
-      let fits = unless-got (ltb room (blocksFor (length p) * 512)) _ _ w (few .1) in
-      (ltb-false 4_294_967_295 (blocksFor (length p)) (few .0), ltb-false room (blocksFor (length p) * 512) (fits .0), got-same (fits .1))
+      let few = unless-got (ltb mostNumber (blocksFor (length p))) _ _ w (sym by-size ∙ e) in
+      let fits = unless-got (ltb room (blocksFor (length p) * blockSize)) _ _ w (few .1) in
+      (ltb-false mostNumber (blocksFor (length p)) (few .0), ltb-false room (blocksFor (length p) * blockSize) (fits .0), got-same (fits .1))
 
   given-tape : (m : ℕ) → TapeWriteNo p room m → writeTape p room ≡ refused (noHeader m)
   unfolding unless
-  given-tape _ (too-many h) = by-size ∙ rw (lt-ltb 4_294_967_295 (blocksFor (length p)) h)
-  given-tape _ (tape-too-small few h) = by-size ∙ rw (le-ltb 4_294_967_295 (blocksFor (length p)) few, lt-ltb room (blocksFor (length p) * 512) h)
+  given-tape _ (too-many h) = by-size ∙ rw (lt-ltb mostNumber (blocksFor (length p)) h)
+  given-tape _ (tape-too-small few h) = by-size ∙ rw (le-ltb mostNumber (blocksFor (length p)) few, lt-ltb room (blocksFor (length p) * blockSize) h)
 
   found-tape : ((w : List ℕ) × (writeTape p room ≡ got w)) ⊎ ((m : ℕ) × TapeWriteNo p room m)
   found-tape =
-      by-test (ltb 4_294_967_295 (blocksFor (length p))) (λ e. inr (16, too-many (ltb-true 4_294_967_295 (blocksFor (length p)) e)))
+      by-test (ltb mostNumber (blocksFor (length p))) (λ e. inr (16, too-many (ltb-true mostNumber (blocksFor (length p)) e)))
       (λ e.
-      let few = ltb-false 4_294_967_295 (blocksFor (length p)) e in
-      by-test (ltb room (blocksFor (length p) * 512)) (λ f. inr (11, tape-too-small few (ltb-true room (blocksFor (length p) * 512) f)))
-      (λ f. inl (tapeBytes p, tape-fits few (ltb-false room (blocksFor (length p) * 512) f))))
+      let few = ltb-false mostNumber (blocksFor (length p)) e in
+      by-test (ltb room (blocksFor (length p) * blockSize)) (λ f. inr (11, tape-too-small few (ltb-true room (blocksFor (length p) * blockSize) f)))
+      (λ f. inl (tapeBytes p, tape-fits few (ltb-false room (blocksFor (length p) * blockSize) f))))
 
   pub write-tape-no : (n : ℕ) → No (writeTape p room) n ↔ TapeWriteNo p room n
   write-tape-no = by-rows (writeTape p room) (TapeWriteNo p room) given-tape found-tape
@@ -250,22 +250,22 @@ module _ (p : List ℕ) (room : ℕ) where
 drop-more : (size k : ℕ) (s : List ℕ) → drop (k * size) (drop size s) ≡ drop (suc k * size) s
 drop-more size k s = let e : size + k * size ≡ suc k * size = omega arith in drop-drop (k * size) size s ∙ ap (λ (m : ℕ). drop m s) e
 
-piece-from : (k b : ℕ) (p : List ℕ) → k * 504 < length p → blockAt k (blocksFrom b (cut p)) ≡ blockBytes (b + k) (pieceAt k p)
+piece-from : (k b : ℕ) (p : List ℕ) → k * payloadSize < length p → blockAt k (blocksFrom b (cut p)) ≡ blockBytes (b + k) (pieceAt k p)
 unfolding blocksFrom
 piece-from zero b p h =
     let here : b ≡ b + 0 = omega arith in
-    let size = block-size b (take 504 p) (omega (arith, length-take 504 p)) in
-    rw (cut-step p (omega arith), ← here) (take-at (blockBytes b (take 504 p)) _ 512 size)
+    let size = block-size b (take payloadSize p) (omega (arith, length-take payloadSize p)) in
+    rw (cut-step p (omega arith), ← here) (take-at (blockBytes b (take payloadSize p)) _ blockSize size)
 piece-from (suc k) b p h =
     let here : b + 1 + k ≡ b + suc k = omega arith in
-    let size = block-size b (take 504 p) (omega (arith, length-take 504 p)) in
-    let rest = blocksFrom (b + 1) (cut (drop 504 p)) in
-    let blocks : drop (suc k * 512) (blockBytes b (take 504 p) ++ rest) ≡ drop (k * 512) rest =
-    sym (drop-more 512 k _) ∙ ap (drop (k * 512)) (drop-at (blockBytes b (take 504 p)) rest 512 size)
+    let size = block-size b (take payloadSize p) (omega (arith, length-take payloadSize p)) in
+    let rest = blocksFrom (b + 1) (cut (drop payloadSize p)) in
+    let blocks : drop (suc k * blockSize) (blockBytes b (take payloadSize p) ++ rest) ≡ drop (k * blockSize) rest =
+    sym (drop-more blockSize k _) ∙ ap (drop (k * blockSize)) (drop-at (blockBytes b (take payloadSize p)) rest blockSize size)
     in
-    rw (cut-step p (omega arith), blocks, piece-from k (b + 1) (drop 504 p) (omega (arith, length-drop 504 p)), here, drop-more 504 k p)
+    rw (cut-step p (omega arith), blocks, piece-from k (b + 1) (drop payloadSize p) (omega (arith, length-drop payloadSize p)), here, drop-more payloadSize k p)
 
-pub tape-piece : (p : List ℕ) (k : ℕ) → k * 504 < length p → blockAt k (tapeBytes p) ≡ blockBytes (1 + k) (pieceAt k p)
+pub tape-piece : (p : List ℕ) (k : ℕ) → k * payloadSize < length p → blockAt k (tapeBytes p) ≡ blockBytes (1 + k) (pieceAt k p)
 unfolding tapeBytes
 tape-piece p k h = piece-from k 1 p h
 
@@ -273,23 +273,23 @@ tape-piece p k h = piece-from k 1 p h
 abbrev readAt : ℕ → ℕ → List ℕ → Reading (List ℕ)
 readAt b k s = readBlock (b + k) (lastAt k s) (blockAt k s)
 
-at-first : (b : ℕ) (s : List ℕ) → readAt b 0 s ≡ readBlock b (leb (length s) 512) (take 512 s)
+at-first : (b : ℕ) (s : List ℕ) → readAt b 0 s ≡ readBlock b (leb (length s) blockSize) (take blockSize s)
 at-first b s = let here : b + 0 ≡ b = omega arith in rw here
 
-last-shift : (k : ℕ) (s : List ℕ) → lastAt k (drop 512 s) ≡ lastAt (suc k) s
+last-shift : (k : ℕ) (s : List ℕ) → lastAt k (drop blockSize s) ≡ lastAt (suc k) s
 last-shift k s =
-    let size = length-drop 512 s in
-    by-test (lastAt k (drop 512 s))
-    (λ e. e ∙ sym (le-leb (length s) (suc k * 512 + 512) (omega (arith, leb-true (length (drop 512 s)) (k * 512 + 512) e))))
-    (λ e. e ∙ sym (lt-leb (length s) (suc k * 512 + 512) (omega (arith, leb-false (length (drop 512 s)) (k * 512 + 512) e))))
+    let size = length-drop blockSize s in
+    by-test (lastAt k (drop blockSize s))
+    (λ e. e ∙ sym (le-leb (length s) (suc k * blockSize + blockSize) (omega (arith, leb-true (length (drop blockSize s)) (k * blockSize + blockSize) e))))
+    (λ e. e ∙ sym (lt-leb (length s) (suc k * blockSize + blockSize) (omega (arith, leb-false (length (drop blockSize s)) (k * blockSize + blockSize) e))))
 
-at-shift : (b k : ℕ) (s : List ℕ) → readAt (b + 1) k (drop 512 s) ≡ readAt b (suc k) s
+at-shift : (b k : ℕ) (s : List ℕ) → readAt (b + 1) k (drop blockSize s) ≡ readAt b (suc k) s
 at-shift b k s =
     let here : b + 1 + k ≡ b + suc k = omega arith in
-    rw (here, last-shift k s, drop-more 512 k s)
+    rw (here, last-shift k s, drop-more blockSize k s)
 
 -- block by block, each with its number
-by-blocks : (P : ℕ → List ℕ → Type 0) → ((b : ℕ) → P b []) → ((b : ℕ) (s : List ℕ) → 1 ≤ length s → P (b + 1) (drop 512 s) → P b s)
+by-blocks : (P : ℕ → List ℕ → Type 0) → ((b : ℕ) → P b []) → ((b : ℕ) (s : List ℕ) → 1 ≤ length s → P (b + 1) (drop blockSize s) → P b s)
     → (b : ℕ) (s : List ℕ) → P b s
 by-blocks P none more b s = go (length s) b s (omega arith)
   where
@@ -297,11 +297,11 @@ by-blocks P none more b s = go (length s) b s (omega arith)
     go zero b [] h = none b
     go zero b (x ∷ s) h = absurd (omega arith)
     go (suc f) b [] h = none b
-    go (suc f) b (x ∷ s) h = more b (x ∷ s) (omega arith) (go f (b + 1) (drop 512 (x ∷ s)) (omega (arith, length-drop 512 (x ∷ s))))
+    go (suc f) b (x ∷ s) h = more b (x ∷ s) (omega arith) (go f (b + 1) (drop blockSize (x ∷ s)) (omega (arith, length-drop blockSize (x ∷ s))))
 
 -- the block at place 0, or one behind it
 module _ (b : ℕ) (s : List ℕ) (n : ℕ) where
-  stops : No (readBlock b (leb (length s) 512) (take 512 s)) n → 1 ≤ length s → TapeNo b s n
+  stops : No (readBlock b (leb (length s) blockSize) (take blockSize s)) n → 1 ≤ length s → TapeNo b s n
   stops r h =
       record {
         at = 0;
@@ -310,15 +310,15 @@ module _ (b : ℕ) (s : List ℕ) (n : ℕ) where
         row = block-no (b + 0) (lastAt 0 s) (blockAt 0 s) n .0 (rw (at-first b s) r);
       }
 
-  later : (p : List ℕ) → readBlock b (leb (length s) 512) (take 512 s) ≡ got p → TapeNo (b + 1) (drop 512 s) n → TapeNo b s n
+  later : (p : List ℕ) → readBlock b (leb (length s) blockSize) (take blockSize s) ≡ got p → TapeNo (b + 1) (drop blockSize s) n → TapeNo b s n
   later p e r =
       record {
         at = suc (r .at);
-        inside = omega (arith, r .inside, length-drop 512 s);
+        inside = omega (arith, r .inside, length-drop blockSize s);
         before = before;
         row =
             block-no (b + suc (r .at)) (lastAt (suc (r .at)) s) (blockAt (suc (r .at)) s) n .0
-            (rw (← (at-shift b (r .at) s)) (block-no (b + 1 + r .at) (lastAt (r .at) (drop 512 s)) (blockAt (r .at) (drop 512 s)) n .1 (r .row)));
+            (rw (← (at-shift b (r .at) s)) (block-no (b + 1 + r .at) (lastAt (r .at) (drop blockSize s)) (blockAt (r .at) (drop blockSize s)) n .1 (r .row)));
       }
     where
       before : (k : ℕ) → k < suc (r .at) → (q : List ℕ) × (readAt b k s ≡ got q)
@@ -331,15 +331,15 @@ to-first =
     (λ b n r. absurd (got-not-refused (sym (join-none b) ∙ r .1)))
     (λ b s h more n r.
     ⊎-elim (λ k. stops b s n k h) (λ k. later b s n (k .0) (k .1) (more n (got-no _ _ n .0 (k .2))))
-    (then-no (readBlock b (leb (length s) 512) (take 512 s)) _ n (rw (join-step b s h) at r)))
+    (then-no (readBlock b (leb (length s) blockSize) (take blockSize s)) _ n (rw (join-step b s h) at r)))
 
-from-first : (at b : ℕ) (s : List ℕ) (n : ℕ) → at * 512 < length s → ((k : ℕ) → k < at → (p : List ℕ) × (readAt b k s ≡ got p)) → No (readAt b at s) n
+from-first : (at b : ℕ) (s : List ℕ) (n : ℕ) → at * blockSize < length s → ((k : ℕ) → k < at → (p : List ℕ) × (readAt b k s ≡ got p)) → No (readAt b at s) n
     → No (joinFrom b s) n
 from-first zero b s n h before r = rw (join-step b s (omega arith)) (no-then _ _ n (inl (rw (at-first b s) at r)))
 from-first (suc at) b s n h before r =
     let first = before 0 (omega arith) in
     let rest =
-    from-first at (b + 1) (drop 512 s) n (omega (arith, length-drop 512 s))
+    from-first at (b + 1) (drop blockSize s) n (omega (arith, length-drop blockSize s))
     (λ k l. let p = before (suc k) (omega arith) in (p .0, at-shift b k s ∙ p .1)) (rw (at-shift b at s) r)
     in
     rw (join-step b s (omega arith)) (no-then _ _ n (inr (first .0, sym (at-first b s) ∙ first .1, got-no _ _ n .1 rest)))
@@ -373,12 +373,12 @@ few-from =
     (λ b p y e. let none : p ≡ [] = got-same (sym e ∙ join-none b) in rw none (omega arith))
     (λ b s h more p y e.
     let r = join-got b s p h e in
-    let first = block-sound b (leb (length s) 512) (take 512 s) (r .first) (bytes-take 512 s y) (r .read) in
+    let first = block-sound b (leb (length s) blockSize) (take blockSize s) (r .first) (bytes-take blockSize s y) (r .read) in
     let size = ap length (sym (r .all)) ∙ length-append (r .first) (r .rest) in
-    omega (arith, first .2, first .4, more (r .rest) (bytes-drop 512 s y) (r .then)))
+    omega (arith, first .2, first .4, more (r .rest) (bytes-drop blockSize s y) (r .then)))
 
 module _ (s p : List ℕ) (b : Bytes s) where
-  few-blocks : payloadOf s ≡ got p → blocksFor (length p) ≤ 4_294_967_295
+  few-blocks : payloadOf s ≡ got p → blocksFor (length p) ≤ mostNumber
   unfolding payloadOf
   few-blocks e = omega (arith, few-from 1 s p b e)
 

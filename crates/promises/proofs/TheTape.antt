@@ -20,7 +20,7 @@ use Rattle.desk_rules.specs.Desk.{fresh, Accepted, run}
 use Rattle.desk_rules.specs.Memory.{view, Valid, answerOf, leavesOf}
 use Rattle.tape_rules.specs.declared.BlockAnswer.the-variants.{Payload, Refused as block-refused}
 use Rattle.tape_rules.specs.declared.Taped.{Taped}
-use Rattle.tape_rules.specs.Block.{blockBytes, writeBlock, readBlock}
+use Rattle.tape_rules.specs.Block.{blockSize, headSize, payloadSize, mostNumber, blockBytes, writeBlock, readBlock}
 use Rattle.tape_rules.specs.Records.{masked, Alike, recorded, entriesOf, recordsIn}
 use Rattle.tape_rules.specs.Tape.{blocksFor, tapeBytes, payloadOf}
 use Rattle.zvt_rules.specs.Buffers.{writtenLeaves}
@@ -43,7 +43,7 @@ use Rattle.promises.proofs.Secrets as secrets
 
 -- A block is written exactly where its number and its payload are within their limits and 512 bytes are lent for it.
 pub block-written-exactly : (number : ℕ) (p : List ℕ) (room k : ℕ)
-    → (writtenAnswer (writeBlock number p room) ≡ Written k) ↔ ((Outside number p → ⊥) × (512 ≤ room) × (512 ≡ k))
+    → (writtenAnswer (writeBlock number p room) ≡ Written k) ↔ ((Outside number p → ⊥) × (blockSize ≤ room) × (blockSize ≡ k))
 block-written-exactly number p room k = (
   λ h.
       let w = answers.written-size (writeBlock number p room) k .0 h in
@@ -52,7 +52,7 @@ block-written-exactly number p room k = (
   λ h. answers.written-size (writeBlock number p room) k .1 (blockBytes number p, block-fits number p room (h .0) (h .1), size (h .0) ∙ h .2),
 )
   where
-    size : (Outside number p → ⊥) → length (blockBytes number p) ≡ 512
+    size : (Outside number p → ⊥) → length (blockBytes number p) ≡ blockSize
     size o = block.block-size number p (within number p room o .2)
 
 -- What a block then holds is laid out as T2 to T5 say.
@@ -63,10 +63,10 @@ block-laid-out number p out k h =
     w .2 ∙ sym (block-got number p (length out) (w .0) (w .1) .2)
 
 -- A written block reads back as its payload: nothing of a day is lost in a block.
-pub block-reads-back : (number : ℕ) (p out : List ℕ) (last : Bool) (k : ℕ) → number < 2 ^ 32 → (last ≡ false → length p ≡ 504)
+pub block-reads-back : (number : ℕ) (p out : List ℕ) (last : Bool) (k : ℕ) → number < 2 ^ 32 → (last ≡ false → length p ≡ payloadSize)
     → let x = writeBlock number p (length out) in
     writtenAnswer x ≡ Written k → let s = take k (writtenLeaves x out) in
-    (blockAnswer (readBlock number last s) ≡ Payload (length p)) × (take (length p) (drop 6 s) ≡ p)
+    (blockAnswer (readBlock number last s) ≡ Payload (length p)) × (take (length p) (drop headSize s) ≡ p)
 block-reads-back number p out last k fits full h =
     let o = block-written-exactly number p (length out) k .0 h .0 in
     let w = within number p (length out) o in
@@ -76,7 +76,7 @@ block-reads-back number p out last k fits full h =
 
 -- Reading takes exactly the blocks that writing makes for the number due, full ones where another block follows.
 pub block-read-exactly : (due : ℕ) (last : Bool) (s : List ℕ) (k : ℕ) → Bytes s → due < 2 ^ 32
-    → (blockAnswer (readBlock due last s) ≡ Payload k) ↔ ((p : List ℕ) × (writeBlock due p 512 ≡ got s) × (length p ≡ k) × (last ≡ false → k ≡ 504))
+    → (blockAnswer (readBlock due last s) ≡ Payload k) ↔ ((p : List ℕ) × (writeBlock due p blockSize ≡ got s) × (length p ≡ k) × (last ≡ false → k ≡ payloadSize))
 block-read-exactly due last s k b fits = (
   λ h.
       let r = answers.block-holds (readBlock due last s) k .0 h in
@@ -90,7 +90,7 @@ block-read-exactly due last s k b fits = (
 -- T6: "A good block with one byte changed, whichever, is refused (20).": in every block, at every place, whatever the byte becomes and
 -- whatever block is due.
 pub one-changed-byte : (number : ℕ) (p : List ℕ) (room : ℕ) (s : List ℕ) (i v due : ℕ) (last : Bool) → Bytes p → writeBlock number p room ≡ got s
-    → i < 512 → v < 256 → (v ≡ getD s i 0 → ⊥) → blockAnswer (readBlock due last (set s i v)) ≡ block-refused (numbered 20)
+    → i < blockSize → v < 256 → (v ≡ getD s i 0 → ⊥) → blockAnswer (readBlock due last (set s i v)) ≡ block-refused (numbered 20)
 unfolding blockAnswer
 one-changed-byte number p room s i v due last b w h small other =
     let g = block-got number p room s w in
@@ -101,7 +101,7 @@ one-changed-byte number p room s i v due last b w h small other =
 
 -- A tape is written exactly where the numbers of its blocks fit four bytes and all of them have room.
 pub tape-written-exactly : (p : List ℕ) (room k : ℕ)
-    → (writtenAnswer (writeTape p room) ≡ Written k) ↔ ((blocksFor (length p) ≤ 4_294_967_295) × (blocksFor (length p) * 512 ≤ room) × (blocksFor (length p) * 512 ≡ k))
+    → (writtenAnswer (writeTape p room) ≡ Written k) ↔ ((blocksFor (length p) ≤ mostNumber) × (blocksFor (length p) * blockSize ≤ room) × (blocksFor (length p) * blockSize ≡ k))
 tape-written-exactly p room k =
     let says = answers.written-size (writeTape p room) k in (
       λ h.
@@ -112,17 +112,17 @@ tape-written-exactly p room k =
     )
 
 -- Its blocks are those that writing makes of the payload's pieces, one after the other, numbered from 1.
-pub tape-cut : (p : List ℕ) (room : ℕ) (s : List ℕ) (k : ℕ) → writeTape p room ≡ got s → k * 504 < length p
-    → writeBlock (1 + k) (pieceAt k p) 512 ≡ got (blockAt k s)
+pub tape-cut : (p : List ℕ) (room : ℕ) (s : List ℕ) (k : ℕ) → writeTape p room ≡ got s → k * payloadSize < length p
+    → writeBlock (1 + k) (pieceAt k p) blockSize ≡ got (blockAt k s)
 tape-cut p room s k w h =
-    let size = length-take 504 (drop (k * 504) p) in
-    let left = length-drop (k * 504) p in
+    let size = length-take payloadSize (drop (k * payloadSize) p) in
+    let left = length-drop (k * payloadSize) p in
     let o = in-limits (1 + k) (pieceAt k p) (omega arith) (omega arith) (omega arith) in
-    block-fits (1 + k) (pieceAt k p) 512 o (omega arith) ∙ ap got (sym (tape-piece p k h) ∙ ap (blockAt k) (tape-got p room s w .2))
+    block-fits (1 + k) (pieceAt k p) blockSize o (omega arith) ∙ ap got (sym (tape-piece p k h) ∙ ap (blockAt k) (tape-got p room s w .2))
 
 -- T3: "Only in the last block of a tape may it be under 504."
-pub only-last-short : (p : List ℕ) (k : ℕ) → 1 + k < blocksFor (length p) → length (pieceAt k p) ≡ 504
-only-last-short p k h = omega (arith, length-take 504 (drop (k * 504) p), length-drop (k * 504) p)
+pub only-last-short : (p : List ℕ) (k : ℕ) → 1 + k < blocksFor (length p) → length (pieceAt k p) ≡ payloadSize
+only-last-short p k h = omega (arith, length-take payloadSize (drop (k * payloadSize) p), length-drop (k * payloadSize) p)
 
 -- No payload is no block, and no block is no payload. T1: "the empty tape has none".
 pub no-payload-no-block : (p : List ℕ) (room : ℕ) → (writtenAnswer (writeTape p room) ≡ Written 0) ↔ (p ≡ [])

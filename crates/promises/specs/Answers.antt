@@ -6,6 +6,7 @@ use Rattle.desk_rules.specs.declared.Phase.the-variants.{Idle}
 use Rattle.desk_rules.specs.declared.Desk.{Desk}
 use Rattle.desk_rules.specs.declared.Answer.{Answer}
 use Rattle.desk_rules.specs.declared.Reply.the-variants.{Written, Refused}
+use Rattle.desk_rules.specs.Numbers.{laneCount}
 use Rattle.desk_rules.specs.Table.{phaseAt}
 use Rattle.desk_rules.specs.Memory.{view}
 
@@ -23,4 +24,4 @@ Takes a = (k : ℕ) × (a .reply ≡ Written k)
 
 -- R19: "a payment is open at closing". P2: "A payment is open while its lane is waiting or running."
 unfoldable pub Open : Desk → Type 0
-Open d = (i : ℕ) × (i < 8) × (phaseAt (view d) i ≡ Idle → ⊥)
+Open d = (i : ℕ) × (i < laneCount) × (phaseAt (view d) i ≡ Idle → ⊥)

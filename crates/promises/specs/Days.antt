@@ -9,6 +9,7 @@ use Rattle.desk_rules.specs.declared.Reply.{Reply}
 use Rattle.desk_rules.specs.declared.Reply.the-variants.{Written, Refused}
 use Rattle.desk_rules.specs.declared.Answer.{Answer}
 use Rattle.desk_rules.specs.declared.Line.{Line}
+use Rattle.desk_rules.specs.Openings.{mostCommand}
 use Rattle.desk_rules.specs.Course.{Call, laneOf, opens, NumbersFit}
 use Rattle.desk_rules.specs.Memory.{freshDesk, linesOfDesk, answerOf, leavesOf}
 use Rattle.desk_rules.specs.Runs.{having, Exchange, replies}
@@ -26,7 +27,7 @@ callsIn (t ∷ ts) = t .call ∷ callsIn ts
 
 -- calls with room enough for every command and reply
 unfoldable pub buffer : List ℕ
-buffer = replicate 16 0
+buffer = replicate mostCommand 0
 
 unfoldable pub roomy : List Call → List DeskTurn
 roomy [] = []

@@ -8,6 +8,7 @@ use mathlib.Core.List.{List}
 use lib.ListN.{length, getD}
 use Rattle.zvt_rules.specs.declared.Fault.{Fault}
 use Rattle.zvt_rules.specs.Reading.{Reading, got, refused, noHeader, part}
+use Rattle.zvt_rules.specs.Limits.{mostBody}
 use Rattle.zvt_rules.specs.Message.{Heading, headerSize, start, end, layoutOf, bodyOf}
 use Rattle.zvt_rules.specs.Shortest.{shorten}
 
@@ -21,9 +22,9 @@ LengthSays s true v = (5 ≤ length s) × (getD s 2 0 ≡ 0xFF) × (getD s 4 0 *
 pub data HeaderRow (s : List ℕ) : Reading Heading → Type 0 where
   header-missing : length s < 3 → HeaderRow s (refused (noHeader 1))
   long-missing : 3 ≤ length s → length s < 5 → getD s 2 0 ≡ 0xFF → HeaderRow s (refused (noHeader 1))
-  over-4096 : (long : Bool) (v : ℕ) → LengthSays s long v → 4096 < v → HeaderRow s (refused (noHeader 2))
-  cut-short : (long : Bool) (v : ℕ) → LengthSays s long v → v ≤ 4096 → length s < headerSize long + v → HeaderRow s (refused (noHeader 1))
-  there : (long : Bool) (v : ℕ) → LengthSays s long v → v ≤ 4096 → headerSize long + v ≤ length s
+  body-over : (long : Bool) (v : ℕ) → LengthSays s long v → mostBody < v → HeaderRow s (refused (noHeader 2))
+  cut-short : (long : Bool) (v : ℕ) → LengthSays s long v → v ≤ mostBody → length s < headerSize long + v → HeaderRow s (refused (noHeader 1))
+  there : (long : Bool) (v : ℕ) → LengthSays s long v → v ≤ mostBody → headerSize long + v ≤ length s
       → HeaderRow s (got (record { class = getD s 0 0; instruction = getD s 1 0; long = long; size = v }))
 
 -- it is refused with n

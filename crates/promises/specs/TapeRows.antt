@@ -6,7 +6,7 @@ use mathlib.Core.List.{List}
 use lib.ListN.{length, getD, take, drop}
 use lib.Dec.{leb}
 use Rattle.zvt_rules.specs.Reading.{got}
-use Rattle.tape_rules.specs.Block.{checkOf, numberIn, usedIn, checkIn, readBlock}
+use Rattle.tape_rules.specs.Block.{blockSize, headSize, payloadSize, checkedSize, mostNumber, checkOf, numberIn, usedIn, checkIn, readBlock}
 use Rattle.tape_rules.specs.Tape.{blocksFor}
 
 -- ---- a block
@@ -15,12 +15,12 @@ use Rattle.tape_rules.specs.Tape.{blocksFor}
 pub data Outside (number : ℕ) (p : List ℕ) : Type 0 where
   number-0 : number ≡ 0 → Outside number p
   payload-0 : length p ≡ 0 → Outside number p
-  payload-over : 504 < length p → Outside number p
+  payload-over : payloadSize < length p → Outside number p
 
 -- R45: "Writing one: 16, 11.": it is refused with n. R38: "a block 512"
 pub data WriteNo (number : ℕ) (p : List ℕ) (room : ℕ) : ℕ → Type 0 where
   outside : Outside number p → WriteNo number p room 16
-  too-small : (Outside number p → ⊥) → room < 512 → WriteNo number p room 11
+  too-small : (Outside number p → ⊥) → room < blockSize → WriteNo number p room 11
 
 -- T7: "21 is given for another number or number 0, for a used count against T3, and for filling other than zeros.": number and used
 -- count as the block has them, and the bytes between the used ones and the check. T3: "Only in the last block of a tape may it be under
@@ -29,38 +29,38 @@ pub data Wrong (due : ℕ) (last : Bool) (s : List ℕ) : Type 0 where
   always-wrong : numberIn s ≡ 0 → Wrong due last s
   other-number : (numberIn s ≡ due → ⊥) → Wrong due last s
   count-0 : usedIn s ≡ 0 → Wrong due last s
-  count-over : 504 < usedIn s → Wrong due last s
-  short-before-last : last ≡ false → usedIn s < 504 → Wrong due last s
-  filling : (i : ℕ) → 6 + usedIn s ≤ i → i < 510 → (getD s i 0 ≡ 0 → ⊥) → Wrong due last s
+  count-over : payloadSize < usedIn s → Wrong due last s
+  short-before-last : last ≡ false → usedIn s < payloadSize → Wrong due last s
+  filling : (i : ℕ) → headSize + usedIn s ≤ i → i < checkedSize → (getD s i 0 ≡ 0 → ⊥) → Wrong due last s
 
 -- R45: "Reading a block: 1, 3, 20, 21.": it is refused with n. T7: "Who reads a block says which number is due and whether it is the
 -- last."
 pub data BlockNo (due : ℕ) (last : Bool) (s : List ℕ) : ℕ → Type 0 where
-  ends-early : length s < 512 → BlockNo due last s 1
-  left-over : 512 < length s → BlockNo due last s 3
-  check-wrong : length s ≡ 512 → (checkOf (take 510 s) ≡ checkIn s → ⊥) → BlockNo due last s 20
-  contents-wrong : length s ≡ 512 → checkOf (take 510 s) ≡ checkIn s → Wrong due last s → BlockNo due last s 21
+  ends-early : length s < blockSize → BlockNo due last s 1
+  left-over : blockSize < length s → BlockNo due last s 3
+  check-wrong : length s ≡ blockSize → (checkOf (take checkedSize s) ≡ checkIn s → ⊥) → BlockNo due last s 20
+  contents-wrong : length s ≡ blockSize → checkOf (take checkedSize s) ≡ checkIn s → Wrong due last s → BlockNo due last s 21
 
 -- ---- a tape. T18: "cut into pieces of 504 bytes"
 
 -- piece k of a payload and block k of a tape, counted from 0, and whether it is the tape's last
 abbrev pub pieceAt : ℕ → List ℕ → List ℕ
-pieceAt k p = take 504 (drop (k * 504) p)
+pieceAt k p = take payloadSize (drop (k * payloadSize) p)
 
 abbrev pub blockAt : ℕ → List ℕ → List ℕ
-blockAt k s = take 512 (drop (k * 512) s)
+blockAt k s = take blockSize (drop (k * blockSize) s)
 
 abbrev pub lastAt : ℕ → List ℕ → Bool
-lastAt k s = leb (length s) (k * 512 + 512)
+lastAt k s = leb (length s) (k * blockSize + blockSize)
 
 -- T20: "Writing a whole tape gives 16 where a block number needs more than four bytes, then 11."
 pub data TapeWriteNo (p : List ℕ) (room : ℕ) : ℕ → Type 0 where
-  too-many : 4_294_967_295 < blocksFor (length p) → TapeWriteNo p room 16
-  tape-too-small : blocksFor (length p) ≤ 4_294_967_295 → room < blocksFor (length p) * 512 → TapeWriteNo p room 11
+  too-many : mostNumber < blocksFor (length p) → TapeWriteNo p room 16
+  tape-too-small : blocksFor (length p) ≤ mostNumber → room < blocksFor (length p) * blockSize → TapeWriteNo p room 11
 
 -- T20: "the refusal of the first refused block", of those with numbers from first on: all before it are read
 pub record TapeNo (first : ℕ) (s : List ℕ) (n : ℕ) : Type 0 where
   pub at : ℕ
-  pub inside : at * 512 < length s
+  pub inside : at * blockSize < length s
   pub before : (k : ℕ) → k < at → (p : List ℕ) × (readBlock (first + k) (lastAt k s) (blockAt k s) ≡ got p)
   pub row : BlockNo (first + at) (lastAt at s) (blockAt at s) n

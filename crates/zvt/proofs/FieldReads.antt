@@ -10,6 +10,7 @@ use Rattle.zvt_rules.specs.declared.Fault.{Fault}
 use Rattle.zvt_rules.specs.declared.Format.{Format}
 use Rattle.zvt_rules.specs.declared.Format.the-variants.{Unknown, Fixed, Digits, Container}
 use Rattle.zvt_rules.specs.Reading.{Reading, got, refused, no, unless, andThen, part}
+use Rattle.zvt_rules.specs.Limits.{deepest}
 use Rattle.zvt_rules.specs.Objects.{formSize, Len, lenOf, RunRead, runOf}
 use Rattle.zvt_rules.specs.Fields.{formatOf, unknown, digitsOf, digitsIn, plain, container, FieldRead, valueOf, plainOf, containerOf, fieldBy}
 use Rattle.zvt_rules.specs.Writing.{runBytes, fieldBytes}
@@ -110,7 +111,7 @@ module _ (id n at : ℕ) (s : List ℕ) where
     pub to : b .to ≡ b .from + len .value
     pub then :
         fieldBy id n at s f
-        ≡ andThen (runOf 4 n (at + b .from) (part (b .from) (b .to) s)) λ r.
+        ≡ andThen (runOf deepest n (at + b .from) (part (b .from) (b .to) s)) λ r.
         got (record { field = container (len .form) (r .objs); size = b .to; count = r .count })
 
   by-container : (f : Format) (b : Bounds) → boundsBy at s f ≡ got b → b .nested ≡ true → Contained f b
@@ -173,7 +174,7 @@ module _ (twice : Bool) (n at : ℕ) (s : List ℕ) (once : twice ≡ false) whe
   module _ (b : Bounds) (bounds : fieldBounds at s ≡ bounds-read b) (h : b .nested ≡ true) where
     -- the answer for the run inside
     abbrev inner : PartRead
-    inner = runAnswer 4 n (at + b .from) (part (b .from) (b .to) s)
+    inner = runAnswer deepest n (at + b .from) (part (b .from) (b .to) s)
 
     contained : Contained (getD s 0 0) n at s format b
     unfolding fieldBounds
@@ -183,14 +184,14 @@ module _ (twice : Bool) (n at : ℕ) (s : List ℕ) (once : twice ≡ false) whe
     unfolding runAnswer asPart
     field-no-inner r e = by-format _ (contained .then ∙ then-stop _ r (part-stopped _ _ r e))
 
-    container-tally : Bytes s → (r : RunRead) → runOf 4 n (at + b .from) (part (b .from) (b .to) s) ≡ got r
+    container-tally : Bytes s → (r : RunRead) → runOf deepest n (at + b .from) (part (b .from) (b .to) s) ≡ got r
         → Answered twice n at s b (r .count) (spareRun (r .objs))
     unfolding asPart fieldTally spareField fieldBytes shortField
     container-tally bs r e =
         let c = contained in
         let l = c .len in
         let f = len-sound (at + 1) (drop 1 s) l (bytes-drop 1 s bs) (c .read) in
-        let i = spare-read 4 n (at + b .from) (part (b .from) (b .to) s) r (bytes-part (b .from) (b .to) s bs) e in
+        let i = spare-read deepest n (at + b .from) (part (b .from) (b .to) s) r (bytes-part (b .from) (b .to) s bs) e in
         let w = field-value at s b bounds in
         let v : length (part (b .from) (b .to) s) ≡ l .value = omega (arith, part-length s (b .from) (b .to) (w .0) (w .1)) in
         let short = runBytes (shortRun (r .objs)) in (
@@ -204,5 +205,5 @@ module _ (twice : Bool) (n at : ℕ) (s : List ℕ) (once : twice ≡ false) whe
     pub field-container : Bytes s → (r : Tally) → inner ≡ Part r → Answered twice n at s b (r .objects) (r .spare)
     unfolding runAnswer runTally
     field-container bs =
-        part-got (runTally (part (b .from) (b .to) s)) (runOf 4 n (at + b .from) (part (b .from) (b .to) s))
+        part-got (runTally (part (b .from) (b .to) s)) (runOf deepest n (at + b .from) (part (b .from) (b .to) s))
         (λ r. Answered twice n at s b (r .objects) (r .spare)) (container-tally bs)

@@ -9,6 +9,7 @@ use lib.Dec.{ltb}
 use borrow.Author.Tests.{lt-ltb, le-ltb, ne-eqb}
 use Rattle.zvt_rules.specs.declared.Fault.{Fault}
 use Rattle.zvt_rules.specs.Reading.{Reading, got, refused, noHeader, unless, andThen}
+use Rattle.zvt_rules.specs.Limits.{mostBody}
 use Rattle.zvt_rules.specs.Message.{BodyLength, longLength, lengthOf, Heading, end, headerWith, headerOf, wholeHeader}
 use Rattle.zvt_rules.proofs.Readings.{unless-got, then-got, then-on, then-stop, unless-then}
 use Rattle.zvt_rules.proofs.FieldReading.{header-most, header-in}
@@ -20,17 +21,17 @@ use Rattle.zvt_rules.specs.Answers.{refusalOf, headerIn, asHeaderAnswer, header
 use Rattle.zvt_rules.specs.declared.HeaderAnswer.the-variants.{Header as answer-got, Refused as answer-no}
 
 -- ---- where the body lies
-pub fit-over : (h : Header) (s : List ℕ) → 4096 < h .length → fitting h s ≡ header-refused (noHeader 2)
+pub fit-over : (h : Header) (s : List ℕ) → mostBody < h .length → fitting h s ≡ header-refused (noHeader 2)
 unfolding fitting asHeader unless
-fit-over h s o = rw (lt-ltb 4096 (h .length) o)
+fit-over h s o = rw (lt-ltb mostBody (h .length) o)
 
-pub fit-cut : (h : Header) (s : List ℕ) → h .length ≤ 4096 → length s < h .start + h .length → fitting h s ≡ header-refused (noHeader 1)
+pub fit-cut : (h : Header) (s : List ℕ) → h .length ≤ mostBody → length s < h .start + h .length → fitting h s ≡ header-refused (noHeader 1)
 unfolding fitting asHeader unless
-fit-cut h s o l = rw (le-ltb 4096 (h .length) o, lt-ltb (length s) (h .start + h .length) l)
+fit-cut h s o l = rw (le-ltb mostBody (h .length) o, lt-ltb (length s) (h .start + h .length) l)
 
-pub fit-in : (h : Header) (s : List ℕ) → h .length ≤ 4096 → h .start + h .length ≤ length s → fitting h s ≡ header-read h
+pub fit-in : (h : Header) (s : List ℕ) → h .length ≤ mostBody → h .start + h .length ≤ length s → fitting h s ≡ header-read h
 unfolding fitting asHeader unless
-fit-in h s o l = rw (le-ltb 4096 (h .length) o, le-ltb (length s) (h .start + h .length) l)
+fit-in h s o l = rw (le-ltb mostBody (h .length) o, le-ltb (length s) (h .start + h .length) l)
 
 -- ---- the bytes of a header
 -- a header in the code's terms
@@ -120,7 +121,7 @@ whole-first s m e =
 
 -- ---- the body lies within the bytes and the limit
 abbrev pub Within : Header → List ℕ → Type 0
-Within h s = (h .start ≤ 5) × (h .length ≤ 4096) × (h .start + h .length ≤ length s)
+Within h s = (h .start ≤ 5) × (h .length ≤ mostBody) × (h .start + h .length ≤ length s)
 
 got-within : (s : List ℕ) (m : Heading) → headerOf s ≡ got m → Within (headerIn m) s
 unfolding headerIn

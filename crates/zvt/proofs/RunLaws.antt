@@ -9,6 +9,7 @@ use lib.Seq.{length-take-le}
 use borrow.Author.Tests.{le-leb, lt-leb, eq-eqb, ne-eqb}
 use Rattle.zvt_rules.specs.declared.Fault.{Fault}
 use Rattle.zvt_rules.specs.Reading.{Reading, got, refused, no, unless, andThen, part}
+use Rattle.zvt_rules.specs.Limits.{mostObjects}
 use Rattle.zvt_rules.specs.Objects.{nested, Form, formSize, Head, from, to, headOf}
 use Rattle.zvt_rules.specs.Objects.{Obj, Objs, more, OneRead, RunRead, insideOf, oneBy, oneOf, runOf}
 use Rattle.zvt_rules.specs.Writing.{objBytes, runBytes}
@@ -147,13 +148,13 @@ unfolding oneAnswer oneTally
 first-in left n at s = part-got oneTally (oneOf left n at s) (λ o. (2 ≤ o .size) × (o .size ≤ length s)) (λ o e. one-in left n at s o e)
 
 -- ---- an object
-pub one-full : (left n at : ℕ) (s : List ℕ) → 64 ≤ n → oneAnswer left n at s ≡ part-refused (no 10 at)
+pub one-full : (left n at : ℕ) (s : List ℕ) → mostObjects ≤ n → oneAnswer left n at s ≡ part-refused (no 10 at)
 unfolding oneAnswer asPart oneOf oneBy unless
-one-full left n at s h = rw (le-leb 64 n h)
+one-full left n at s h = rw (le-leb mostObjects n h)
 
-pub one-deep : (left n at : ℕ) (s : List ℕ) → n < 64 → left ≡ 0 → oneAnswer left n at s ≡ part-refused (no 9 at)
+pub one-deep : (left n at : ℕ) (s : List ℕ) → n < mostObjects → left ≡ 0 → oneAnswer left n at s ≡ part-refused (no 9 at)
 unfolding oneAnswer asPart oneOf oneBy unless
-one-deep left n at s h e = rw (lt-leb 64 n h, eq-eqb left 0 e)
+one-deep left n at s h e = rw (lt-leb mostObjects n h, eq-eqb left 0 e)
 
 -- the answer for the run inside an object
 abbrev inner : ℕ → ℕ → ℕ → List ℕ → Bounds → PartRead
@@ -208,10 +209,10 @@ module _ (at : ℕ) (s : List ℕ) (h : Head) (b : Bytes s) (read : headOf at s 
             (omega arith) (omega (arith, object-size tag (formFor (length short)) short)),
       )
 
-module _ (left n at : ℕ) (s : List ℕ) (room : n < 64) (deep : left ≡ 0 → ⊥) where
+module _ (left n at : ℕ) (s : List ℕ) (room : n < mostObjects) (deep : left ≡ 0 → ⊥) where
   at-head : oneOf left n at s ≡ andThen (headOf at s) (λ h. insideOf runOf left n at s h)
   unfolding oneOf oneBy unless
-  at-head = rw (lt-leb 64 n room, ne-eqb left 0 deep)
+  at-head = rw (lt-leb mostObjects n room, ne-eqb left 0 deep)
 
   pub one-no-head : (r : Fault) → headAnswer at s ≡ bounds-refused r → oneAnswer left n at s ≡ part-refused r
   unfolding headAnswer oneAnswer asPart

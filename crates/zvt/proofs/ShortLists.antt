@@ -12,6 +12,7 @@ use Rattle.zvt_rules.specs.declared.Fault.{Fault}
 use Rattle.zvt_rules.specs.declared.Format.{Format}
 use Rattle.zvt_rules.specs.declared.Format.the-variants.{Unknown, Fixed, Digits, Container}
 use Rattle.zvt_rules.specs.Reading.{got, unless, part, among}
+use Rattle.zvt_rules.specs.Limits.{mostObjects}
 use Rattle.zvt_rules.specs.Objects.{Form, formSize, Objs}
 use Rattle.zvt_rules.specs.Fields.{formatOf, digitsOf, Field, plain, container, fieldId, countFields, FieldRead, ListRead, fieldBy, fieldOf, listOf}
 use Rattle.zvt_rules.specs.Writing.{sized, fieldBytes, listBytes}
@@ -47,12 +48,12 @@ fewer [] less seen h ok = tt
 fewer (f ∷ fs) less seen h ok =
     (ok .0, h (fieldId f) (ok .1), fewer fs (fieldId f ∷ less) (fieldId f ∷ seen) (fewer-more (fieldId f) less seen h) (ok .2))
 
-pub list-alone : (seen : List ℕ) (n at : ℕ) (s : List ℕ) (r : ListRead) → Bytes s → n ≤ 64 → listOf seen n at s ≡ got r
+pub list-alone : (seen : List ℕ) (n at : ℕ) (s : List ℕ) (r : ListRead) → Bytes s → n ≤ mostObjects → listOf seen n at s ≡ got r
     → listOf [] 0 0 s ≡ got (record { fields = r .fields; count = 0 + countFields (r .fields) })
 unfolding Fewer among
 list-alone seen n at s r b h e =
     let f = list-sound seen n at s r b e in
-    let few : 0 + countFields (r .fields) ≤ 64 = omega (arith, f .2, f .3 h) in
+    let few : 0 + countFields (r .fields) ≤ mostObjects = omega (arith, f .2, f .3 h) in
     rw (f .0) at (list-complete (r .fields) [] 0 0 (fewer (r .fields) [] seen (λ x m. refl) (f .1)) few)
 
 -- ---- where the parts of a field lie

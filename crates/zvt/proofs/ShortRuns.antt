@@ -8,6 +8,7 @@ use native.Mathlib.Omega.{arith}
 use lib.ListN.{length, getD, take, drop}
 use Rattle.zvt_rules.specs.declared.Fault.{Fault}
 use Rattle.zvt_rules.specs.Reading.{got, pick, part}
+use Rattle.zvt_rules.specs.Limits.{mostObjects, deepest}
 use Rattle.zvt_rules.specs.Objects.{nested, Head, from, to, Obj, leaf, branch, Objs, none, more, OneRead, RunRead, oneOf, runOf, countObjs}
 use Rattle.zvt_rules.specs.Writing.{lenBytes, sized, objBytes, runBytes}
 use Rattle.zvt_rules.specs.Shortest.{formFor, shortObj, shortRun}
@@ -35,7 +36,7 @@ mutual
   deeper (more o os) k l h ok = (deeper-obj o k l h (ok .0), deeper os k l h (ok .1))
 
 -- what is written of a run that is read
-written : (s : List ℕ) (r : RunRead) → runOf 4 0 0 s ≡ got r → shortRunOf s ≡ runBytes (shortRun (r .objs))
+written : (s : List ℕ) (r : RunRead) → runOf deepest 0 0 s ≡ got r → shortRunOf s ≡ runBytes (shortRun (r .objs))
 unfolding shortRunOf runWritten
 written s r e = rw e
 
@@ -43,11 +44,11 @@ pub record Alone (s : List ℕ) (os : Objs) : Type 0 where
   pub reads : RunReads s
   pub short : shortRunOf s ≡ runBytes (shortRun os)
 
-pub run-alone : (left n at : ℕ) (s : List ℕ) (r : RunRead) → Bytes s → left ≤ 4 → n ≤ 64 → runOf left n at s ≡ got r → Alone s (r .objs)
+pub run-alone : (left n at : ℕ) (s : List ℕ) (r : RunRead) → Bytes s → left ≤ deepest → n ≤ mostObjects → runOf left n at s ≡ got r → Alone s (r .objs)
 unfolding RunReads
 run-alone left n at s r b l h e =
     let f = run-sound left n at s r b e in
-    let few : 0 + countObjs (r .objs) ≤ 64 = omega (arith, f .2, f .3 h) in
+    let few : 0 + countObjs (r .objs) ≤ mostObjects = omega (arith, f .2, f .3 h) in
     let g = rw (f .0) at (run-complete (r .objs) 4 0 0 (deeper (r .objs) left 4 l (f .1)) few) in
     record { reads = (_, g); short = written s _ g }
 
@@ -79,7 +80,7 @@ ObjectShort s h o =
     (to h ≡ o .size) × (nested (getD s 0 0) ≡ true → RunReads (part (from h) (to h) s))
     × (objBytes (shortObj (o .obj)) ≡ objectOf (boundsOf s h) s)
 
-object-short : (s : List ℕ) (h : Head) (o : OneRead) → Bytes s → Inside runOf 4 0 0 s o h → ObjectShort s h o
+object-short : (s : List ℕ) (h : Head) (o : OneRead) → Bytes s → Inside runOf deepest 0 0 s o h → ObjectShort s h o
 unfolding objBytes shortObj objectOf boundsOf
 object-short s h o b =
     let tag = take (h .tag) s in
@@ -94,7 +95,7 @@ unfolding RunReads oneOf headAnswer asBounds boundsOf runBytes shortRun
 first-object s b r l =
     let w = run-got 4 0 0 s (r .0) l (r .1) in
     let o = w .first in
-    let x = one-got runOf 4 0 0 s o (w .read) in
+    let x = one-got runOf deepest 0 0 s o (w .read) in
     let h = x .head in
     let i = head-in 0 s h (x .read) in
     let g = one-sound 4 0 0 s o b (w .read) in

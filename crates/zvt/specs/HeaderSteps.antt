@@ -4,6 +4,7 @@ use mathlib.Core.List.{List}
 use lib.ListN.{length}
 use lib.Dec.{ltb}
 use Rattle.zvt_rules.specs.Reading.{Reading, got, refused, noHeader, unless, andThen}
+use Rattle.zvt_rules.specs.Limits.{mostBody}
 use Rattle.zvt_rules.specs.Message.{headerOf, wholeHeader}
 use Rattle.zvt_rules.specs.Answers.{headerIn}
 use Rattle.zvt_rules.specs.declared.Header.{Header}
@@ -16,7 +17,7 @@ asHeader (refused r) = header-refused r
 
 unfoldable pub fitting : Header → List ℕ → HeaderRead
 fitting h s =
-    asHeader (unless (ltb 4096 (h .length)) (noHeader 2) (unless (ltb (length s) (h .start + h .length)) (noHeader 1) (got h)))
+    asHeader (unless (ltb mostBody (h .length)) (noHeader 2) (unless (ltb (length s) (h .start + h .length)) (noHeader 1) (got h)))
 
 unfoldable pub firstHeader : List ℕ → HeaderRead
 firstHeader s = asHeader (andThen (headerOf s) λ h. got (headerIn h))

@@ -9,6 +9,7 @@ use Rattle.zvt_rules.specs.declared.FieldAnswer.the-variants.{Field as listed-f
 use Rattle.zvt_rules.specs.declared.ListPlace.{ListPlace}
 use Rattle.zvt_rules.specs.declared.ListPlace.the-variants.{Nowhere}
 use Rattle.zvt_rules.specs.Reading.{Reading, got, refused, pick, part}
+use Rattle.zvt_rules.specs.Limits.{mostBody}
 use Rattle.zvt_rules.specs.Fields.{Field, ListRead, listOf}
 use Rattle.zvt_rules.specs.Message.{Message, readOf}
 use Rattle.zvt_rules.specs.Values.{isStatus}
@@ -29,7 +30,7 @@ listedIn a e s = listedFrom a (fieldsBetween a e s)
 pub record ListIn (a e : ℕ) (s : List ℕ) : Type 0 where
   pub order : a ≤ e
   pub inside : e ≤ length s
-  pub short : e ≤ a + 4096
+  pub short : e ≤ a + mostBody
   pub reads : ListReads (part a e s)
 
 -- what stands at a place of such a list: a field, and the list goes on behind it, or nothing

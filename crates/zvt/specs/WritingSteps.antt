@@ -6,6 +6,7 @@ use lib.ListN.{length, take}
 use lib.Dec.{leb}
 use Rattle.zvt_rules.specs.declared.Layout.{Layout}
 use Rattle.zvt_rules.specs.Reading.{Reading, got, refused, pick, part}
+use Rattle.zvt_rules.specs.Limits.{deepest}
 use Rattle.zvt_rules.specs.Objects.{RunRead, runOf}
 use Rattle.zvt_rules.specs.Fields.{ListRead, listOf}
 use Rattle.zvt_rules.specs.Message.{Body, bodyOf, layoutOf}
@@ -31,14 +32,14 @@ valueBytes tag value = headBytes tag (length value) ++ value
 
 -- bytes that are a run, and that run written shortest
 unfoldable pub RunReads : List ℕ → Type 0
-RunReads s = (r : RunRead) × (runOf 4 0 0 s ≡ got r)
+RunReads s = (r : RunRead) × (runOf deepest 0 0 s ≡ got r)
 
 unfoldable pub runWritten : Reading RunRead → List ℕ
 runWritten (got r) = runBytes (shortRun (r .objs))
 runWritten (refused f) = []
 
 unfoldable pub shortRunOf : List ℕ → List ℕ
-shortRunOf s = runWritten (runOf 4 0 0 s)
+shortRunOf s = runWritten (runOf deepest 0 0 s)
 
 -- the field that s begins with, whose parts lie there
 unfoldable pub shortFieldOf : Bounds → List ℕ → List ℕ

@@ -13,11 +13,12 @@ use zvt_rules::Place;
 ghost use mathlib.Core.Path.{_≡_};
 ghost use Prim.Native.Nat.{_+_, _≤_};
 ghost use lib.ListN.{length};
+ghost use Rattle.zvt_rules.specs.Limits.{mostBody, mostMessage};
 ghost use Rattle.zvt.specs.BodySteps.{securedAnswer, bodyAnswer, bodyIn, described};
 
 // A password, then a list.
 pub(crate) fn read_secured(s: &[u8], at: usize) -> PartRead
-    requires { ⌜ at + length (now s) ≤ 4101 ⌝ }
+    requires { ⌜ at + length (now s) ≤ mostMessage ⌝ }
     ensures { λ r. ⌜ r ≡ securedAnswer at (now (s .entry)) ⌝ }
 {
     if s.len() < 3 {
@@ -41,7 +42,7 @@ pub(crate) fn read_secured(s: &[u8], at: usize) -> PartRead
 }
 
 pub(crate) fn read_body(s: &[u8], at: usize, layout: Layout) -> PartRead
-    requires { ⌜ at + length (now s) ≤ 4101 ⌝ }
+    requires { ⌜ at + length (now s) ≤ mostMessage ⌝ }
     ensures { λ r. ⌜ r ≡ bodyAnswer at (now (s .entry)) layout ⌝ }
 {
     match layout {
@@ -57,7 +58,7 @@ pub(crate) fn read_body(s: &[u8], at: usize, layout: Layout) -> PartRead
 
 // The body that a header of s announces.
 pub(crate) fn body_in(s: &[u8], h: Header) -> PartRead
-    requires { ⌜ (h .start ≤ 5) × (h .length ≤ 4096) × (h .start + h .length ≤ length (now s)) ⌝ }
+    requires { ⌜ (h .start ≤ 5) × (h .length ≤ mostBody) × (h .start + h .length ≤ length (now s)) ⌝ }
     ensures { λ r. ⌜ r ≡ bodyIn h (now (s .entry)) ⌝ }
 {
     let from = h.start;

@@ -17,6 +17,7 @@ use zvt_rules::Place;
 ghost use mathlib.Core.Path.{_≡_};
 ghost use Prim.Native.Nat.{_+_, _<_, _≤_};
 ghost use lib.ListN.{length, getD};
+ghost use Rattle.zvt_rules.specs.Limits.{mostMessage};
 ghost use Rattle.zvt_rules.specs.Fields.{formatOf};
 ghost use Rattle.zvt.specs.FieldSteps.{digitsAnswer, decimalsAnswer, fieldBounds, plainAnswer, fieldPart, listAnswer};
 
@@ -34,7 +35,7 @@ pub(crate) enum Decimals {
 
 // The number in the first d bytes, each a length digit.
 pub(crate) fn digits_of(s: &[u8], at: usize, d: usize) -> DigitsRead
-    requires { ⌜ (at + length (now s) ≤ 4101) × (d ≤ 3) ⌝ }
+    requires { ⌜ (at + length (now s) ≤ mostMessage) × (d ≤ 3) ⌝ }
     ensures { λ r. ⌜ r ≡ digitsAnswer d at (now (s .entry)) ⌝ }
 {
     let mut v: usize = 0;
@@ -63,7 +64,7 @@ pub(crate) fn digits_of(s: &[u8], at: usize, d: usize) -> DigitsRead
 
 // Decimal digits in both halves of each byte.
 pub(crate) fn all_decimal(s: &[u8], at: usize) -> Decimals
-    requires { ⌜ at + length (now s) ≤ 4101 ⌝ }
+    requires { ⌜ at + length (now s) ≤ mostMessage ⌝ }
     ensures { λ r. ⌜ r ≡ decimalsAnswer at (now (s .entry)) ⌝ }
 {
     let mut i: usize = 0;
@@ -82,7 +83,7 @@ pub(crate) fn all_decimal(s: &[u8], at: usize) -> Decimals
 
 // The bounds of the field that s begins with, whose id has that format.
 pub(crate) fn field_bounds(s: &[u8], at: usize, format: Format) -> BoundsRead
-    requires { ⌜ (at + length (now s) ≤ 4101) × (0 < length (now s)) × (format ≡ formatOf (getD (now s) 0 0)) ⌝ }
+    requires { ⌜ (at + length (now s) ≤ mostMessage) × (0 < length (now s)) × (format ≡ formatOf (getD (now s) 0 0)) ⌝ }
     ensures { λ r. ⌜ r ≡ fieldBounds at (now (s .entry)) ⌝ }
 {
     match format {
@@ -104,7 +105,7 @@ pub(crate) fn field_bounds(s: &[u8], at: usize, format: Format) -> BoundsRead
 
 // The field that s begins with, whose value, plain bytes, lies there: digits where digits must be.
 pub(crate) fn read_plain(s: &[u8], at: usize, b: Bounds, n: u8) -> PartRead
-    requires { ⌜ (at + length (now s) ≤ 4101) × (0 < length (now s)) × (b .from ≤ b .to) × (b .to ≤ length (now s)) ⌝ }
+    requires { ⌜ (at + length (now s) ≤ mostMessage) × (0 < length (now s)) × (b .from ≤ b .to) × (b .to ≤ length (now s)) ⌝ }
     ensures { λ r. ⌜ r ≡ plainAnswer n at b (now (s .entry)) ⌝ }
 {
     let from = b.from;
@@ -125,7 +126,7 @@ pub(crate) fn read_plain(s: &[u8], at: usize, b: Bounds, n: u8) -> PartRead
 
 // The field that s begins with, after n objects; twice says that its id stood before.
 pub(crate) fn read_field(s: &[u8], at: usize, n: u8, twice: bool) -> PartRead
-    requires { ⌜ (at + length (now s) ≤ 4101) × (0 < length (now s)) ⌝ }
+    requires { ⌜ (at + length (now s) ≤ mostMessage) × (0 < length (now s)) ⌝ }
     ensures { λ r. ⌜ r ≡ fieldPart twice n at (now (s .entry)) ⌝ }
 {
     let format = format_of(s[0]);
@@ -159,7 +160,7 @@ pub(crate) fn read_field(s: &[u8], at: usize, n: u8, twice: bool) -> PartRead
 
 // Reads a list of fields. seen marks the ids that came.
 pub(crate) fn read_list(s: &[u8], at: usize) -> PartRead
-    requires { ⌜ at + length (now s) ≤ 4101 ⌝ }
+    requires { ⌜ at + length (now s) ≤ mostMessage ⌝ }
     ensures { λ r. ⌜ r ≡ listAnswer at (now (s .entry)) ⌝ }
 {
     let mut seen = [false; 256];

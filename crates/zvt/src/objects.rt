@@ -5,6 +5,7 @@ use zvt_rules::Place;
 ghost use mathlib.Core.Path.{_≡_};
 ghost use Prim.Native.Nat.{_+_, _-_, _≤_};
 ghost use lib.ListN.{length};
+ghost use Rattle.zvt_rules.specs.Limits.{mostMessage};
 ghost use Rattle.zvt_rules.specs.Objects.{formSize};
 ghost use Rattle.zvt_rules.specs.Shortest.{formFor};
 ghost use Rattle.zvt.specs.ObjectSteps.{tagAnswer, lenAnswer, within, headAnswer, tallyOf, oneAnswer, runAnswer};
@@ -49,7 +50,7 @@ pub(crate) enum PartRead {
 }
 
 pub(crate) fn tag_size(s: &[u8], at: usize) -> TagRead
-    requires { ⌜ at + length (now s) ≤ 4101 ⌝ }
+    requires { ⌜ at + length (now s) ≤ mostMessage ⌝ }
     ensures { λ r. ⌜ r ≡ tagAnswer at (now (s .entry)) ⌝ }
 {
     if s.len() == 0 {
@@ -79,7 +80,7 @@ pub(crate) fn tag_size(s: &[u8], at: usize) -> TagRead
 }
 
 pub(crate) fn len_of(s: &[u8], at: usize) -> LenRead
-    requires { ⌜ at + length (now s) ≤ 4101 ⌝ }
+    requires { ⌜ at + length (now s) ≤ mostMessage ⌝ }
     ensures { λ r. ⌜ r ≡ lenAnswer at (now (s .entry)) ⌝ }
 {
     let end = at + s.len();
@@ -126,7 +127,7 @@ pub(crate) fn bounds_in(
     v: usize,
     nested: bool,
 ) -> BoundsRead
-    requires { ⌜ (at + length (now s) ≤ 4101) × (from ≤ length (now s)) ⌝ }
+    requires { ⌜ (at + length (now s) ≤ mostMessage) × (from ≤ length (now s)) ⌝ }
     ensures { λ r. ⌜ r ≡ within at tag from v nested (now (s .entry)) ⌝ }
 {
     if s.len() - from < v {
@@ -147,7 +148,7 @@ pub(crate) fn bounds_in(
 
 // The bounds of the object that s begins with.
 pub(crate) fn head_of(s: &[u8], at: usize) -> BoundsRead
-    requires { ⌜ at + length (now s) ≤ 4101 ⌝ }
+    requires { ⌜ at + length (now s) ≤ mostMessage ⌝ }
     ensures { λ r. ⌜ r ≡ headAnswer at (now (s .entry)) ⌝ }
 {
     match tag_size(s, at) {
@@ -195,7 +196,7 @@ pub(crate) fn tally_of(b: Bounds, objects: u8, saved: usize) -> Tally
 
 // Reads a run, with left levels left and after n objects.
 pub(crate) fn read_run(s: &[u8], at: usize, left: u8, n: u8) -> PartRead
-    requires { ⌜ at + length (now s) ≤ 4101 ⌝ }
+    requires { ⌜ at + length (now s) ≤ mostMessage ⌝ }
     ensures { λ r. ⌜ r ≡ runAnswer left n at (now (s .entry)) ⌝ }
 {
     if s.len() == 0 {
@@ -226,7 +227,7 @@ pub(crate) fn read_run(s: &[u8], at: usize, left: u8, n: u8) -> PartRead
 
 // Reads the object that s begins with.
 pub(crate) fn read_one(s: &[u8], at: usize, left: u8, n: u8) -> PartRead
-    requires { ⌜ at + length (now s) ≤ 4101 ⌝ }
+    requires { ⌜ at + length (now s) ≤ mostMessage ⌝ }
     ensures { λ r. ⌜ r ≡ oneAnswer left n at (now (s .entry)) ⌝ }
 {
     if Outline::MOST_OBJECTS <= n {

@@ -13,6 +13,7 @@ ghost use mathlib.Core.Bool.{true};
 ghost use Prim.Native.Nat.{_+_, _<_, _≤_};
 ghost use lib.ListN.{length};
 ghost use Rattle.zvt_rules.specs.Reading.{part};
+ghost use Rattle.zvt_rules.specs.Limits.{mostBody};
 ghost use Rattle.zvt_rules.specs.Writing.{lenBytes};
 ghost use Rattle.zvt_rules.specs.Shortest.{formFor};
 ghost use Rattle.zvt.specs.WritingSteps.{Put, headBytes, valueBytes, RunReads, shortRunOf, shortFieldOf, ListReads, shortListOf, BodyReads, shortBodyOf, headerBytes, bodyPart, headerLayout, shortMessageOf};
@@ -63,7 +64,7 @@ pub(crate) fn put_leaf(tag: &[u8], value: &[u8], out: &mut [u8]) -> usize
 
 // An object or a container whose value is a run.
 pub(crate) fn put_branch(tag: &[u8], run: &[u8], out: &mut [u8]) -> usize
-    requires { ⌜ (length (now run) ≤ 4096) × RunReads (now run) × (length (valueBytes (now tag) (shortRunOf (now run))) ≤ length (now out)) ⌝ }
+    requires { ⌜ (length (now run) ≤ mostBody) × RunReads (now run) × (length (valueBytes (now tag) (shortRunOf (now run))) ≤ length (now out)) ⌝ }
     ensures { λ r. ⌜ Put (valueBytes (now (tag .entry)) (shortRunOf (now (run .entry)))) (now (out .entry)) r (now (out .exit)) ⌝ }
 {
     let left = put_run(run, out);
@@ -73,7 +74,7 @@ pub(crate) fn put_branch(tag: &[u8], run: &[u8], out: &mut [u8]) -> usize
 
 // A run of objects, the last one first.
 pub(crate) fn put_run(s: &[u8], out: &mut [u8]) -> usize
-    requires { ⌜ (length (now s) ≤ 4096) × RunReads (now s) × (length (shortRunOf (now s)) ≤ length (now out)) ⌝ }
+    requires { ⌜ (length (now s) ≤ mostBody) × RunReads (now s) × (length (shortRunOf (now s)) ≤ length (now out)) ⌝ }
     ensures { λ r. ⌜ Put (shortRunOf (now (s .entry))) (now (out .entry)) r (now (out .exit)) ⌝ }
 {
     if s.len() == 0 {
@@ -97,7 +98,7 @@ pub(crate) fn put_run(s: &[u8], out: &mut [u8]) -> usize
 
 // The field that s begins with: its length digits have one form only.
 pub(crate) fn put_field(s: &[u8], b: Bounds, out: &mut [u8]) -> usize
-    requires { ⌜ (length (now s) ≤ 4096) × (1 ≤ b .from) × (b .from ≤ b .to) × (b .to ≤ length (now s)) × (b .nested ≡ true → RunReads (part (b .from) (b .to) (now s))) × (length (shortFieldOf b (now s)) ≤ length (now out)) ⌝ }
+    requires { ⌜ (length (now s) ≤ mostBody) × (1 ≤ b .from) × (b .from ≤ b .to) × (b .to ≤ length (now s)) × (b .nested ≡ true → RunReads (part (b .from) (b .to) (now s))) × (length (shortFieldOf b (now s)) ≤ length (now out)) ⌝ }
     ensures { λ r. ⌜ Put (shortFieldOf b (now (s .entry))) (now (out .entry)) r (now (out .exit)) ⌝ }
 {
     let from = b.from;
@@ -111,7 +112,7 @@ pub(crate) fn put_field(s: &[u8], b: Bounds, out: &mut [u8]) -> usize
 
 // A list of fields, the last one first.
 pub(crate) fn put_list(s: &[u8], out: &mut [u8]) -> usize
-    requires { ⌜ (length (now s) ≤ 4096) × ListReads (now s) × (length (shortListOf (now s)) ≤ length (now out)) ⌝ }
+    requires { ⌜ (length (now s) ≤ mostBody) × ListReads (now s) × (length (shortListOf (now s)) ≤ length (now out)) ⌝ }
     ensures { λ r. ⌜ Put (shortListOf (now (s .entry))) (now (out .entry)) r (now (out .exit)) ⌝ }
 {
     if s.len() == 0 {
@@ -128,7 +129,7 @@ pub(crate) fn put_list(s: &[u8], out: &mut [u8]) -> usize
 }
 
 pub(crate) fn put_body(s: &[u8], layout: Layout, out: &mut [u8]) -> usize
-    requires { ⌜ (length (now s) ≤ 4096) × BodyReads layout (now s) × (length (shortBodyOf layout (now s)) ≤ length (now out)) ⌝ }
+    requires { ⌜ (length (now s) ≤ mostBody) × BodyReads layout (now s) × (length (shortBodyOf layout (now s)) ≤ length (now out)) ⌝ }
     ensures { λ r. ⌜ Put (shortBodyOf layout (now (s .entry))) (now (out .entry)) r (now (out .exit)) ⌝ }
 {
     match layout {
@@ -156,7 +157,7 @@ pub(crate) fn put_header(class: u8, instruction: u8, v: usize, out: &mut [u8]) -
 
 // The message whose header is h.
 pub(crate) fn put_message(s: &[u8], h: Header, out: &mut [u8]) -> usize
-    requires { ⌜ (h .start + h .length ≤ length (now s)) × (h .length ≤ 4096) × BodyReads (headerLayout h) (bodyPart h (now s)) × (length (shortMessageOf h (now s)) ≤ length (now out)) ⌝ }
+    requires { ⌜ (h .start + h .length ≤ length (now s)) × (h .length ≤ mostBody) × BodyReads (headerLayout h) (bodyPart h (now s)) × (length (shortMessageOf h (now s)) ≤ length (now out)) ⌝ }
     ensures { λ r. ⌜ Put (shortMessageOf h (now (s .entry))) (now (out .entry)) r (now (out .exit)) ⌝ }
 {
     let from = h.start;
@@ -169,7 +170,7 @@ pub(crate) fn put_message(s: &[u8], h: Header, out: &mut [u8]) -> usize
 
 // How many bytes a message with a body of v bytes takes.
 pub(crate) fn message_size(v: usize) -> usize
-    requires { ⌜ v ≤ 4096 ⌝ }
+    requires { ⌜ v ≤ mostBody ⌝ }
     ensures { λ r. ⌜ r ≡ length (headerBytes 0 0 v) + v ⌝ }
 {
     if v < 255 { v + 3 } else { v + 5 }

@@ -12,6 +12,7 @@ use borrow.Author.Tests.{le-leb, le-ltb, eqb-true}
 use Rattle.zvt_rules.specs.declared.Format.{Format}
 use Rattle.zvt_rules.specs.declared.Format.the-variants.{Unknown, Fixed, Digits, Container}
 use Rattle.zvt_rules.specs.Reading.{Reading, got, no, part, among}
+use Rattle.zvt_rules.specs.Limits.{mostObjects, deepest}
 use Rattle.zvt_rules.specs.Objects.{Form, formSize, lenOf, Objs, countObjs, RunRead, runOf}
 use Rattle.zvt_rules.specs.Fields.{formatOf, unknown, lengthDigit, digitsOf, unlessUndecimal, holdsDigits, digitsIn, Field, plain, container, fieldId, countField, FieldRead, valueOf, plainOf, containerOf, fieldBy, fieldOf, countFields, ListRead, listOf}
 use Rattle.zvt_rules.specs.Writing.{lenBytes, sized, runBytes, digitBytes, lengthIn, fieldBytes, listBytes}
@@ -99,7 +100,7 @@ pub record FieldSound (n : ℕ) (s : List ℕ) (o : FieldRead) : Type 0 where
   pub ok : FieldOk (o .field)
   pub id : fieldId (o .field) ≡ getD s 0 0
   pub count : o .count ≡ n + countField (o .field)
-  pub few : n ≤ 64 → o .count ≤ 64
+  pub few : n ≤ mostObjects → o .count ≤ mostObjects
 
 plain-sound : (id n at d v : ℕ) (t : List ℕ) (o : FieldRead) → SizeOk (formatOf id) v → lengthIn (formatOf id) v ≡ take d t
     → plainOf id n at (1 + d) v (id ∷ t) ≡ got o
@@ -177,7 +178,7 @@ container-sound id n at t o b six e =
     let d = formSize (g .0 .form) in
     let v = g .0 .value in
     let value = part (1 + d) (1 + d + v) (id ∷ t) in
-    let r = run-sound 4 n (at + (1 + d)) value (g .1) (bytes-part (1 + d) (1 + d + v) (id ∷ t) b) (g .4) in
+    let r = run-sound deepest n (at + (1 + d)) value (g .1) (bytes-part (1 + d) (1 + d + v) (id ∷ t) b) (g .4) in
     let l = len-sound (at + 1) t (g .0) (bytes-drop 1 (id ∷ t) b) (g .2) in
     let size : length value ≡ v = omega (arith, part-length (id ∷ t) (1 + d) (1 + d + v) (omega arith) (g .3)) in
     rw (g .5)
@@ -194,7 +195,7 @@ unfolding formatOf among
 six = refl
 
 container-back : (n at : ℕ) (form : Form) (w rest : List ℕ) (r : RunRead) → FormOk form (length w)
-    → runOf 4 n (at + (1 + formSize form)) w ≡ got r
+    → runOf deepest n (at + (1 + formSize form)) w ≡ got r
     → containerOf n at (0x06 ∷ (sized form w ++ rest))
     ≡ got (record { field = container form (r .objs); size = suc (length (sized form w)); count = r .count })
 unfolding containerOf sized
@@ -209,14 +210,14 @@ container-back n at form w rest r ok e =
     ∙ then-on _ w (value-back at s a (length w) w (back-within 0x06 p w rest (formSize form) size) (back 0x06 p w rest (formSize form) size))
     ∙ then-on _ r e ∙ cc
 
-container-complete : (form : Form) (os : Objs) (seen : List ℕ) (n at : ℕ) (rest : List ℕ) → FormOk form (length (runBytes os)) → RunOk os 4
-    → among seen 0x06 ≡ false → n + countObjs os ≤ 64 → Back seen n at (container form os) rest
+container-complete : (form : Form) (os : Objs) (seen : List ℕ) (n at : ℕ) (rest : List ℕ) → FormOk form (length (runBytes os)) → RunOk os deepest
+    → among seen 0x06 ≡ false → n + countObjs os ≤ mostObjects → Back seen n at (container form os) rest
 unfolding unknown fieldBy fieldBytes countField
 container-complete form os seen n at rest ok deep new few =
     let w = runBytes os in
     field-by seen n at (0x06 ∷ (sized form w ++ rest)) 0x06 Container refl six refl new
     ∙ container-back n at form w rest (record { objs = os; count = n + countObjs os }) ok
-    (run-complete os 4 n (at + (1 + formSize form)) deep few)
+    (run-complete os deepest n (at + (1 + formSize form)) deep few)
 
 -- ---- fields and lists
 by-sound : (id n at : ℕ) (t : List ℕ) (f : Format) (o : FieldRead) → Bytes (id ∷ t) → formatOf id ≡ f
@@ -235,7 +236,7 @@ field-sound seen n at [] o b e = absurd (omega (arith, field-in seen n at [] o e
 field-sound seen n at (id ∷ t) o b e = by-sound id n at t (formatOf id) o b refl (field-got seen n at (id ∷ t) o e .2)
 
 pub field-complete : (f : Field) (seen : List ℕ) (n at : ℕ) (rest : List ℕ) → FieldOk f → among seen (fieldId f) ≡ false
-    → n + countField f ≤ 64
+    → n + countField f ≤ mostObjects
     → fieldOf seen n at (fieldBytes f ++ rest) ≡ got (record { field = f; size = length (fieldBytes f); count = n + countField f })
 unfolding FieldOk fieldId countField
 field-complete (plain id value) seen n at rest ok new few = plain-complete id value (formatOf id) seen n at rest refl (ok .0) (ok .1) new
@@ -243,7 +244,7 @@ field-complete (container form os) seen n at rest ok new few = container-complet
 
 -- what is read of a list
 abbrev pub ListSound : List ℕ → ℕ → List ℕ → ListRead → Type 0
-ListSound seen n s r = (listBytes (r .fields) ≡ s) × ListOk seen (r .fields) × (r .count ≡ n + countFields (r .fields)) × (n ≤ 64 → r .count ≤ 64)
+ListSound seen n s r = (listBytes (r .fields) ≡ s) × ListOk seen (r .fields) × (r .count ≡ n + countFields (r .fields)) × (n ≤ mostObjects → r .count ≤ mostObjects)
 
 none-sound : (seen : List ℕ) (n at : ℕ) (r : ListRead) → listOf seen n at [] ≡ got r → ListSound seen n [] r
 unfolding listBytes ListOk countFields
@@ -289,7 +290,7 @@ more-back seen n at w rest f fs c d g h =
     list-step seen n at (w ++ rest) (omega (arith, field-in seen n at (w ++ rest) _ g))
     ∙ then-on _ _ g ∙ then-on _ (record { fields = fs; count = d }) (rw (drop-append-seam w rest) h)
 
-pub list-complete : (fs : List Field) (seen : List ℕ) (n at : ℕ) → ListOk seen fs → n + countFields fs ≤ 64
+pub list-complete : (fs : List Field) (seen : List ℕ) (n at : ℕ) → ListOk seen fs → n + countFields fs ≤ mostObjects
     → listOf seen n at (listBytes fs) ≡ got (record { fields = fs; count = n + countFields fs })
 unfolding listBytes ListOk countFields
 list-complete [] seen n at ok few = let none : n ≡ n + 0 = omega arith in list-none seen n at [] refl ∙ cc

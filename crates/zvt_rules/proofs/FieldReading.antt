@@ -13,6 +13,7 @@ use borrow.Author.Tests.{ltb-false, not-false}
 use Rattle.zvt_rules.specs.declared.Format.{Format}
 use Rattle.zvt_rules.specs.declared.Format.the-variants.{Unknown, Fixed, Digits, Container}
 use Rattle.zvt_rules.specs.Reading.{Reading, got, refused, no, unless, andThen, part, among}
+use Rattle.zvt_rules.specs.Limits.{mostBody, deepest}
 use Rattle.zvt_rules.specs.Objects.{formSize, Len, lenOf, RunRead, runOf}
 use Rattle.zvt_rules.specs.Fields.{formatOf, unknown, lengthDigit, digitsOf, decimal, unlessUndecimal, digitsIn, holdsDigits, plain, container, FieldRead, valueOf, plainOf, containerOf, fieldBy, fieldOf, listBy, listOf}
 use Rattle.zvt_rules.specs.Message.{BodyLength, lengthOf, Heading, headerSize, end, headerWith, headerOf}
@@ -132,7 +133,7 @@ plain-got id n at a v s o e =
 
 pub container-got : (n at : ℕ) (s : List ℕ) (o : FieldRead) → containerOf n at s ≡ got o
     → (l : Len) × (r : RunRead) × (lenOf (at + 1) (drop 1 s) ≡ got l) × (1 + formSize (l .form) + l .value ≤ length s)
-    × (runOf 4 n (at + (1 + formSize (l .form))) (part (1 + formSize (l .form)) (1 + formSize (l .form) + l .value) s) ≡ got r)
+    × (runOf deepest n (at + (1 + formSize (l .form))) (part (1 + formSize (l .form)) (1 + formSize (l .form) + l .value) s) ≡ got r)
     × (o ≡ record { field = container (l .form) (r .objs); size = 1 + formSize (l .form) + l .value; count = r .count })
 unfolding containerOf
 container-got n at s o e =
@@ -140,7 +141,7 @@ container-got n at s o e =
     let a = 1 + formSize (k .0 .form) in
     let v = then-got (valueOf at a (k .0 .value) s) _ o (k .2) in
     let i = value-in at a (k .0 .value) s (v .0) (v .1) in
-    let r = then-got (runOf 4 n (at + a) (v .0)) _ o (v .2) in
+    let r = then-got (runOf deepest n (at + a) (v .0)) _ o (v .2) in
     (k .0, r .0, k .1, i .0, rw (i .1) (r .1), sym (got-same (r .2)))
 
 by-in : (id n at : ℕ) (s : List ℕ) (f : Format) (o : FieldRead) → fieldBy id n at s f ≡ got o → (1 ≤ o .size) × (o .size ≤ length s)
@@ -205,14 +206,14 @@ pub header-most : (long : Bool) → headerSize long ≤ 5
 header-most long = pick-test (λ n. n ≤ 5) long (λ _. omega arith) (λ _. omega arith)
 
 pub with-in : (c i : ℕ) (s : List ℕ) (l : BodyLength) (h : Heading) → headerWith c i s l ≡ got h
-    → (l .value ≤ 4096) × (headerSize (l .long) + l .value ≤ length s) × (h ≡ record { class = c; instruction = i; long = l .long; size = l .value })
+    → (l .value ≤ mostBody) × (headerSize (l .long) + l .value ≤ length s) × (h ≡ record { class = c; instruction = i; long = l .long; size = l .value })
 unfolding headerWith
 with-in c i s l h e =
-    let k = unless-got (ltb 4096 (l .value)) _ _ h e in
+    let k = unless-got (ltb mostBody (l .value)) _ _ h e in
     let j = unless-got (ltb (length s) (headerSize (l .long) + l .value)) _ _ h (k .1) in
-    (ltb-false 4096 (l .value) (k .0), ltb-false (length s) (headerSize (l .long) + l .value) (j .0), sym (got-same (j .1)))
+    (ltb-false mostBody (l .value) (k .0), ltb-false (length s) (headerSize (l .long) + l .value) (j .0), sym (got-same (j .1)))
 
-pub header-in : (s : List ℕ) (h : Heading) → headerOf s ≡ got h → (h .size ≤ 4096) × (end h ≤ length s)
+pub header-in : (s : List ℕ) (h : Heading) → headerOf s ≡ got h → (h .size ≤ mostBody) × (end h ≤ length s)
 unfolding headerOf
 header-in [] h e = absurd (got-not-refused (sym e))
 header-in (c ∷ []) h e = absurd (got-not-refused (sym e))

@@ -12,6 +12,7 @@ use borrow.Author.Tests.{eqb-true, eqb-false, ltb-false, le-ltb, ne-eqb}
 use Rattle.zvt_rules.specs.declared.Layout.{Layout}
 use Rattle.zvt_rules.specs.declared.Layout.the-variants.{Plain, List as FieldList, Secured}
 use Rattle.zvt_rules.specs.Reading.{Reading, got, part}
+use Rattle.zvt_rules.specs.Limits.{mostBody, mostObjects}
 use Rattle.zvt_rules.specs.Fields.{Field, countFields, ListRead, listOf}
 use Rattle.zvt_rules.specs.Message.{BodyLength, longLength, lengthOf, Heading, headerSize, start, end, headerWith, headerOf, layoutOf, Body, bytes, listed, securedOf, bodyOf, Message, messageOf, firstOf, wholeHeader, readOf, countBody, countOf}
 use Rattle.zvt_rules.specs.Writing.{listBytes, bodyBytes, lengthBytes, messageBytes}
@@ -59,7 +60,7 @@ cut true c i t v =
     let k : suc (suc (3 + v)) - 5 ≡ v = omega arith in
     rw (e, k) (ap (λ (x : List ℕ). c ∷ (i ∷ x)) (take-add 3 v t))
 
-length-ok : (long : Bool) (v : ℕ) → (long ≡ false → v < 255) → v ≤ 4096 → LengthOk long v
+length-ok : (long : Bool) (v : ℕ) → (long ≡ false → v < 255) → v ≤ mostBody → LengthOk long v
 unfolding LengthOk
 length-ok false v h l = h refl
 length-ok true v h l = l
@@ -78,10 +79,10 @@ header-sound (c ∷ (i ∷ t)) h b e =
 abbrev pub headerFor : Message → Heading
 headerFor m = record { class = m .class; instruction = m .instruction; long = m .long; size = length (bodyBytes (m .body)) }
 
-with-on : (c i : ℕ) (s : List ℕ) (l : BodyLength) → l .value ≤ 4096 → headerSize (l .long) + l .value ≤ length s
+with-on : (c i : ℕ) (s : List ℕ) (l : BodyLength) → l .value ≤ mostBody → headerSize (l .long) + l .value ≤ length s
     → headerWith c i s l ≡ got (record { class = c; instruction = i; long = l .long; size = l .value })
 unfolding headerWith
-with-on c i s l h w = unless-on _ _ (le-ltb 4096 (l .value) h) ∙ unless-on _ _ (le-ltb (length s) (headerSize (l .long) + l .value) w)
+with-on c i s l h w = unless-on _ _ (le-ltb mostBody (l .value) h) ∙ unless-on _ _ (le-ltb (length s) (headerSize (l .long) + l .value) w)
 
 header-complete : (c i : ℕ) (long : Bool) (w rest : List ℕ) → LengthOk long (length w)
     → headerOf (c ∷ (i ∷ ((lengthBytes long (length w) ++ w) ++ rest)))
@@ -218,13 +219,13 @@ pub read-exactly : (s : List ℕ) (m : Message) → Bytes s → (readOf s ≡ go
 read-exactly s m b = (read-sound s m b, λ k. rw (← (k .0)) (read-complete m (k .1)))
 
 -- O10: "A message has at most 64 objects, inner ones counted"
-few : (l : Layout) (b : Body) → LayoutOk l b → countBody b ≤ 64
+few : (l : Layout) (b : Body) → LayoutOk l b → countBody b ≤ mostObjects
 unfolding LayoutOk FieldsOk countBody
 few l (bytes s) ok = omega arith
 few Plain (listed password fs) ok = absurd ok
 few FieldList (listed password fs) ok = omega (arith, ok .1 .1)
 few Secured (listed password fs) ok = omega (arith, ok .2 .1)
 
-pub count-limit : (m : Message) → MessageOk m → countOf m ≤ 64
+pub count-limit : (m : Message) → MessageOk m → countOf m ≤ mostObjects
 unfolding countOf MessageOk
 count-limit m ok = few (layoutOf (m .class) (m .instruction)) (m .body) (ok .0)

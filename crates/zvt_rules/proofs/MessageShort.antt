@@ -12,6 +12,7 @@ use borrow.Author.Tests.{leb-false, lt-leb}
 use Rattle.zvt_rules.specs.declared.Layout.{Layout}
 use Rattle.zvt_rules.specs.declared.Layout.the-variants.{Plain, List as FieldList, Secured}
 use Rattle.zvt_rules.specs.Reading.{got}
+use Rattle.zvt_rules.specs.Limits.{mostBody}
 use Rattle.zvt_rules.specs.Fields.{Field}
 use Rattle.zvt_rules.specs.Message.{headerSize, layoutOf, Body, bytes, listed, Message, readOf, countBody, countOf}
 use Rattle.zvt_rules.specs.Writing.{listBytes, bodyBytes, messageBytes}
@@ -86,12 +87,12 @@ pub body-exactly : (l : Layout) (b : Body) → LayoutOk l b
 body-exactly l b ok = (body-strict l b ok, λ e. ap (λ (x : Body). length (bodyBytes x)) (body-kept l b ok e))
 
 -- ---- the shortest form of a body's length
-pub length-bound : (long : Bool) (v : ℕ) → LengthOk long v → v ≤ 4096
+pub length-bound : (long : Bool) (v : ℕ) → LengthOk long v → v ≤ mostBody
 unfolding LengthOk
 length-bound false v ok = omega arith
 length-bound true v ok = ok
 
-shortest-ok : (v : ℕ) → v ≤ 4096 → LengthOk (leb 255 v) v
+shortest-ok : (v : ℕ) → v ≤ mostBody → LengthOk (leb 255 v) v
 unfolding LengthOk
 shortest-ok v h = by-test (leb 255 v) (λ e. rw e h) (λ e. rw e (leb-false 255 v e))
 

@@ -10,6 +10,7 @@ use lib.ListN.{length, getD, take, drop, length-append, length-drop, take-append
 use lib.Seq.{getD-drop, take-add, take-append-seam, drop-append-seam, drop-append-add, drop-at}
 use borrow.Author.Tests.{lt-leb, ne-eqb, le-ltb}
 use Rattle.zvt_rules.specs.Reading.{Reading, got, no, unless, part}
+use Rattle.zvt_rules.specs.Limits.{mostObjects}
 use Rattle.zvt_rules.specs.Objects.{longTag, topBit, nested, secondTag, tagSize, Form, formSize, lenOf, Head, from, to, headWith}
 use Rattle.zvt_rules.specs.Objects.{headOf, Obj, leaf, branch, Objs, none, more, OneRead, RunRead, insideOf, oneBy, runOf, oneOf}
 use Rattle.zvt_rules.specs.Objects.{countObj, countObjs}
@@ -77,10 +78,10 @@ head-sound at s h b e =
 -- ---- what is read was written: its bytes, its limits, its count
 abbrev RunSound : ℕ → ℕ → List ℕ → RunRead → Type 0
 RunSound left n s r =
-    (runBytes (r .objs) ≡ s) × RunOk (r .objs) left × (r .count ≡ n + countObjs (r .objs)) × (n ≤ 64 → r .count ≤ 64)
+    (runBytes (r .objs) ≡ s) × RunOk (r .objs) left × (r .count ≡ n + countObjs (r .objs)) × (n ≤ mostObjects → r .count ≤ mostObjects)
 
 abbrev OneSound : ℕ → ℕ → List ℕ → OneRead → Type 0
-OneSound left n s o = (objBytes (o .obj) ≡ take (o .size) s) × ObjOk (o .obj) left × (o .count ≡ n + countObj (o .obj)) × (o .count ≤ 64)
+OneSound left n s o = (objBytes (o .obj) ≡ take (o .size) s) × ObjOk (o .obj) left × (o .count ≡ n + countObj (o .obj)) × (o .count ≤ mostObjects)
 
 -- an object, where that is known of the shorter runs
 one-from : (left n at : ℕ) (s : List ℕ) (o : OneRead)
@@ -128,11 +129,11 @@ by-sound (suc f) left n at (c ∷ s) r l b e =
     run-from left n at (c ∷ s) r (λ i m a t q h. by-sound f i m a t q (omega arith)) b (omega arith) e
 
 pub run-sound : (left n at : ℕ) (s : List ℕ) (r : RunRead) → Bytes s → runOf left n at s ≡ got r
-    → (runBytes (r .objs) ≡ s) × RunOk (r .objs) left × (r .count ≡ n + countObjs (r .objs)) × (n ≤ 64 → r .count ≤ 64)
+    → (runBytes (r .objs) ≡ s) × RunOk (r .objs) left × (r .count ≡ n + countObjs (r .objs)) × (n ≤ mostObjects → r .count ≤ mostObjects)
 run-sound left n at s r = by-sound (length s) left n at s r (omega arith)
 
 pub one-sound : (left n at : ℕ) (s : List ℕ) (o : OneRead) → Bytes s → oneOf left n at s ≡ got o
-    → (objBytes (o .obj) ≡ take (o .size) s) × ObjOk (o .obj) left × (o .count ≡ n + countObj (o .obj)) × (o .count ≤ 64)
+    → (objBytes (o .obj) ≡ take (o .size) s) × ObjOk (o .obj) left × (o .count ≡ n + countObj (o .obj)) × (o .count ≤ mostObjects)
 one-sound left n at s o = one-from left n at s o (λ l m a t r h. run-sound l m a t r)
 
 -- ---- what is written is read
@@ -171,11 +172,11 @@ module _ (tag : List ℕ) (form : Form) (v rest : List ℕ) where
         then-on _ (length tag) (rw regroup (tag-written at tag _ run ok .0)) ∙ then-on _ _ (at-len (at + length tag))
         ∙ rw (le-ltb (length whole) (to written) (omega (arith, end, length-append (tag ++ sized form v) rest)))
 
-    at-object : (left n at : ℕ) → n < 64 → 0 < left → oneOf left n at whole ≡ insideOf runOf left n at whole written
+    at-object : (left n at : ℕ) → n < mostObjects → 0 < left → oneOf left n at whole ≡ insideOf runOf left n at whole written
     unfolding oneOf oneBy unless
-    at-object left n at room deep = rw (lt-leb 64 n room, ne-eqb left 0 (λ e. omega arith)) (then-on _ written (head-written at))
+    at-object left n at room deep = rw (lt-leb mostObjects n room, ne-eqb left 0 (λ e. omega arith)) (then-on _ written (head-written at))
 
-leaf-written : (tag : List ℕ) (form : Form) (v rest : List ℕ) (left n at : ℕ) → TagOk tag false → FormOk form (length v) → n < 64 → 0 < left
+leaf-written : (tag : List ℕ) (form : Form) (v rest : List ℕ) (left n at : ℕ) → TagOk tag false → FormOk form (length v) → n < mostObjects → 0 < left
     → oneOf left n at ((tag ++ sized form v) ++ rest)
     ≡ got (record { obj = leaf tag form v; size = length (tag ++ sized form v); count = n + 1 })
 unfolding insideOf
@@ -184,7 +185,7 @@ leaf-written tag form v rest left n at ok fits room deep =
     ∙ cc (taken tag form v rest, value-part tag form v rest, end tag form v rest)
 
 branch-written : (tag : List ℕ) (form : Form) (os : Objs) (rest : List ℕ) (left n at c : ℕ)
-    → TagOk tag true → FormOk form (length (runBytes os)) → n < 64 → 0 < left
+    → TagOk tag true → FormOk form (length (runBytes os)) → n < mostObjects → 0 < left
     → ((a : ℕ) → runOf (left - 1) (n + 1) a (runBytes os) ≡ got (record { objs = os; count = c }))
     → oneOf left n at ((tag ++ sized form (runBytes os)) ++ rest)
     ≡ got (record { obj = branch tag form os; size = length (tag ++ sized form (runBytes os)); count = c })
@@ -210,14 +211,14 @@ counted os c = got (record { objs = os; count = c })
 mutual
   unfolding objBytes runBytes ObjOk RunOk countObj countObjs
 
-  pub one-complete : (o : Obj) (left n at : ℕ) (rest : List ℕ) → ObjOk o left → n + countObj o ≤ 64
+  pub one-complete : (o : Obj) (left n at : ℕ) (rest : List ℕ) → ObjOk o left → n + countObj o ≤ mostObjects
       → oneOf left n at (objBytes o ++ rest) ≡ got (record { obj = o; size = length (objBytes o); count = n + countObj o })
   one-complete (leaf tag form value) left n at rest ok fits = leaf-written tag form value rest left n at (ok .0) (ok .1) (omega arith) (ok .2)
   one-complete (branch tag form os) left n at rest ok fits =
       branch-written tag form os rest left n at (n + suc (countObjs os)) (ok .0) (ok .1) (omega arith) (ok .2)
       (λ a. run-complete os (left - 1) (n + 1) a (ok .3) (omega arith) ∙ ap (counted os) (omega arith))
 
-  pub run-complete : (os : Objs) (left n at : ℕ) → RunOk os left → n + countObjs os ≤ 64
+  pub run-complete : (os : Objs) (left n at : ℕ) → RunOk os left → n + countObjs os ≤ mostObjects
       → runOf left n at (runBytes os) ≡ got (record { objs = os; count = n + countObjs os })
   run-complete none left n at ok fits = run-none left n at [] refl ∙ ap (counted none) (omega arith)
   run-complete (more o os) left n at ok fits =

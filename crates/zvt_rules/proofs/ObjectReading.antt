@@ -10,6 +10,7 @@ use lib.Seq.{take-all}
 use lib.Dec.{ltb, leb, eqb}
 use borrow.Author.Tests.{ltb-false, leb-false, eqb-false}
 use Rattle.zvt_rules.specs.Reading.{Reading, got, no, unless, andThen, part}
+use Rattle.zvt_rules.specs.Limits.{mostObjects}
 use Rattle.zvt_rules.specs.Objects.{longTag, topBit, nested, secondTag, tagSize, formSize, Len, oneByteLen, twoByteLen, lenOf}
 use Rattle.zvt_rules.specs.Objects.{Head, from, to, headWith, headOf, Obj, leaf, branch, none, more}
 use Rattle.zvt_rules.specs.Objects.{OneRead, RunRead, RunReader, insideOf, oneBy, runBy, runOf, oneOf}
@@ -95,7 +96,7 @@ Inside run left n at s o h =
     ⊎ ((nested (getD s 0 0) ≡ false) × (leafOf n s h ≡ o))
 
 pub record ObjRead (run : RunReader) (left n at : ℕ) (s : List ℕ) (o : OneRead) : Type 0 where
-  pub room : n < 64
+  pub room : n < mostObjects
   pub deep : 0 < left
   pub head : Head
   pub read : headOf at s ≡ got head
@@ -114,11 +115,11 @@ inside-got run left n at s h o =
 pub one-got : (run : RunReader) (left n at : ℕ) (s : List ℕ) (o : OneRead) → oneBy run left n at s ≡ got o → ObjRead run left n at s o
 unfolding oneBy
 one-got run left n at s o e =
-    let c = unless-got (leb 64 n) (no 10 at) _ o e in
+    let c = unless-got (leb mostObjects n) (no 10 at) _ o e in
     let d = unless-got (eqb left 0) (no 9 at) _ o (c .1) in
     let h = then-got (headOf at s) _ o (d .1) in
     let z = eqb-false left 0 (d .0) in
-    record { room = leb-false 64 n (c .0); deep = omega arith; head = h .0; read = h .1; inside = inside-got run left n at s (h .0) o (h .2) }
+    record { room = leb-false mostObjects n (c .0); deep = omega arith; head = h .0; read = h .1; inside = inside-got run left n at s (h .0) o (h .2) }
 
 by-in : (run : RunReader) (left n at : ℕ) (s : List ℕ) (o : OneRead) → oneBy run left n at s ≡ got o → (2 ≤ o .size) × (o .size ≤ length s)
 by-in run left n at s o e =
@@ -146,7 +147,7 @@ inside-cong p q left n at s h e f =
 one-cong : (p q : RunReader) (left n at : ℕ) (s : List ℕ) → Agree p q s → oneBy p left n at s ≡ oneBy q left n at s
 unfolding oneBy
 one-cong p q left n at s f =
-    ap (λ (x : Reading OneRead). unless (leb 64 n) (no 10 at) (unless (eqb left 0) (no 9 at) x))
+    ap (λ (x : Reading OneRead). unless (leb mostObjects n) (no 10 at) (unless (eqb left 0) (no 9 at) x))
     (then-alike (headOf at s) _ _ (λ h e. inside-cong p q left n at s h e f))
 
 abbrev andMore : Obj → RunRead → Reading RunRead

@@ -8,6 +8,7 @@ use lib.Dec.{ltb, leb}
 use Rattle.zvt_rules.specs.declared.Format.{Format}
 use Rattle.zvt_rules.specs.declared.Format.the-variants.{Unknown, Fixed, Digits, Container}
 use Rattle.zvt_rules.specs.Reading.{Reading, got, refused, no, pick, unless, andThen, part, among}
+use Rattle.zvt_rules.specs.Limits.{deepest}
 use Rattle.zvt_rules.specs.Objects.{Form, formSize, lenOf, Objs, countObjs, runOf}
 
 abbrev fromTo : ℕ → ℕ → ℕ → Bool
@@ -106,7 +107,7 @@ unfoldable pub containerOf : ℕ → ℕ → List ℕ → Reading FieldRead
 containerOf n at s =
     andThen (lenOf (at + 1) (drop 1 s)) λ l.
     andThen (valueOf at (1 + formSize (l .form)) (l .value) s) λ value.
-    andThen (runOf 4 n (at + (1 + formSize (l .form))) value) λ r.
+    andThen (runOf deepest n (at + (1 + formSize (l .form))) value) λ r.
     got (record { field = container (l .form) (r .objs); size = 1 + formSize (l .form) + l .value; count = r .count })
 
 -- R42: "length 1 or 4, value 1, digits 6, then the inside of a container"

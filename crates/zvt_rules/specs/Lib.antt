@@ -1,5 +1,6 @@
 -- What the rules say of a message. A reader has to believe these files; they are in the order in which one needs the other.
 pub mod Reading
+pub mod Limits
 pub mod Buffers
 pub mod Objects
 pub mod Fields

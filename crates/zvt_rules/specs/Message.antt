@@ -7,6 +7,7 @@ use lib.Dec.{ltb, eqb}
 use Rattle.zvt_rules.specs.declared.Layout.{Layout}
 use Rattle.zvt_rules.specs.declared.Layout.the-variants.{Plain, List as FieldList, Secured}
 use Rattle.zvt_rules.specs.Reading.{Reading, got, refused, no, noHeader, pick, unless, andThen, part, among}
+use Rattle.zvt_rules.specs.Limits.{mostBody}
 use Rattle.zvt_rules.specs.Fields.{Field, countFields, unlessUndecimal, listOf}
 
 -- a message's length, and whether it was written as FF and two bytes
@@ -45,7 +46,7 @@ end h = start h + h .size
 -- R39: "2, 1 for a body cut short"
 unfoldable pub headerWith : ℕ → ℕ → List ℕ → BodyLength → Reading Heading
 headerWith class instruction s l =
-    unless (ltb 4096 (l .value)) (noHeader 2)
+    unless (ltb mostBody (l .value)) (noHeader 2)
     (unless (ltb (length s) (headerSize (l .long) + l .value)) (noHeader 1)
     (got (record { class = class; instruction = instruction; long = l .long; size = l .value })))
 

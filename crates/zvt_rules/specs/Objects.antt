@@ -6,6 +6,7 @@ use mathlib.Core.List.{List, [], _∷_}
 use lib.ListN.{length, getD, take, drop}
 use lib.Dec.{ltb, leb, eqb}
 use Rattle.zvt_rules.specs.Reading.{Reading, got, refused, no, pick, unless, andThen, part}
+use Rattle.zvt_rules.specs.Limits.{mostObjects}
 
 -- O3: "A tag has two bytes where the low five bits of its first byte are ones, else one."
 abbrev pub longTag : ℕ → Bool
@@ -116,7 +117,7 @@ insideOf run left n at s h =
 -- R43: "An object: 10, 9, tag 1, 8, length 1 or 4, value 1, then its inside."
 unfoldable pub oneBy : RunReader → ℕ → ℕ → ℕ → List ℕ → Reading OneRead
 oneBy run left n at s =
-    unless (leb 64 n) (no 10 at) (unless (eqb left 0) (no 9 at) (andThen (headOf at s) λ h. insideOf run left n at s h))
+    unless (leb mostObjects n) (no 10 at) (unless (eqb left 0) (no 9 at) (andThen (headOf at s) λ h. insideOf run left n at s h))
 
 -- one object after the other, left to right (R40), whatever their tags (O12); f bounds their number, which the bytes bound too
 unfoldable pub runBy : ℕ → ℕ → ℕ → ℕ → List ℕ → Reading RunRead

@@ -9,6 +9,7 @@ use lib.Seq.{length-take-le}
 use borrow.Author.Needs.{needs}
 use borrow.Fn.Kinds.{In}
 use borrow.Fn.PlainCycle.{Measures, is, falls, and}
+use Rattle.zvt_rules.specs.Limits.{mostBody}
 use Rattle.zvt_rules.proofs.ObjectReading.{tail, part-length}
 use Rattle.zvt.specs.declared.objects.Bounds.{Bounds}
 use Rattle.zvt.specs.WritingSteps.{Put, headBytes, valueBytes, shortRunOf}
@@ -167,7 +168,7 @@ module _ (t : ℕ) where
       let z = at-first c in
       first-put shortRunOf (first c) (bytes z) _ (bounds z .to) (found z .all) (run z .pre .1 .2) (c .before .before .put-run .ensures)
 
-  part-small : (c : Found) → (length (bytes c) ≤ 4096)
+  part-small : (c : Found) → (length (bytes c) ≤ mostBody)
       × (length (take (bounds c .to - bounds c .from) (drop (bounds c .from) (bytes c))) + 2 ≤ length (bytes c))
   part-small c =
       let f = found c in

@@ -5,6 +5,7 @@ use Prim.Native.Nat.{ℕ, _+_, _≤_}
 use native.Mathlib.Omega.{arith}
 use lib.ListN.{length, length-append}
 use borrow.Author.Needs.{needs}
+use Rattle.zvt_rules.specs.Limits.{mostBody}
 use Rattle.zvt_rules.specs.declared.Layout.{Layout}
 use Rattle.zvt_rules.proofs.ObjectReading.{part-length}
 use Rattle.zvt_rules.proofs.ObjectBytes.{bytes-part}
@@ -39,7 +40,7 @@ fits : (c : Inner) → length (head c (length (body c)) ++ body c) ≤ length (b
 unfolding shortMessageOf
 fits c = begun c .pre .3
 
-small : (c : Inner) → length (body c) ≤ 4096
+small : (c : Inner) → length (body c) ≤ mostBody
 unfolding bodyPart
 small c =
     let m = begun c in
