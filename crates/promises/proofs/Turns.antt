@@ -8,6 +8,8 @@ use borrow.Author.Tests.{lt-leb, le-ltb}
 use Rattle.zvt_rules.specs.Reading.{pick}
 use Rattle.desk_rules.specs.declared.Desk.{Desk}
 use Rattle.desk_rules.specs.declared.Reply.{Reply}
+use Rattle.desk_rules.specs.Numbers.{laneCount}
+use Rattle.desk_rules.specs.Openings.{mostCommand}
 use Rattle.desk_rules.specs.Course.{Call, laneOf, needsPlace, moves, writes}
 use Rattle.desk_rules.specs.Desk.{State, fresh, laneAt, load, accept, decide, Accepts, Accepted, run, wrote}
 use Rattle.desk_rules.specs.Memory.{freshDesk, view, Valid, answerOf, leavesOf}
@@ -55,10 +57,10 @@ roomy-taken s c h =
     let t = told s c h in
     let l = laneAt (s .lanes) (laneOf c) in
     rw (
-      lt-leb 8 (laneOf c) (t .lane),
+      lt-leb laneCount (laneOf c) (t .lane),
       passing (moves l (s .lines) c) _ (t .moved),
       room-tell (needsPlace c) (load s) (t .room),
-      le-ltb 16 (length (writes l c)) (writes-short l c),
+      le-ltb mostCommand (length (writes l c)) (writes-short l c),
     )
 
 pub calls-roomy : (cs : List Call) → callsIn (roomy cs) ≡ cs
@@ -132,7 +134,7 @@ pub bytes-one-by-one : (cs : List Call) → OfBytes cs → OfBytes (oneByOne cs)
 unfolding oneByOne paymentsOf All OfBytes
 bytes-one-by-one cs b =
     let p = paymentsOf cs in
-    let k = all-payments cs (record { ended = []; ongoing = replicate 8 [] }) b (tt, (tt, (tt, (tt, (tt, (tt, (tt, (tt, (tt, tt))))))))) in
+    let k = all-payments cs (record { ended = []; ongoing = replicate laneCount [] }) b (tt, (tt, (tt, (tt, (tt, (tt, (tt, (tt, (tt, tt))))))))) in
     all-append (flattened (p .ended)) (flattened (p .ongoing)) (all-joined (p .ended) (k .0)) (all-joined (p .ongoing) (k .1))
 
 -- ---- a day from a fresh desk

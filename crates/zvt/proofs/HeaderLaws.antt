@@ -14,9 +14,8 @@ use Rattle.zvt_rules.specs.Message.{BodyLength, longLength, lengthOf, Heading, 
 use Rattle.zvt_rules.proofs.Readings.{unless-got, then-got, then-on, then-stop, unless-then}
 use Rattle.zvt_rules.proofs.FieldReading.{header-most, header-in}
 use Rattle.zvt_rules.specs.declared.Header.{Header}
-use Rattle.zvt.specs.declared.headers.HeaderRead.{HeaderRead}
 use Rattle.zvt.specs.declared.headers.HeaderRead.the-variants.{Header as header-read, Refused as header-refused}
-use Rattle.zvt.specs.HeaderSteps.{asHeader, fitting, firstHeader, wholeAnswer}
+use Rattle.zvt.specs.HeaderSteps.{asHeader, fitting, inCode, firstHeader, wholeAnswer}
 use Rattle.zvt_rules.specs.Answers.{refusalOf, headerIn, asHeaderAnswer, headerAnswer}
 use Rattle.zvt_rules.specs.declared.HeaderAnswer.the-variants.{Header as answer-got, Refused as answer-no}
 
@@ -34,10 +33,6 @@ unfolding fitting asHeader unless
 fit-in h s o l = rw (le-ltb mostBody (h .length) o, le-ltb (length s) (h .start + h .length) l)
 
 -- ---- the bytes of a header
--- a header in the code's terms
-abbrev inCode : Reading Heading → HeaderRead
-inCode x = asHeader (andThen x λ m. got (headerIn m))
-
 with-fitting : (c i : ℕ) (s : List ℕ) (l : BodyLength)
     → inCode (headerWith c i s l)
     ≡ fitting (headerIn (record { class = c; instruction = i; long = l .long; size = l .value })) s
@@ -46,12 +41,12 @@ with-fitting c i s l = ap asHeader (unless-then _ _ _ _ ∙ rw unless-then)
 
 by-length : (c i : ℕ) (s : List ℕ) (l : BodyLength) → lengthOf s ≡ got l
     → firstHeader (c ∷ (i ∷ s)) ≡ fitting (headerIn (record { class = c; instruction = i; long = l .long; size = l .value })) (c ∷ (i ∷ s))
-unfolding firstHeader headerOf
+unfolding headerOf
 by-length c i s l e =
     ap inCode (then-on _ l e) ∙ with-fitting c i (c ∷ (i ∷ s)) l
 
 pub header-none : (s : List ℕ) → length s < 3 → firstHeader s ≡ header-refused (noHeader 1)
-unfolding firstHeader asHeader headerOf lengthOf andThen
+unfolding asHeader headerOf lengthOf andThen
 header-none [] h = refl
 header-none (c ∷ []) h = refl
 header-none (c ∷ (i ∷ [])) h = refl
@@ -66,7 +61,7 @@ header-short (c ∷ (i ∷ [])) h n = absurd (omega arith)
 header-short (c ∷ (i ∷ (b ∷ s))) h n = by-length c i (b ∷ s) (record { long = false; value = b }) (rw (ne-eqb b 0xFF n))
 
 pub header-cut : (s : List ℕ) → 3 ≤ length s → getD s 2 0 ≡ 0xFF → length s < 5 → firstHeader s ≡ header-refused (noHeader 1)
-unfolding firstHeader asHeader headerOf lengthOf longLength andThen
+unfolding asHeader headerOf lengthOf longLength andThen
 header-cut [] h e l = absurd (omega arith)
 header-cut (c ∷ []) h e l = absurd (omega arith)
 header-cut (c ∷ (i ∷ [])) h e l = absurd (omega arith)
@@ -85,32 +80,16 @@ header-long (c ∷ (i ∷ (b ∷ (x ∷ [])))) h e = absurd (omega arith)
 header-long (c ∷ (i ∷ (b ∷ (x ∷ (y ∷ s))))) h e = by-length c i (b ∷ (x ∷ (y ∷ s))) (record { long = true; value = y * 256 + x }) (rw e)
 
 -- ---- from the code's answer to what was read
-as-got : (x : Reading Heading) (h : Header) → inCode x ≡ header-read h
+pub as-got : (x : Reading Heading) (h : Header) → inCode x ≡ header-read h
     → (m : Heading) × (x ≡ got m) × (headerIn m ≡ h)
 unfolding asHeader andThen
 as-got (got m) h e = (m, refl, cc)
 as-got (refused r) h e = absurd (let z : _≡_ {A = ℕ} 0 1 = cc in omega arith)
 
-as-stopped : (x : Reading Heading) (r : Fault) → inCode x ≡ header-refused r → x ≡ refused r
+pub as-stopped : (x : Reading Heading) (r : Fault) → inCode x ≡ header-refused r → x ≡ refused r
 unfolding asHeader andThen
 as-stopped (got m) r e = absurd (let z : _≡_ {A = ℕ} 0 1 = cc in omega arith)
 as-stopped (refused q) r e = cc
-
-pub first-got : (s : List ℕ) (h : Header) → firstHeader s ≡ header-read h → (m : Heading) × (headerOf s ≡ got m) × (headerIn m ≡ h)
-unfolding firstHeader
-first-got s h e = as-got (headerOf s) h e
-
-pub first-stopped : (s : List ℕ) (r : Fault) → firstHeader s ≡ header-refused r → headerOf s ≡ refused r
-unfolding firstHeader
-first-stopped s r e = as-stopped (headerOf s) r e
-
-pub whole-got : (s : List ℕ) (h : Header) → wholeAnswer s ≡ header-read h → (m : Heading) × (wholeHeader s ≡ got m) × (headerIn m ≡ h)
-unfolding wholeAnswer
-whole-got s h e = as-got (wholeHeader s) h e
-
-pub whole-stopped : (s : List ℕ) (r : Fault) → wholeAnswer s ≡ header-refused r → wholeHeader s ≡ refused r
-unfolding wholeAnswer
-whole-stopped s r e = as-stopped (wholeHeader s) r e
 
 -- a whole header is a header
 pub whole-first : (s : List ℕ) (m : Heading) → wholeHeader s ≡ got m → headerOf s ≡ got m
@@ -128,21 +107,21 @@ unfolding headerIn
 got-within s m e = let i = header-in s m e in (header-most (m .long), i .0, i .1)
 
 pub first-within : (s : List ℕ) (h : Header) → firstHeader s ≡ header-read h → Within h s
-first-within s h e = let g = first-got s h e in rw (← (g .2)) (got-within s (g .0) (g .1))
+first-within s h e = let g = as-got (headerOf s) h e in rw (← (g .2)) (got-within s (g .0) (g .1))
 
 pub whole-within : (s : List ℕ) (h : Header) → wholeAnswer s ≡ header-read h → Within h s
-whole-within s h e = let g = whole-got s h e in rw (← (g .2)) (got-within s (g .0) (whole-first s (g .0) (g .1)))
+whole-within s h e = let g = as-got (wholeHeader s) h e in rw (← (g .2)) (got-within s (g .0) (whole-first s (g .0) (g .1)))
 
 -- ---- nothing behind the body
 pub whole-none : (s : List ℕ) (r : Fault) → firstHeader s ≡ header-refused r → wholeAnswer s ≡ header-refused r
-unfolding wholeAnswer asHeader wholeHeader
-whole-none s r e = ap asHeader (then-stop _ r (then-stop _ r (first-stopped s r e)))
+unfolding asHeader wholeHeader
+whole-none s r e = ap asHeader (then-stop _ r (then-stop _ r (as-stopped (headerOf s) r e)))
 
 whole-goes-on : (s : List ℕ) (h : Header) → firstHeader s ≡ header-read h
     → wholeAnswer s ≡ asHeader (unless (ltb (h .start + h .length) (length s)) (noHeader 3) (got h))
-unfolding wholeAnswer wholeHeader headerIn andThen
+unfolding wholeHeader headerIn andThen
 whole-goes-on s h e =
-    let g = first-got s h e in
+    let g = as-got (headerOf s) h e in
     rw (← (g .2)) (ap inCode (then-on _ (g .0) (g .1)) ∙ ap asHeader (unless-then _ _ _ _))
 
 pub whole-over : (s : List ℕ) (h : Header) → firstHeader s ≡ header-read h → h .length < length s - h .start
@@ -158,8 +137,8 @@ whole-in s h e l = whole-goes-on s h e ∙ rw (le-ltb (h .start + h .length) (le
 pub answer-refused : (s : List ℕ) (r : Fault) → wholeAnswer s ≡ header-refused r
     → headerAnswer s ≡ answer-no (record { number = r .number })
 unfolding headerAnswer asHeaderAnswer refusalOf
-answer-refused s r e = ap asHeaderAnswer (whole-stopped s r e)
+answer-refused s r e = ap asHeaderAnswer (as-stopped (wholeHeader s) r e)
 
 pub answer-header : (s : List ℕ) (h : Header) → wholeAnswer s ≡ header-read h → headerAnswer s ≡ answer-got h
 unfolding headerAnswer asHeaderAnswer
-answer-header s h e = let g = whole-got s h e in ap asHeaderAnswer (g .1) ∙ ap answer-got (g .2)
+answer-header s h e = let g = as-got (wholeHeader s) h e in ap asHeaderAnswer (g .1) ∙ ap answer-got (g .2)

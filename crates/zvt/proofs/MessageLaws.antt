@@ -1,4 +1,4 @@
--- What the public readers of a message answer, by the header and the tally of the body. Assumes nothing.
+-- What is read of a message, by the header and the tally of the body. Assumes nothing.
 use mathlib.Core.Path.{_≡_, refl, ap, _∙_}
 use mathlib.Core.Bool.{Bool, true, false, not, _||_, and-comm, or-true, or-false}
 use mathlib.Core.List.{List}
@@ -9,8 +9,8 @@ use lib.Dec.{leb, eqb}
 use borrow.Author.Tests.{eq-eqb, ne-eqb, le-leb, lt-leb}
 use Rattle.zvt_rules.specs.declared.Fault.{Fault}
 use Rattle.zvt_rules.specs.declared.Layout.{Layout}
-use Rattle.zvt_rules.specs.Reading.{got, refused, part}
-use Rattle.zvt_rules.specs.Message.{Heading, headerSize, start, end, layoutOf, Body, bodyOf, Message, messageOf, headerOf, readOf, firstOf, countOf}
+use Rattle.zvt_rules.specs.Reading.{Reading, got, refused, andThen, part}
+use Rattle.zvt_rules.specs.Message.{Heading, headerSize, start, end, layoutOf, Body, bodyOf, Message, messageOf, headerOf, countOf}
 use Rattle.zvt_rules.specs.Writing.{bodyBytes, messageBytes}
 use Rattle.zvt_rules.specs.Shortest.{isShortBody, isShort}
 use Rattle.zvt_rules.specs.Grammar.{Bytes, LayoutOk}
@@ -22,16 +22,13 @@ use Rattle.zvt_rules.proofs.MessageBytes.{body-sound, message-size}
 use Rattle.zvt_rules.proofs.MessageShort.{body-shorter, body-exactly}
 use Rattle.zvt_rules.specs.declared.Header.{Header}
 use Rattle.zvt_rules.specs.declared.Outline.{Outline}
-use Rattle.zvt_rules.specs.declared.Refusal.{Refusal}
 use Rattle.zvt.specs.declared.headers.HeaderRead.the-variants.{Header as header-read, Refused as header-refused}
 use Rattle.zvt.specs.declared.objects.Tally.{Tally}
 use Rattle.zvt.specs.declared.objects.PartRead.the-variants.{Part, Refused as part-refused}
-use Rattle.zvt_rules.specs.declared.ReadAnswer.the-variants.{Accepted, Refused}
-use Rattle.zvt_rules.specs.declared.FirstAnswer.the-variants.{Accepted as first-accepted, Refused as first-refused}
-use Rattle.zvt_rules.specs.Answers.{refusalOf, headerIn, outlineOf, asReadAnswer, readAnswer, asFirstAnswer, firstAnswer}
-use Rattle.zvt.specs.HeaderSteps.{firstHeader, wholeAnswer}
+use Rattle.zvt_rules.specs.Answers.{headerIn, outlineOf}
+use Rattle.zvt.specs.HeaderSteps.{inCode}
 use Rattle.zvt.specs.BodySteps.{spareBody, bodyTally, bodyAnswer, bodyIn, described}
-use Rattle.zvt.proofs.HeaderLaws.{first-got, first-stopped, whole-got, whole-first, whole-stopped}
+use Rattle.zvt.proofs.HeaderLaws.{as-got, as-stopped}
 use Rattle.zvt.proofs.RunLaws.{part-got, part-stopped}
 
 -- ---- whether every length was shortest
@@ -77,11 +74,11 @@ module _ (s : List ℕ) (m : Heading) where
   abbrev layout : Layout
   layout = layoutOf (m .class) (m .instruction)
 
-  pub message-stopped : (r : Fault) → bodyIn (headerIn m) s ≡ part-refused r → messageOf s m ≡ refused r
+  message-stopped : (r : Fault) → bodyIn (headerIn m) s ≡ part-refused r → messageOf s m ≡ refused r
   unfolding bodyIn headerIn bodyAnswer messageOf
   message-stopped r e = then-stop _ r (part-stopped (bodyTally inside) (bodyOf (start m) inside layout) r e)
 
-  abbrev pub Described : Tally → Type 0
+  abbrev Described : Tally → Type 0
   Described t =
       (w : Message) × (messageOf s m ≡ got w) × (outlineOf w ≡ described (headerIn m) t) × (length (messageBytes w) ≡ end m)
 
@@ -98,48 +95,26 @@ module _ (s : List ℕ) (m : Heading) where
         let swap = and-comm (not (m .long) || leb 255 (m .size)) (isShortBody b) in
         (w, then-on _ b f, rw (size, short, at, swap), omega (arith, message-size w))
 
-    pub message-read : (t : Tally) → bodyIn (headerIn m) s ≡ Part t → Described t
+    message-read : (t : Tally) → bodyIn (headerIn m) s ≡ Part t → Described t
     unfolding bodyIn headerIn bodyAnswer
     message-read t f = part-got (bodyTally inside) (bodyOf (start m) inside layout) Described body-described t f
 
--- ---- the message that s is
-abbrev numbered : Fault → Refusal
-numbered r = record { number = r .number }
+-- ---- the message behind a header that x reads: the one that s is, or the one that s begins with
+module _ (s : List ℕ) (x : Reading Heading) where
+  abbrev behind : Reading Message
+  behind = andThen x λ m. messageOf s m
 
-pub read-no-header : (s : List ℕ) (r : Fault) → wholeAnswer s ≡ header-refused r → readAnswer s ≡ Refused (numbered r)
-unfolding readAnswer readOf asReadAnswer refusalOf
-read-no-header s r e = ap asReadAnswer (then-stop _ r (whole-stopped s r e))
+  pub no-header : (r : Fault) → inCode x ≡ header-refused r → behind ≡ refused r
+  no-header r e = then-stop _ r (as-stopped x r e)
 
-module _ (s : List ℕ) (h : Header) (e : wholeAnswer s ≡ header-read h) where
-  pub read-no-body : (r : Fault) → bodyIn h s ≡ part-refused r → readAnswer s ≡ Refused (numbered r)
-  unfolding readAnswer readOf asReadAnswer refusalOf
-  read-no-body r f =
-      let g = whole-got s h e in
-      ap asReadAnswer (then-on _ (g .0) (g .1) ∙ message-stopped s (g .0) r (rw (g .2) f))
+  module _ (h : Header) (e : inCode x ≡ header-read h) where
+    pub no-body : (r : Fault) → bodyIn h s ≡ part-refused r → behind ≡ refused r
+    no-body r f = let g = as-got x h e in then-on _ (g .0) (g .1) ∙ message-stopped s (g .0) r (rw (g .2) f)
 
-  pub read-accepted : Bytes s → (t : Tally) → bodyIn h s ≡ Part t → readAnswer s ≡ Accepted (described h t)
-  unfolding readAnswer readOf asReadAnswer
-  read-accepted bs t f =
-      let g = whole-got s h e in
-      let d = message-read s (g .0) bs (whole-first s (g .0) (g .1)) t (rw (g .2) f) in
-      ap asReadAnswer (then-on _ (g .0) (g .1) ∙ d .1) ∙ ap Accepted (d .2 ∙ ap (λ (x : Header). described x t) (g .2))
-
--- ---- the message that s begins with
-pub first-no-header : (s : List ℕ) (r : Fault) → firstHeader s ≡ header-refused r → firstAnswer s ≡ first-refused (numbered r)
-unfolding firstAnswer firstOf asFirstAnswer refusalOf
-first-no-header s r e = ap asFirstAnswer (then-stop _ r (first-stopped s r e))
-
-module _ (s : List ℕ) (h : Header) (e : firstHeader s ≡ header-read h) where
-  pub first-no-body : (r : Fault) → bodyIn h s ≡ part-refused r → firstAnswer s ≡ first-refused (numbered r)
-  unfolding firstAnswer firstOf asFirstAnswer refusalOf
-  first-no-body r f =
-      let g = first-got s h e in
-      ap asFirstAnswer (then-on _ (g .0) (g .1) ∙ message-stopped s (g .0) r (rw (g .2) f))
-
-  pub first-taken : Bytes s → (t : Tally) → bodyIn h s ≡ Part t → firstAnswer s ≡ first-accepted (described h t) (h .start + h .length)
-  unfolding firstAnswer firstOf asFirstAnswer headerIn
-  first-taken bs t f =
-      let g = first-got s h e in
-      let d = message-read s (g .0) bs (g .1) t (rw (g .2) f) in
-      ap asFirstAnswer (then-on _ (g .0) (g .1) ∙ d .1)
-      ∙ rw (d .2, d .3) (ap (λ (x : Header). first-accepted (described x t) (x .start + x .length)) (g .2))
+    pub accepted : ((m : Heading) → x ≡ got m → headerOf s ≡ got m) → Bytes s → (t : Tally) → bodyIn h s ≡ Part t
+        → (w : Message) × (behind ≡ got w) × (outlineOf w ≡ described h t) × (length (messageBytes w) ≡ h .start + h .length)
+    unfolding headerIn
+    accepted first bs t f =
+        let g = as-got x h e in
+        let d = message-read s (g .0) bs (first (g .0) (g .1)) t (rw (g .2) f) in
+        (d .0, then-on _ (g .0) (g .1) ∙ d .1, d .2 ∙ ap (λ (k : Header). described k t) (g .2), d .3 ∙ ap (λ (k : Header). k .start + k .length) (g .2))

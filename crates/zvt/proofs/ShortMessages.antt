@@ -30,8 +30,8 @@ use Rattle.zvt.specs.BodySteps.{spareBody, bodyTally, bodyAnswer, bodyIn
 use Rattle.zvt.specs.WritingSteps.{back, Put, BodyReads, headerBytes, headerLayout, bodyPart, shortMessageOf}
 use Rattle.zvt_rules.specs.Buffers.{front, writtenLeaves}
 use Rattle.zvt.proofs.RunLaws.{part-got}
-use Rattle.zvt.proofs.HeaderLaws.{whole-got, whole-stopped, whole-first}
-use Rattle.zvt.proofs.MessageLaws.{message-stopped}
+use Rattle.zvt.proofs.HeaderLaws.{as-got, whole-first}
+use Rattle.zvt.proofs.MessageLaws as message
 use Rattle.zvt.proofs.ShortBodies.{body-written}
 
 -- what is answered and what is left of the buffer, both
@@ -53,14 +53,12 @@ not-read s out f e = ends-refused s out f (then-stop _ f (then-stop _ f e))
 
 pub no-header : (s out : List ℕ) (f : Fault) → wholeAnswer s ≡ header-refused f → Ends (Refused (record { number = f .number })) s out out
 unfolding readOf
-no-header s out f e = not-read s out f (then-stop _ f (whole-stopped s f e))
+no-header s out f e = not-read s out f (message.no-header s (wholeHeader s) f e)
 
 module _ (s : List ℕ) (h : Header) (e : wholeAnswer s ≡ header-read h) where
   pub no-body : (out : List ℕ) (f : Fault) → bodyIn h s ≡ part-refused f → Ends (Refused (record { number = f .number })) s out out
   unfolding readOf
-  no-body out f g =
-      let m = whole-got s h e in
-      not-read s out f (then-on _ (m .0) (m .1) ∙ message-stopped s (m .0) f (rw (m .2) g))
+  no-body out f g = not-read s out f (message.no-body s (wholeHeader s) h e f g)
 
 -- ---- a message: how many bytes its shortest writing takes
 pub record Short (s : List ℕ) (h : Header) (t : Tally) : Type 0 where
@@ -96,7 +94,7 @@ module _ (s : List ℕ) (m : Heading) (e : wholeHeader s ≡ got m) (bs : Bytes 
 pub short-found : (s : List ℕ) (h : Header) → wholeAnswer s ≡ header-read h → Bytes s → (t : Tally) → bodyIn h s ≡ Part t → Short s h t
 unfolding bodyIn bodyAnswer headerIn
 short-found s h e bs t f =
-    let m = whole-got s h e in
+    let m = as-got (wholeHeader s) h e in
     let fits = header-in s (m .0) (whole-first s (m .0) (m .1)) .1 in
     let g = subst (λ (k : Header). bodyIn k s ≡ Part t) (sym (m .2)) f in
     subst (λ (k : Header). Short s k t) (m .2)

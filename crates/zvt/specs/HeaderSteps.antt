@@ -5,7 +5,7 @@ use lib.ListN.{length}
 use lib.Dec.{ltb}
 use Rattle.zvt_rules.specs.Reading.{Reading, got, refused, noHeader, unless, andThen}
 use Rattle.zvt_rules.specs.Limits.{mostBody}
-use Rattle.zvt_rules.specs.Message.{headerOf, wholeHeader}
+use Rattle.zvt_rules.specs.Message.{Heading, headerOf, wholeHeader}
 use Rattle.zvt_rules.specs.Answers.{headerIn}
 use Rattle.zvt_rules.specs.declared.Header.{Header}
 use Rattle.zvt.specs.declared.headers.HeaderRead.{HeaderRead}
@@ -19,8 +19,12 @@ unfoldable pub fitting : Header → List ℕ → HeaderRead
 fitting h s =
     asHeader (unless (ltb mostBody (h .length)) (noHeader 2) (unless (ltb (length s) (h .start + h .length)) (noHeader 1) (got h)))
 
-unfoldable pub firstHeader : List ℕ → HeaderRead
-firstHeader s = asHeader (andThen (headerOf s) λ h. got (headerIn h))
+-- a header in the code's terms: the one that s begins with, and the one of a message that s is
+abbrev pub inCode : Reading Heading → HeaderRead
+inCode x = asHeader (andThen x λ h. got (headerIn h))
 
-unfoldable pub wholeAnswer : List ℕ → HeaderRead
-wholeAnswer s = asHeader (andThen (wholeHeader s) λ h. got (headerIn h))
+abbrev pub firstHeader : List ℕ → HeaderRead
+firstHeader s = inCode (headerOf s)
+
+abbrev pub wholeAnswer : List ℕ → HeaderRead
+wholeAnswer s = inCode (wholeHeader s)

@@ -6,10 +6,12 @@ use mathlib.Core.List.{List, [], _∷_}
 use Prim.Native.Nat.{ℕ, suc, _+_, _≤_}
 use native.Mathlib.Omega.{arith}
 use lib.ListN.{length, length-append}
+use Rattle.zvt_rules.specs.Limits.{deepest}
 use Rattle.zvt_rules.specs.Objects.{Form, formSize, Objs}
 use Rattle.zvt_rules.specs.Fields.{Field, plain, container, fieldId, countField, countFields}
+use Rattle.zvt_rules.specs.Pairs.{Pairwise}
 use Rattle.zvt_rules.specs.Writing.{runBytes, fieldBytes, listBytes}
-use Rattle.zvt_rules.specs.Shortest.{formFor, isShortest, shortRun, shortField, shortList, isShortRun, isShortField, isShortList, SameField, SameList}
+use Rattle.zvt_rules.specs.Shortest.{formFor, isShortest, shortRun, shortField, shortList, isShortRun, isShortField, isShortList, SameField}
 use Rattle.zvt_rules.specs.Grammar.{FieldOk, ListOk}
 use Rattle.zvt_rules.proofs.Lengths.{sized-size, formFor-ok, form-shorter, form-kept, form-strict, formFor-shortest}
 use Rattle.zvt_rules.proofs.ObjectShort.{run-shorter, run-short-ok, run-count, run-same, run-short, run-kept, run-strict}
@@ -23,7 +25,7 @@ pub field-shorter : (f : Field) → FieldOk f → length (fieldBytes (shortField
 unfolding shortField FieldOk
 field-shorter (plain id value) ok = omega arith
 field-shorter (container form os) ok =
-    let i = run-shorter os 4 (ok .1) in
+    let i = run-shorter os deepest (ok .1) in
     let v = length (runBytes (shortRun os)) in
     let s = form-shorter form (length (runBytes os)) v (ok .0) i in
     omega (arith, container-size form os, container-size (formFor v) (shortRun os))
@@ -46,8 +48,8 @@ pub field-short-ok : (f : Field) → FieldOk f → FieldOk (shortField f)
 unfolding shortField FieldOk
 field-short-ok (plain id value) ok = ok
 field-short-ok (container form os) ok = (
-  formFor-ok form (length (runBytes os)) (length (runBytes (shortRun os))) (ok .0) (run-shorter os 4 (ok .1)),
-  run-short-ok os 4 (ok .1),
+  formFor-ok form (length (runBytes os)) (length (runBytes (shortRun os))) (ok .0) (run-shorter os deepest (ok .1)),
+  run-short-ok os deepest (ok .1),
 )
 
 pub list-short-ok : (fs : List Field) (seen : List ℕ) → ListOk seen fs → ListOk seen (shortList fs)
@@ -70,8 +72,8 @@ unfolding shortField SameField
 field-same (plain id value) = (refl, refl)
 field-same (container form os) = run-same os
 
-pub list-same : (fs : List Field) → SameList fs (shortList fs)
-unfolding shortList SameList
+pub list-same : (fs : List Field) → Pairwise SameField fs (shortList fs)
+unfolding shortList Pairwise
 list-same [] = tt
 list-same (f ∷ fs) = (field-same f, list-same fs)
 
@@ -92,7 +94,7 @@ unfolding shortField isShortField FieldOk
 field-kept (plain id value) ok e = refl
 field-kept (container form os) ok e =
     let b = and-eq-true-iff (isShortest form (length (runBytes os))) (isShortRun os) .0 e in
-    rw (run-kept os 4 (ok .1) (b .1)) (ap (λ (f : Form). container f os) (form-kept form (length (runBytes os)) (ok .0) (b .0)))
+    rw (run-kept os deepest (ok .1) (b .1)) (ap (λ (f : Form). container f os) (form-kept form (length (runBytes os)) (ok .0) (b .0)))
 
 pub list-kept : (fs : List Field) (seen : List ℕ) → ListOk seen fs → isShortList fs ≡ true → shortList fs ≡ fs
 unfolding shortList isShortList ListOk
@@ -106,14 +108,14 @@ pub field-strict : (f : Field) → FieldOk f → length (fieldBytes (shortField 
 unfolding shortField isShortField FieldOk
 field-strict (plain id value) ok e = refl
 field-strict (container form os) ok e =
-    let i = run-shorter os 4 (ok .1) in
+    let i = run-shorter os deepest (ok .1) in
     let v = length (runBytes (shortRun os)) in
     let s = form-shorter form (length (runBytes os)) v (ok .0) i in
     let a = container-size form os in
     let b = container-size (formFor v) (shortRun os) in
     let w : v ≡ length (runBytes os) = omega arith in
     let k = ap (λ (x : ℕ). formSize (formFor x)) w in
-    and-eq-true-iff _ _ .1 (form-strict form (length (runBytes os)) (ok .0) (omega arith), run-strict os 4 (ok .1) w)
+    and-eq-true-iff _ _ .1 (form-strict form (length (runBytes os)) (ok .0) (omega arith), run-strict os deepest (ok .1) w)
 
 pub list-strict : (fs : List Field) (seen : List ℕ) → ListOk seen fs → length (listBytes (shortList fs)) ≡ length (listBytes fs)
     → isShortList fs ≡ true

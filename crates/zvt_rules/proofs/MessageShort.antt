@@ -15,8 +15,9 @@ use Rattle.zvt_rules.specs.Reading.{got}
 use Rattle.zvt_rules.specs.Limits.{mostBody}
 use Rattle.zvt_rules.specs.Fields.{Field}
 use Rattle.zvt_rules.specs.Message.{headerSize, layoutOf, Body, bytes, listed, Message, readOf, countBody, countOf}
+use Rattle.zvt_rules.specs.Pairs.{Bodies}
 use Rattle.zvt_rules.specs.Writing.{listBytes, bodyBytes, messageBytes}
-use Rattle.zvt_rules.specs.Shortest.{shortList, shortBody, shortMessage, isShortBody, isShort, write, shorten, SameBody, SameValues}
+use Rattle.zvt_rules.specs.Shortest.{shortList, shortBody, shortMessage, isShortBody, isShort, write, shorten, SameField, SameValues}
 use Rattle.zvt_rules.specs.Grammar.{Bytes, ListOk, FieldsOk, LayoutOk, LengthOk, MessageOk}
 use Rattle.zvt_rules.proofs.Readings.{got-same, then-got, then-on}
 use Rattle.zvt_rules.proofs.Tests.{by-test}
@@ -58,8 +59,8 @@ unfolding countBody shortBody
 body-count (bytes s) = refl
 body-count (listed password fs) = list-count fs
 
-body-same : (b : Body) → SameBody b (shortBody b)
-unfolding SameBody shortBody
+body-same : (b : Body) → Bodies (λ p p′. p ≡ p′) SameField b (shortBody b)
+unfolding Bodies shortBody
 body-same (bytes s) = refl
 body-same (listed password fs) = (refl, list-same fs)
 

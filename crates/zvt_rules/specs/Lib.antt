@@ -6,6 +6,7 @@ pub mod Objects
 pub mod Fields
 pub mod Grids
 pub mod Message
+pub mod Pairs
 pub mod Writing
 pub mod Shortest
 pub mod Grammar

@@ -9,6 +9,7 @@ use Rattle.zvt_rules.specs.Reading.{Reading, got, pick, andThen}
 use Rattle.zvt_rules.specs.Objects.{Form, bare, one, two, Obj, leaf, branch, Objs, none, more}
 use Rattle.zvt_rules.specs.Fields.{Field, plain, container}
 use Rattle.zvt_rules.specs.Message.{Body, bytes, listed, Message, readOf}
+use Rattle.zvt_rules.specs.Pairs.{Bodies}
 use Rattle.zvt_rules.specs.Writing.{runBytes, bodyBytes, messageBytes}
 
 -- O7: "Shortest is one byte under 128, 81 from there to 255, 82 from 256."
@@ -105,17 +106,5 @@ SameField (plain id value) (container form′ os′) = ⊥
 SameField (container form os) (plain id′ value′) = ⊥
 SameField (container form os) (container form′ os′) = SameRun os os′
 
-unfoldable pub SameList : List Field → List Field → Type 0
-SameList [] [] = Unit {0}
-SameList [] (f′ ∷ fs′) = ⊥
-SameList (f ∷ fs) [] = ⊥
-SameList (f ∷ fs) (f′ ∷ fs′) = SameField f f′ × SameList fs fs′
-
-unfoldable pub SameBody : Body → Body → Type 0
-SameBody (bytes s) (bytes s′) = s ≡ s′
-SameBody (bytes s) (listed password′ fs′) = ⊥
-SameBody (listed password fs) (bytes s′) = ⊥
-SameBody (listed password fs) (listed password′ fs′) = (password ≡ password′) × SameList fs fs′
-
 unfoldable pub SameValues : Message → Message → Type 0
-SameValues m m′ = (m .class ≡ m′ .class) × (m .instruction ≡ m′ .instruction) × SameBody (m .body) (m′ .body)
+SameValues m m′ = (m .class ≡ m′ .class) × (m .instruction ≡ m′ .instruction) × Bodies (λ p p′. p ≡ p′) SameField (m .body) (m′ .body)
