@@ -16,6 +16,7 @@ use tape_rules::BlockAnswer;
 use zvt_rules::FieldAnswer;
 use zvt_rules::FirstAnswer;
 use zvt_rules::HeaderAnswer;
+use zvt_rules::Outline;
 use zvt_rules::ReadAnswer;
 use zvt_rules::ShortenAnswer;
 ghost use mathlib.Core.Path.{_≡_};
@@ -23,7 +24,7 @@ ghost use Prim.Native.Nat.{_<_, _≤_};
 ghost use lib.ListN.{length};
 
 // Where a script then stands, and how long the text of its answer is.
-pub(crate) struct Said {
+pub(crate) struct Spoken {
     pub(crate) at: Script,
     pub(crate) size: usize,
 }
@@ -46,11 +47,20 @@ const CHANGES: usize = 15360;
 
 const OF_BYTE: usize = 30;
 
+// The message that s is, read as m.
+fn message(s: &[u8], m: Outline, out: &mut [u8]) -> usize {
+    let mut to = add_hex(m.class, 0, out);
+    to = add_hex(m.instruction, to, out);
+    to = listing::add_size(m, to, out);
+    to = answers::add_number(m.objects as u64, to, out);
+    listing::add_ids(s, to, out)
+}
+
 fn read(s: &[u8], out: &mut [u8]) -> usize {
     match zvt::read(s) {
         ReadAnswer::Refused(f) => answers::refused(f.number, out),
         ReadAnswer::Accepted(m) => {
-            let to = answers::message(s, m, out);
+            let to = message(s, m, out);
             add(b'\n', to, out)
         }
     }
@@ -75,7 +85,7 @@ fn first(s: &[u8], out: &mut [u8]) -> usize {
         FirstAnswer::Refused(f) => answers::refused(f.number, out),
         FirstAnswer::Accepted(m, next) => {
             let end = upto(next, s);
-            let mut to = answers::message(&s[..end], m, out);
+            let mut to = message(&s[..end], m, out);
             to = add_all(b" from", to, out);
             to = answers::add_number(m.start as u64, to, out);
             answers::counted(b" next", next as u64, to, out)
@@ -346,33 +356,33 @@ fn asked_of(o: Order, room: usize, bytes: &mut [u8], out: &mut [u8]) -> usize
 }
 
 // A line that is not understood ends the script.
-fn ended(at: Script, out: &mut [u8]) -> Said {
+fn ended(at: Script, out: &mut [u8]) -> Spoken {
     let mut after = at;
     after.more = false;
-    Said {
+    Spoken {
         at: after,
         size: answers::not_understood(at.number, out),
     }
 }
 
 // So many bytes are lent from now on, if there are that many.
-fn roomed(at: Script, room: u64, out: &mut [u8]) -> Said {
+fn roomed(at: Script, room: u64, out: &mut [u8]) -> Spoken {
     if (Script::ROOM as u64) < room {
         return ended(at, out);
     }
     let mut after = at;
     after.room = room as usize;
-    Said {
+    Spoken {
         at: after,
         size: add_all(b"ok\n", 0, out),
     }
 }
 
 // So many times the bytes s are added.
-fn extended(at: Script, s: &[u8], times: u64, added: &mut [u8], out: &mut [u8]) -> Said {
+fn extended(at: Script, s: &[u8], times: u64, added: &mut [u8], out: &mut [u8]) -> Spoken {
     let mut after = at;
     after.added = repeated(s, times, at.added, added);
-    Said {
+    Spoken {
         at: after,
         size: answers::counted(b"bytes", after.added as u64, 0, out),
     }
@@ -385,7 +395,7 @@ pub(crate) fn answered(
     bytes: &mut [u8],
     added: &mut [u8],
     out: &mut [u8],
-) -> Said
+) -> Spoken
     requires { ⌜ (o .size ≤ o .end) × (o .end ≤ length (now bytes)) ⌝ }
 {
     let what = o.what;
@@ -394,7 +404,7 @@ pub(crate) fn answered(
         What::Bad => ended(at, out),
         What::Room => roomed(at, o.first, out),
         What::Add => extended(at, &bytes[..size], o.first, added, out),
-        _ => Said {
+        _ => Spoken {
             at,
             size: asked_of(o, at.room, bytes, out),
         },

@@ -4,6 +4,8 @@ use crate::plain::BYTE;
 use crate::plain::SHORT;
 use crate::plain::WORD;
 use crate::plain::cut;
+use buffers::add;
+use buffers::add_bytes;
 use buffers::upto;
 use desk_rules::Book;
 use desk_rules::Desk;
@@ -18,6 +20,7 @@ use script_text::orders::Order;
 use script_text::orders::Script;
 use script_text::orders::What;
 use std::num::wrapping_add_u64;
+use tape_rules::Block;
 use tape_rules::Taped;
 use tape_rules::TapedAnswer;
 ghost use Prim.Native.Nat.{_≤_};
@@ -89,6 +92,19 @@ fn lanes(desk: Desk, out: &mut [u8]) -> usize
     to
 }
 
+// The blocks of a tape, a line of hex for each, and their count.
+fn add_blocks(blocks: &[u8], out: &mut [u8]) -> usize {
+    let mut to: usize = 0;
+    let mut at: usize = 0;
+    while Block::SIZE <= blocks.len() - at {
+        let end = at + Block::SIZE;
+        to = add_bytes(&blocks[at..end], to, out);
+        to = add(b'\n', to, out);
+        at = end;
+    }
+    answers::counted(b"end", (at / Block::SIZE) as u64, to, out)
+}
+
 // The tape so far: the blocks of what is used of the payload.
 fn tape_of(used: usize, payload: &[u8], out: &mut [u8]) -> usize {
     let mut blocks = [0u8; TAPE];
@@ -102,7 +118,7 @@ fn tape_in(blocks: &mut [u8], payload: &[u8], out: &mut [u8]) -> usize {
         Reply::Refused(r) => answers::refused(r.number, out),
         Reply::Written(size) => {
             let end = upto(size, blocks);
-            answers::tape(&blocks[..end], out)
+            add_blocks(&blocks[..end], out)
         }
     }
 }

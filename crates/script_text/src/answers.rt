@@ -12,8 +12,6 @@ use desk_rules::Line;
 use desk_rules::Outcome;
 use desk_rules::Phase;
 use desk_rules::Reply;
-use tape_rules::Block;
-use zvt_rules::Outline;
 use zvt_rules::Status;
 use zvt_rules::ToldAmount;
 use zvt_rules::ToldCode;
@@ -105,19 +103,6 @@ pub fn add_line(number: u64, l: Line, at: usize, out: &mut [u8]) -> usize {
     add_ending(outcome, l.code, to, out)
 }
 
-// The blocks of a tape, a line of hex for each, and their count.
-pub fn tape(blocks: &[u8], out: &mut [u8]) -> usize {
-    let mut to: usize = 0;
-    let mut at: usize = 0;
-    while Block::SIZE <= blocks.len() - at {
-        let end = at + Block::SIZE;
-        to = add_bytes(&blocks[at..end], to, out);
-        to = add(b'\n', to, out);
-        at = end;
-    }
-    counted(b"end", (at / Block::SIZE) as u64, to, out)
-}
-
 fn add_code(c: ToldCode, at: usize, out: &mut [u8]) -> usize {
     match c {
         ToldCode::Missing => add(b'-', at, out),
@@ -192,15 +177,6 @@ pub fn add_lane(lane: u8, l: Lane, at: usize, out: &mut [u8]) -> usize {
             add_status(remembered(status), end, out)
         }
     }
-}
-
-// The message that s is, read as m.
-pub fn message(s: &[u8], m: Outline, out: &mut [u8]) -> usize {
-    let mut to = add_hex(m.class, 0, out);
-    to = add_hex(m.instruction, to, out);
-    to = listing::add_size(m, to, out);
-    to = add_number(m.objects as u64, to, out);
-    listing::add_ids(s, to, out)
 }
 
 // Bytes as a line of hex.

@@ -3,8 +3,8 @@ use Prim.Native.Nat.{_-_, _≤_}
 use lib.ListN.{length}
 use mathlib.Core.Path.{_≡_}
 use borrow.Author.Needs.{needs}
-use Rattle.script_text.proofs.answers.tape.Statement.{statement}
-use Rattle.script_text.proofs.answers.tape.Tie as tie
+use Rattle.script.proofs.turns.add_blocks.Statement.{statement}
+use Rattle.script.proofs.turns.add_blocks.Tie as tie
 
 abbrev Inv-loop : tie.InvT-loop
 Inv-loop blocks out₀ to₀ at₀ t6 out to at =
@@ -13,8 +13,8 @@ Inv-loop blocks out₀ to₀ at₀ t6 out to at =
 abbrev μ-loop : tie.MeasureT-loop
 μ-loop blocks out₀ to₀ at₀ t6 out to at = length blocks - at
 
-pub tape-spec : {M : Type 1} → statement M
-tape-spec =
+pub add-blocks-spec : {M : Type 1} → statement M
+add-blocks-spec =
     tie.close
     (tie.spec Inv-loop μ-loop (λ c. search needs) (λ c. search needs) (λ c. search needs) (λ c. search needs)
     (λ c. search needs) (λ c. search needs) (λ c κs. search needs) (λ c κs. search needs) (λ c. search needs)
