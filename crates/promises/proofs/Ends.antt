@@ -57,6 +57,8 @@ pub every-call-ends : {M : Type 1}
     × desk_rules.Opening.lane.Statement.statement M
     × desk_rules.Reference.looks_at.Statement.statement M
     × desk_rules.Reference.receipt.Statement.statement M
+    × desk_rules.Reference.stands.Statement.statement M
+    × desk_rules.Reference.missing_number.Statement.statement M
     × desk_rules.Kind.is_sale.Statement.statement M
     × desk_rules.Kind.is_reversal.Statement.statement M
     × desk_rules.Kind.booked.Statement.statement M
@@ -133,6 +135,8 @@ every-call-ends = (
   desk_rules.Opening.lane.Met.met,
   desk_rules.Reference.looks_at.Met.met,
   desk_rules.Reference.receipt.Met.met,
+  desk_rules.Reference.stands.Met.met,
+  desk_rules.Reference.missing_number.Met.met,
   desk_rules.Kind.is_sale.Met.met,
   desk_rules.Kind.is_reversal.Met.met,
   desk_rules.Kind.booked.Met.met,
@@ -212,6 +216,8 @@ pub nothing-to-test :
     × ((κs : _) (a : _) → desk_rules.Opening.lane.Reads.Asked κs a ≡ Unit {0})
     × ((κs : _) (a : _) → desk_rules.Reference.looks_at.Reads.Asked κs a ≡ Unit {0})
     × ((κs : _) (a : _) → desk_rules.Reference.receipt.Reads.Asked κs a ≡ Unit {0})
+    × ((κs : _) (a : _) → desk_rules.Reference.stands.Reads.Asked κs a ≡ Unit {0})
+    × ((κs : _) (a : _) → desk_rules.Reference.missing_number.Reads.Asked κs a ≡ Unit {0})
     × ((κs : _) (a : _) → desk_rules.Kind.is_sale.Reads.Asked κs a ≡ Unit {0})
     × ((κs : _) (a : _) → desk_rules.Kind.is_reversal.Reads.Asked κs a ≡ Unit {0})
     × ((κs : _) (a : _) → desk_rules.Kind.booked.Reads.Asked κs a ≡ Unit {0})
@@ -243,6 +249,8 @@ pub nothing-to-test :
     × ((κs : _) (a : _) → buffers.add_decimal.Reads.Asked κs a ≡ Unit {0})
     × ((κs : _) (a : _) → buffers.hex_value.Reads.Asked κs a ≡ Unit {0})
 nothing-to-test = (
+  λ κs a. refl,
+  λ κs a. refl,
   λ κs a. refl,
   λ κs a. refl,
   λ κs a. refl,

@@ -156,6 +156,12 @@ reference-looks-at-one κs a = only _ _ (λ r e h. (h, refl))
 pub reference-receipt-one : (κs : _) (a : _) → Only itself nothing (desk_rules.Reference.receipt.Reads.Learnt κs a)
 reference-receipt-one κs a = only _ _ (λ r e h. (h, refl))
 
+pub reference-stands-one : (κs : _) (a : _) → Only itself nothing (desk_rules.Reference.stands.Reads.Learnt κs a)
+reference-stands-one κs a = only _ _ (λ r e h. (h, refl))
+
+pub reference-missing-number-one : (κs : _) (a : _) → Only itself nothing (desk_rules.Reference.missing_number.Reads.Learnt κs a)
+reference-missing-number-one κs a = only _ _ (λ r e h. (h, refl))
+
 pub kind-is-sale-one : (κs : _) (a : _) → Only itself nothing (desk_rules.Kind.is_sale.Reads.Learnt κs a)
 kind-is-sale-one κs a = only _ _ (λ r e h. (h, refl))
 
