@@ -1,5 +1,6 @@
 -- The laws of the course, by subject: what opening writes and the table of refusals; then runs, payments, the day book, order and
 -- turnover; then what every desk is, and the laws that the desk's functions are proved by.
+pub mod Limits
 pub mod Commands
 pub mod LastSale
 pub mod Rows

@@ -1,6 +1,7 @@
 -- The laws of the definitions, by subject.
 pub mod Readings
 pub mod Grids
+pub mod Limits
 pub mod Tests
 pub mod ObjectReading
 pub mod Lengths
