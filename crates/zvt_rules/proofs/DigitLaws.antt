@@ -10,7 +10,7 @@ use lib.ListN.{length, getD, drop, set, length-append, drop-of-length-le}
 use lib.Seq.{drop-cons, drop-set-lt, getD-set-same, lt-length-set}
 use borrow.Author.Tests.{le-leb}
 use Rattle.zvt_rules.specs.Fields.{decimal}
-use Rattle.zvt_rules.specs.Grammar.{Decimals}
+use Rattle.zvt_rules.specs.believed.Grammar.{Decimals}
 use Rattle.zvt_rules.specs.Digits.{twoDigits, digitBytesOf, decimalFrom, numberOf}
 use Rattle.zvt_rules.proofs.Tests.{leb-test, and-test}
 

@@ -15,8 +15,8 @@ use Rattle.zvt_rules.specs.Reading.{Reading, got, no, part, among}
 use Rattle.zvt_rules.specs.Limits.{mostObjects, deepest}
 use Rattle.zvt_rules.specs.Objects.{Form, formSize, lenOf, Objs, countObjs, RunRead, runOf}
 use Rattle.zvt_rules.specs.Fields.{formatOf, unknown, lengthDigit, digitsOf, unlessUndecimal, holdsDigits, digitsIn, Field, plain, container, fieldId, countField, FieldRead, valueOf, plainOf, containerOf, fieldBy, fieldOf, countFields, ListRead, listOf}
-use Rattle.zvt_rules.specs.Writing.{lenBytes, sized, runBytes, digitBytes, lengthIn, fieldBytes, listBytes}
-use Rattle.zvt_rules.specs.Grammar.{Bytes, RunOk, Decimals, FormOk, SizeOk, FieldOk, ListOk}
+use Rattle.zvt_rules.specs.believed.Writing.{lenBytes, sized, runBytes, digitBytes, lengthIn, fieldBytes, listBytes}
+use Rattle.zvt_rules.specs.believed.Grammar.{Bytes, RunOk, Decimals, FormOk, SizeOk, FieldOk, ListOk}
 use Rattle.zvt_rules.proofs.Readings.{got-same, got-not-refused, unless-got, unless-on, then-got, then-on}
 use Rattle.zvt_rules.proofs.Tests.{pick-test, allFrom, at-from}
 use Rattle.zvt_rules.proofs.FieldReading.{digit-in, digits-last, digits-in, plain-got, container-got, field-got, field-in, list-none, list-step}
@@ -37,12 +37,12 @@ digits-more (suc d) v at (b ∷ s) u e h l =
     let k = unless-got (not (lengthDigit b)) (no 4 at) (digitsOf d (v * 10 + (b - 0xF0)) (at + 1) s) u e in
     unless-on _ _ (k .0) ∙ digits-more d (v * 10 + (b - 0xF0)) (at + 1) s u (k .1) (omega arith) l
 
-digitBytes-size : (d v : ℕ) → length (digitBytes d v) ≡ d
+pub digitBytes-size : (d v : ℕ) → length (digitBytes d v) ≡ d
 unfolding digitBytes
 digitBytes-size zero v = refl
 digitBytes-size (suc d) v = omega (arith, length-append (digitBytes d (v / 10)) ((0xF0 + v % 10) ∷ []), digitBytes-size d (v / 10))
 
-digits-written : (d at v : ℕ) (rest : List ℕ) → v < 10 ^ d → digitsOf d 0 at (digitBytes d v ++ rest) ≡ got v
+pub digits-written : (d at v : ℕ) (rest : List ℕ) → v < 10 ^ d → digitsOf d 0 at (digitBytes d v ++ rest) ≡ got v
 unfolding digitsOf digitBytes
 digits-written zero at v rest h = ap got (omega arith)
 digits-written (suc d) at v rest h =
@@ -56,7 +56,7 @@ digits-written (suc d) at v rest h =
     rw (append-assoc p (b ∷ []) rest)
     (digits-more d 0 at (p ++ (b ∷ rest)) (v / 10) (digits-written d at (v / 10) (b ∷ rest) less) long l ∙ rw here (ap got (omega arith)))
 
-digits-sound : (d v at : ℕ) (s : List ℕ) (w : ℕ) → digitsOf d v at s ≡ got w → digitBytes d w ≡ take d s
+pub digits-sound : (d v at : ℕ) (s : List ℕ) (w : ℕ) → digitsOf d v at s ≡ got w → digitBytes d w ≡ take d s
 unfolding digitBytes
 digits-sound zero v at s w e = refl
 digits-sound (suc d) v at s w e =
@@ -67,7 +67,7 @@ digits-sound (suc d) v at s w e =
     rw (high, low, digits-sound d v at s (l .0) (l .1)) (sym (take-suc s d 0 (l .2)))
 
 -- ---- an id, d bytes, and v bytes behind them
-cut : (id : ℕ) (t : List ℕ) (d v : ℕ) → take (1 + d + v) (id ∷ t) ≡ id ∷ (take d t ++ part (1 + d) (1 + d + v) (id ∷ t))
+pub cut : (id : ℕ) (t : List ℕ) (d v : ℕ) → take (1 + d + v) (id ∷ t) ≡ id ∷ (take d t ++ part (1 + d) (1 + d + v) (id ∷ t))
 cut id t d v =
     let a : 1 + d ≡ suc d = omega arith in
     let e : 1 + d + v ≡ suc (d + v) = omega arith in
@@ -75,10 +75,10 @@ cut id t d v =
     rw (e, a, k) (ap (λ (x : List ℕ). id ∷ x) (take-add d v t))
 
 module _ (id : ℕ) (p w rest : List ℕ) (d : ℕ) (size : length p ≡ d) where
-  back-within : 1 + d + length w ≤ length (id ∷ ((p ++ w) ++ rest))
+  pub back-within : 1 + d + length w ≤ length (id ∷ ((p ++ w) ++ rest))
   back-within = simp length-append (omega arith)
 
-  back : part (1 + d) (1 + d + length w) (id ∷ ((p ++ w) ++ rest)) ≡ w
+  pub back : part (1 + d) (1 + d + length w) (id ∷ ((p ++ w) ++ rest)) ≡ w
   back =
       let a : 1 + d ≡ suc d = omega arith in
       let k : 1 + d + length w - (1 + d) ≡ length w = omega arith in
@@ -120,11 +120,11 @@ plain-sound id n at d v t o ok p e =
     })
 
 -- ---- a field that was written
-value-back : (at : ℕ) (s : List ℕ) (a v : ℕ) (w : List ℕ) → a + v ≤ length s → part a (a + v) s ≡ w → valueOf at a v s ≡ got w
+pub value-back : (at : ℕ) (s : List ℕ) (a v : ℕ) (w : List ℕ) → a + v ≤ length s → part a (a + v) s ≡ w → valueOf at a v s ≡ got w
 unfolding valueOf
 value-back at s a v w h e = unless-on _ _ (le-ltb (length s) (a + v) h) ∙ ap got e
 
-field-by : (seen : List ℕ) (n at : ℕ) (s : List ℕ) (id : ℕ) (f : Format) → getD s 0 0 ≡ id → formatOf id ≡ f → unknown f ≡ false
+pub field-by : (seen : List ℕ) (n at : ℕ) (s : List ℕ) (id : ℕ) (f : Format) → getD s 0 0 ≡ id → formatOf id ≡ f → unknown f ≡ false
     → among seen id ≡ false → fieldOf seen n at s ≡ fieldBy id n at s f
 unfolding fieldOf
 field-by seen n at s id f i e known new = rw (i, e) (unless-on _ _ known ∙ unless-on _ _ new)
@@ -166,7 +166,7 @@ only (Fixed k) id = true
 only (Digits d) id = true
 only Container id = eqb id 0x06
 
-container-id : (id : ℕ) → id < 256 → formatOf id ≡ Container → id ≡ 0x06
+pub container-id : (id : ℕ) → id < 256 → formatOf id ≡ Container → id ≡ 0x06
 unfolding only allFrom formatOf among
 container-id id h e = eqb-true id 0x06 (rw e at (at-from (λ i. only (formatOf i) i) 0 256 refl id (omega arith) h))
 
@@ -190,7 +190,7 @@ container-sound id n at t o b six e =
       few = r .3;
     })
 
-six : formatOf 0x06 ≡ Container
+pub six : formatOf 0x06 ≡ Container
 unfolding formatOf among
 six = refl
 
@@ -277,7 +277,7 @@ sound-by (suc f) seen n at (id ∷ t) r h b e =
 pub list-sound : (seen : List ℕ) (n at : ℕ) (s : List ℕ) (r : ListRead) → Bytes s → listOf seen n at s ≡ got r → ListSound seen n s r
 list-sound seen n at s r = sound-by (length s) seen n at s r (omega arith)
 
-begins : (f : Field) (rest : List ℕ) → getD (fieldBytes f ++ rest) 0 0 ≡ fieldId f
+pub begins : (f : Field) (rest : List ℕ) → getD (fieldBytes f ++ rest) 0 0 ≡ fieldId f
 unfolding fieldBytes fieldId
 begins (plain id value) rest = refl
 begins (container form os) rest = refl

@@ -17,7 +17,7 @@ use Rattle.zvt_rules.specs.Limits.{mostBody, deepest}
 use Rattle.zvt_rules.specs.Objects.{formSize, Len, lenOf, RunRead, runOf}
 use Rattle.zvt_rules.specs.Fields.{formatOf, unknown, lengthDigit, digitsOf, decimal, unlessUndecimal, digitsIn, holdsDigits, plain, container, FieldRead, valueOf, plainOf, containerOf, fieldBy, fieldOf, listBy, listOf}
 use Rattle.zvt_rules.specs.Message.{BodyLength, lengthOf, Heading, headerSize, end, headerWith, headerOf}
-use Rattle.zvt_rules.specs.Grammar.{Decimals}
+use Rattle.zvt_rules.specs.believed.Grammar.{Decimals}
 use Rattle.zvt_rules.proofs.Readings.{got-same, got-not-refused, unless-got, unless-on, then-got, then-alike}
 use Rattle.zvt_rules.proofs.Tests.{pick-test, leb-test, and-test}
 
@@ -167,14 +167,11 @@ field-got seen n at s o e =
 pub field-in : (seen : List ℕ) (n at : ℕ) (s : List ℕ) (o : FieldRead) → fieldOf seen n at s ≡ got o → (1 ≤ o .size) × (o .size ≤ length s)
 field-in seen n at s o e = by-in (getD s 0 0) n at s (formatOf (getD s 0 0)) o (field-got seen n at s o e .2)
 
--- ---- lists: the bound on the steps does not matter, where it is the length at least
-enough : (f g : ℕ) (seen : List ℕ) (n at : ℕ) (s : List ℕ) → length s ≤ f → length s ≤ g → listBy f seen n at s ≡ listBy g seen n at s
+-- ---- lists: how much fuel there is does not matter, where there is enough
+enough : (f g : ℕ) (seen : List ℕ) (n at : ℕ) (s : List ℕ) → length s < f → length s < g → listBy f seen n at s ≡ listBy g seen n at s
 unfolding listBy
-enough zero zero seen n at s hf hg = refl
-enough zero (suc g) seen n at [] hf hg = refl
-enough zero (suc g) seen n at (b ∷ s) hf hg = absurd (omega arith)
-enough (suc f) zero seen n at [] hf hg = refl
-enough (suc f) zero seen n at (b ∷ s) hf hg = absurd (omega arith)
+enough zero g seen n at s hf hg = absurd (omega arith)
+enough (suc f) zero seen n at s hf hg = absurd (omega arith)
 enough (suc f) (suc g) seen n at [] hf hg = refl
 enough (suc f) (suc g) seen n at (b ∷ s) hf hg =
     then-alike (fieldOf seen n at (b ∷ s)) _ _ λ o e.
@@ -199,7 +196,7 @@ list-step seen n at (b ∷ s) h =
     let i = field-in seen n at (b ∷ s) o e in
     let rest = drop (o .size) (b ∷ s) in
     let l = length-drop (o .size) (b ∷ s) in
-    rw (enough (length s) (length rest) (b ∷ seen) (o .count) (at + o .size) rest (omega arith) (omega arith))
+    rw (enough (suc (length s)) (suc (length rest)) (b ∷ seen) (o .count) (at + o .size) rest (omega arith) (omega arith))
 
 -- ---- a header's body lies within the bytes and the limit
 pub header-most : (long : Bool) → headerSize long ≤ 5

@@ -2,17 +2,17 @@
 -- already. Assumes nothing.
 use mathlib.Core.Path.{_≡_, refl, ap, ap₂}
 use mathlib.Core.Bool.{true, and-eq-true-iff}
-use mathlib.Core.List.{List, [], _∷_}
+use mathlib.Core.List.{List, [], _∷_, map}
 use Prim.Native.Nat.{ℕ, suc, _+_, _≤_}
 use native.Mathlib.Omega.{arith}
 use lib.ListN.{length, length-append}
 use Rattle.zvt_rules.specs.Limits.{deepest}
-use Rattle.zvt_rules.specs.Objects.{Form, formSize, Objs}
+use Rattle.zvt_rules.specs.Objects.{bare, Form, formSize, Objs}
 use Rattle.zvt_rules.specs.Fields.{Field, plain, container, fieldId, countField, countFields}
-use Rattle.zvt_rules.specs.Pairs.{Pairwise}
-use Rattle.zvt_rules.specs.Writing.{runBytes, fieldBytes, listBytes}
-use Rattle.zvt_rules.specs.Shortest.{formFor, isShortest, shortRun, shortField, shortList, isShortRun, isShortField, isShortList, SameField}
-use Rattle.zvt_rules.specs.Grammar.{FieldOk, ListOk}
+use Rattle.zvt_rules.specs.believed.Writing.{runBytes, fieldBytes, listBytes}
+use Rattle.zvt_rules.specs.Shortest.{formFor, isShortest, shortRun, shortField, shortList, isShortRun, isShortField, isShortList}
+use Rattle.zvt_rules.specs.believed.Shortest.{formlessField}
+use Rattle.zvt_rules.specs.believed.Grammar.{FieldOk, ListOk}
 use Rattle.zvt_rules.proofs.Lengths.{sized-size, formFor-ok, form-shorter, form-kept, form-strict, formFor-shortest}
 use Rattle.zvt_rules.proofs.ObjectShort.{run-shorter, run-short-ok, run-count, run-same, run-short, run-kept, run-strict}
 
@@ -67,15 +67,15 @@ unfolding shortList countFields
 list-count [] = refl
 list-count (f ∷ fs) = ap₂ (λ (a b : ℕ). a + b) (field-count f) (list-count fs)
 
-pub field-same : (f : Field) → SameField f (shortField f)
-unfolding shortField SameField
-field-same (plain id value) = (refl, refl)
-field-same (container form os) = run-same os
+pub field-same : (f : Field) → formlessField f ≡ formlessField (shortField f)
+unfolding shortField formlessField
+field-same (plain id value) = refl
+field-same (container form os) = ap (container bare) (run-same os)
 
-pub list-same : (fs : List Field) → Pairwise SameField fs (shortList fs)
-unfolding shortList Pairwise
-list-same [] = tt
-list-same (f ∷ fs) = (field-same f, list-same fs)
+pub list-same : (fs : List Field) → map formlessField fs ≡ map formlessField (shortList fs)
+unfolding shortList
+list-same [] = refl
+list-same (f ∷ fs) = ap₂ (λ (x : Field) (xs : List Field). x ∷ xs) (field-same f) (list-same fs)
 
 -- ---- every length shortest
 pub field-short : (f : Field) → isShortField (shortField f) ≡ true

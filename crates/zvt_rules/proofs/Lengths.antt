@@ -9,9 +9,9 @@ use lib.Dec.{ltb, eqb}
 use borrow.Author.Tests.{ltb-true, ltb-false, eqb-true, leb-true, lt-ltb, le-leb}
 use Rattle.zvt_rules.specs.Reading.{Reading, got}
 use Rattle.zvt_rules.specs.Objects.{Form, bare, one, two, formSize, Len, oneByteLen, twoByteLen, lenOf}
-use Rattle.zvt_rules.specs.Writing.{lenBytes, sized}
+use Rattle.zvt_rules.specs.believed.Writing.{lenBytes, sized}
 use Rattle.zvt_rules.specs.Shortest.{formFor, isShortest}
-use Rattle.zvt_rules.specs.Grammar.{Bytes, FormOk}
+use Rattle.zvt_rules.specs.believed.Grammar.{Bytes, FormOk}
 use Rattle.zvt_rules.proofs.Tests.{pick-test}
 use Rattle.zvt_rules.proofs.Readings.{got-same, got-not-refused}
 

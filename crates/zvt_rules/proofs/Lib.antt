@@ -1,8 +1,11 @@
 -- The laws of the definitions, by subject.
 pub mod Readings
-pub mod Grids
-pub mod Limits
 pub mod Tests
+pub mod Lists
+pub mod Grids
+pub mod BitLaws
+pub mod Limits
+pub mod Text
 pub mod ObjectReading
 pub mod Lengths
 pub mod ObjectShort
@@ -10,8 +13,19 @@ pub mod ObjectBytes
 pub mod FieldReading
 pub mod FieldBytes
 pub mod FieldShort
+pub mod DigitLaws
+pub mod Spelling
 pub mod MessageBytes
 pub mod MessageShort
-pub mod DigitLaws
+pub mod Fewest
+pub mod Found
+pub mod Names
 pub mod Numbers
+pub mod Listing
 pub mod Told
+pub mod RowReadings
+pub mod RowObjects
+pub mod RowFields
+pub mod RowMessages
+pub mod StatusLaws
+pub mod AnswerLaws

@@ -4,7 +4,8 @@ use mathlib.Core.List.{List, [], _∷_}
 use Prim.Native.Nat.{ℕ, zero, suc}
 use lib.ListN.{replicate}
 use Rattle.zvt_rules.specs.Reading.{got, refused, no, noHeader, unless, andThen, among}
-use Rattle.zvt_rules.specs.Objects.{secondTag, tagSize, formSize, oneByteLen, twoByteLen, lenOf, headWith, headOf, insideOf, oneBy, runBy, runOf, countObj, countObjs}
+use Rattle.zvt_rules.specs.Objects.{secondTag, tagSize, formSize, oneByteLen, twoByteLen, lenOf}
+use Rattle.zvt_rules.specs.Objects.{headWith, headOf, runBy, oneBy, runOf, countObj, countObjs}
 use Rattle.zvt_rules.specs.Fields.{formatOf, unknown, fieldId, countField, countFields, valueOf, containerOf, fieldBy, fieldOf, listBy, listOf}
 use Rattle.zvt_rules.specs.Message.{longLength, lengthOf, headerWith, headerOf, layoutOf, bodyOf, Message, messageOf, wholeHeader, readOf}
 
@@ -30,7 +31,7 @@ pub object-limits :
     × (readOf (0x04 ∷ 0x0F ∷ 0x85 ∷ 0x06 ∷ 0x81 ∷ 0x82 ∷ objects 65) ≡ refused (no 10 134))
     × Reads (0x04 ∷ 0x0F ∷ 0x0A ∷ 0x06 ∷ 0x08 ∷ 0x20 ∷ 0x06 ∷ 0x20 ∷ 0x04 ∷ 0x20 ∷ 0x02 ∷ 0x07 ∷ 0x00 ∷ [])
     × (readOf (0x04 ∷ 0x0F ∷ 0x0C ∷ 0x06 ∷ 0x0A ∷ 0x20 ∷ 0x08 ∷ 0x20 ∷ 0x06 ∷ 0x20 ∷ 0x04 ∷ 0x20 ∷ 0x02 ∷ 0x07 ∷ 0x00 ∷ []) ≡ refused (no 9 13))
-unfolding unless andThen among secondTag tagSize formSize oneByteLen twoByteLen lenOf headWith headOf insideOf oneBy runBy runOf countObj countObjs
+unfolding unless andThen among secondTag tagSize formSize oneByteLen twoByteLen lenOf headWith headOf runBy oneBy runOf countObj countObjs
     formatOf unknown fieldId countField countFields valueOf containerOf fieldBy fieldOf listBy listOf
     longLength lengthOf headerWith headerOf layoutOf bodyOf messageOf wholeHeader readOf objects
 object-limits = ((_, refl), refl, (_, refl), refl)

@@ -5,27 +5,27 @@ use mathlib.Core.Logic.{_↔_}
 use mathlib.Core.List.{List, [], _∷_, _++_, append-nil}
 use Prim.Native.Nat.{ℕ, suc, _+_, _-_, _*_, _/_, _%_, _<_, _≤_}
 use native.Mathlib.Omega.{arith}
-use lib.ListN.{length, take, drop, length-append, take-append-drop}
+use lib.ListN.{length, take, drop, replicate, length-append, take-append-drop}
 use lib.Seq.{length-take-le, take-all, take-add, take-append-seam, take-at, drop-at}
 use lib.Dec.{ltb, eqb}
 use borrow.Author.Tests.{eqb-true, eqb-false, ltb-false, le-ltb, ne-eqb}
 use Rattle.zvt_rules.specs.declared.Layout.{Layout}
 use Rattle.zvt_rules.specs.declared.Layout.the-variants.{Plain, List as FieldList, Secured}
 use Rattle.zvt_rules.specs.Reading.{Reading, got, part}
-use Rattle.zvt_rules.specs.Limits.{mostBody, mostObjects}
+use Rattle.zvt_rules.specs.Limits.{mostBody, mostMessage, mostObjects}
 use Rattle.zvt_rules.specs.Fields.{Field, countFields, ListRead, listOf}
 use Rattle.zvt_rules.specs.Message.{BodyLength, longLength, lengthOf, Heading, headerSize, start, end, headerWith, headerOf, layoutOf, Body, bytes, listed, securedOf, bodyOf, Message, messageOf, firstOf, wholeHeader, readOf, countBody, countOf}
-use Rattle.zvt_rules.specs.Writing.{listBytes, bodyBytes, lengthBytes, messageBytes}
-use Rattle.zvt_rules.specs.Grammar.{Bytes, FieldsOk, LayoutOk, LengthOk, MessageOk}
+use Rattle.zvt_rules.specs.believed.Writing.{listBytes, bodyBytes, lengthBytes, messageBytes}
+use Rattle.zvt_rules.specs.believed.Grammar.{Bytes, FieldsOk, LayoutOk, LengthOk, MessageOk}
 use Rattle.zvt_rules.proofs.Tests.{pick-test}
 use Rattle.zvt_rules.proofs.Readings.{got-same, got-not-refused, unless-got, unless-on, then-got, then-on}
 use Rattle.zvt_rules.proofs.ObjectReading.{part-length}
 use Rattle.zvt_rules.proofs.ObjectBytes.{bytes-drop, bytes-part}
-use Rattle.zvt_rules.proofs.FieldReading.{undecimal-got, with-in, header-in}
+use Rattle.zvt_rules.proofs.FieldReading.{undecimal-got, header-most, with-in, header-in}
 use Rattle.zvt_rules.proofs.FieldBytes.{decimals-read, list-sound, list-complete}
 
 -- ---- the length of a body
-abbrev Written : List ℕ → BodyLength → Type 0
+abbrev pub Written : List ℕ → BodyLength → Type 0
 Written s l = (lengthBytes (l .long) (l .value) ≡ take (headerSize (l .long) - 2) s) × (l .long ≡ false → l .value < 255)
 
 long-sound : (s : List ℕ) (l : BodyLength) → Bytes s → longLength s ≡ got l → Written (0xFF ∷ s) l
@@ -38,7 +38,7 @@ long-sound (x ∷ (y ∷ s)) l b e =
     let high : (y * 256 + x) / 256 ≡ y = omega arith in
     subst (Written (0xFF ∷ (x ∷ (y ∷ s)))) (got-same e) (cc, λ f. absurd (let z : _≡_ {A = ℕ} 0 1 = cc in omega arith))
 
-length-sound : (s : List ℕ) (l : BodyLength) → Bytes s → lengthOf s ≡ got l → Written s l
+pub length-sound : (s : List ℕ) (l : BodyLength) → Bytes s → lengthOf s ≡ got l → Written s l
 unfolding lengthOf lengthBytes Bytes
 length-sound [] l b e = absurd (got-not-refused (sym e))
 length-sound (x ∷ s) l b e =
@@ -60,12 +60,12 @@ cut true c i t v =
     let k : suc (suc (3 + v)) - 5 ≡ v = omega arith in
     rw (e, k) (ap (λ (x : List ℕ). c ∷ (i ∷ x)) (take-add 3 v t))
 
-length-ok : (long : Bool) (v : ℕ) → (long ≡ false → v < 255) → v ≤ mostBody → LengthOk long v
+pub length-ok : (long : Bool) (v : ℕ) → (long ≡ false → v < 255) → v ≤ mostBody → LengthOk long v
 unfolding LengthOk
 length-ok false v h l = h refl
 length-ok true v h l = l
 
-header-sound : (s : List ℕ) (h : Heading) → Bytes s → headerOf s ≡ got h
+pub header-sound : (s : List ℕ) (h : Heading) → Bytes s → headerOf s ≡ got h
     → (h .class ∷ (h .instruction ∷ (lengthBytes (h .long) (h .size) ++ part (start h) (end h) s)) ≡ take (end h) s) × LengthOk (h .long) (h .size)
 unfolding headerOf
 header-sound [] h b e = absurd (got-not-refused (sym e))
@@ -84,7 +84,7 @@ with-on : (c i : ℕ) (s : List ℕ) (l : BodyLength) → l .value ≤ mostBody 
 unfolding headerWith
 with-on c i s l h w = unless-on _ _ (le-ltb mostBody (l .value) h) ∙ unless-on _ _ (le-ltb (length s) (headerSize (l .long) + l .value) w)
 
-header-complete : (c i : ℕ) (long : Bool) (w rest : List ℕ) → LengthOk long (length w)
+pub header-complete : (c i : ℕ) (long : Bool) (w rest : List ℕ) → LengthOk long (length w)
     → headerOf (c ∷ (i ∷ ((lengthBytes long (length w) ++ w) ++ rest)))
     ≡ got (record { class = c; instruction = i; long = long; size = length w })
 unfolding headerOf lengthOf longLength lengthBytes LengthOk
@@ -99,7 +99,7 @@ header-complete c i true w rest ok =
     then-on _ l read ∙ with-on c i _ l ok (omega (arith, length-append w rest))
 
 -- the body stands behind the header
-behind : (long : Bool) (c i : ℕ) (v : ℕ) (w rest : List ℕ)
+pub behind : (long : Bool) (c i : ℕ) (v : ℕ) (w rest : List ℕ)
     → part (headerSize long) (headerSize long + length w) (c ∷ (i ∷ ((lengthBytes long v ++ w) ++ rest))) ≡ w
 unfolding lengthBytes
 behind false c i v w rest = let k : 3 + length w - 3 ≡ length w = omega arith in rw k (take-append-seam w rest)
@@ -184,6 +184,17 @@ pub first-complete : (m : Message) (rest : List ℕ) → MessageOk m → firstOf
 unfolding firstOf
 first-complete m rest ok = then-on _ (headerFor m) (header-back m rest ok) ∙ message-back m rest ok
 
+-- a message is read from bytes that begin with its own, and from no others
+pub first-exactly : (s : List ℕ) (m : Message) → Bytes s
+    → (firstOf s ≡ got m) ↔ ((rest : List ℕ) × ((messageBytes m ++ rest ≡ s) × MessageOk m))
+first-exactly s m b = (
+  λ e.
+      let k = first-sound s m b e in
+      let n = length (messageBytes m) in
+      (drop n s, (ap (λ (x : List ℕ). x ++ drop n s) (k .0) ∙ take-append-drop n s, k .1)),
+  λ k. rw (← (k .1 .0)) (first-complete m (k .0) (k .1 .1)),
+)
+
 -- the message that s is
 pub read-sound : (s : List ℕ) (m : Message) → Bytes s → readOf s ≡ got m → (messageBytes m ≡ s) × MessageOk m
 unfolding readOf wholeHeader
@@ -194,7 +205,7 @@ read-sound s m b e =
     let g = message-sound s (k .0) m b (h .1 ∙ w .1) (k .2) in
     (g .0 ∙ rw (← (got-same (w .1))) (take-all (end (h .0)) s (ltb-false (end (h .0)) (length s) (w .0))), g .1)
 
-lengthBytes-size : (long : Bool) (v : ℕ) → 2 + length (lengthBytes long v) ≡ headerSize long
+pub lengthBytes-size : (long : Bool) (v : ℕ) → 2 + length (lengthBytes long v) ≡ headerSize long
 unfolding lengthBytes
 lengthBytes-size false v = refl
 lengthBytes-size true v = refl
@@ -204,6 +215,20 @@ unfolding messageBytes
 message-size m =
     let w = bodyBytes (m .body) in
     omega (arith, length-append (lengthBytes (m .long) (length w)) w, lengthBytes-size (m .long) (length w))
+
+length-most : (long : Bool) (v : ℕ) → LengthOk long v → v ≤ mostBody
+unfolding LengthOk
+length-most false v ok = omega arith
+length-most true v ok = ok
+
+-- no message has more bytes than the longest header and the longest body (M3), and one has as many
+pub message-limit : (m : Message) → MessageOk m → length (messageBytes m) ≤ mostMessage
+unfolding MessageOk
+message-limit m ok = omega (arith, message-size m, header-most (m .long), length-most (m .long) (length (bodyBytes (m .body))) (ok .1))
+
+pub longest : length (messageBytes (record { class = 0x06; instruction = 0xD1; long = true; body = bytes (replicate 4_096 0x41) })) ≡ mostMessage
+unfolding messageBytes bodyBytes lengthBytes
+longest = refl
 
 pub read-complete : (m : Message) → MessageOk m → readOf (messageBytes m) ≡ got m
 unfolding readOf wholeHeader

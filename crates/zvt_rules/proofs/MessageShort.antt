@@ -15,10 +15,10 @@ use Rattle.zvt_rules.specs.Reading.{got}
 use Rattle.zvt_rules.specs.Limits.{mostBody}
 use Rattle.zvt_rules.specs.Fields.{Field}
 use Rattle.zvt_rules.specs.Message.{headerSize, layoutOf, Body, bytes, listed, Message, readOf, countBody, countOf}
-use Rattle.zvt_rules.specs.Pairs.{Bodies}
-use Rattle.zvt_rules.specs.Writing.{listBytes, bodyBytes, messageBytes}
-use Rattle.zvt_rules.specs.Shortest.{shortList, shortBody, shortMessage, isShortBody, isShort, write, shorten, SameField, SameValues}
-use Rattle.zvt_rules.specs.Grammar.{Bytes, ListOk, FieldsOk, LayoutOk, LengthOk, MessageOk}
+use Rattle.zvt_rules.specs.believed.Writing.{listBytes, bodyBytes, messageBytes}
+use Rattle.zvt_rules.specs.Shortest.{shortList, shortBody, shortMessage, isShortBody, isShort, write, shorten}
+use Rattle.zvt_rules.specs.believed.Shortest.{formlessBody, SameValues}
+use Rattle.zvt_rules.specs.believed.Grammar.{Bytes, ListOk, FieldsOk, LayoutOk, LengthOk, MessageOk}
 use Rattle.zvt_rules.proofs.Readings.{got-same, then-got, then-on}
 use Rattle.zvt_rules.proofs.Tests.{by-test}
 use Rattle.zvt_rules.proofs.FieldReading.{header-most}
@@ -59,10 +59,10 @@ unfolding countBody shortBody
 body-count (bytes s) = refl
 body-count (listed password fs) = list-count fs
 
-body-same : (b : Body) → Bodies (λ p p′. p ≡ p′) SameField b (shortBody b)
-unfolding Bodies shortBody
+body-same : (b : Body) → formlessBody b ≡ formlessBody (shortBody b)
+unfolding formlessBody shortBody
 body-same (bytes s) = refl
-body-same (listed password fs) = (refl, list-same fs)
+body-same (listed password fs) = ap (listed password) (list-same fs)
 
 body-short : (b : Body) → isShortBody (shortBody b) ≡ true
 unfolding isShortBody shortBody
@@ -97,7 +97,7 @@ shortest-ok : (v : ℕ) → v ≤ mostBody → LengthOk (leb 255 v) v
 unfolding LengthOk
 shortest-ok v h = by-test (leb 255 v) (λ e. rw e h) (λ e. rw e (leb-false 255 v e))
 
-header-shorter : (long : Bool) (v w : ℕ) → LengthOk long v → w ≤ v → headerSize (leb 255 w) ≤ headerSize long
+pub header-shorter : (long : Bool) (v w : ℕ) → LengthOk long v → w ≤ v → headerSize (leb 255 w) ≤ headerSize long
 unfolding LengthOk
 header-shorter false v w ok h = rw (lt-leb 255 w (omega arith)) (omega arith)
 header-shorter true v w ok h = header-most (leb 255 w)
@@ -162,7 +162,7 @@ short-exactly m ok = (
 )
 
 -- ---- the same of bytes
-shorten-read : (s : List ℕ) (m : Message) → readOf s ≡ got m → shorten s ≡ got (write m)
+pub shorten-read : (s : List ℕ) (m : Message) → readOf s ≡ got m → shorten s ≡ got (write m)
 unfolding shorten
 shorten-read s m e = then-on _ m e
 

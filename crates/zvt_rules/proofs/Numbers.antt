@@ -1,20 +1,24 @@
--- A reading is refused with one of the numbers 1 to 10. Assumes nothing.
+-- A reading is refused with one of the numbers 1 to 10, so its fuel is never spent. Assumes nothing.
 use mathlib.Core.Path.{_≡_, refl}
 use mathlib.Core.Bool.{Bool, true, false, _&&_}
 use mathlib.Core.List.{List, [], _∷_}
-use Prim.Native.Nat.{ℕ, zero, suc, _+_, _≤_}
-use lib.ListN.{getD, drop}
+use Prim.Native.Nat.{ℕ, zero, suc, _+_, _<_, _≤_}
+use native.Mathlib.Omega.{arith}
+use lib.ListN.{length, getD, drop, length-drop}
 use lib.Dec.{leb, ltb, eqb}
 use Rattle.zvt_rules.specs.declared.Fault.{Fault}
 use Rattle.zvt_rules.specs.declared.Format.{Format}
 use Rattle.zvt_rules.specs.declared.Format.the-variants.{Unknown, Fixed, Digits, Container}
 use Rattle.zvt_rules.specs.declared.Layout.{Layout}
 use Rattle.zvt_rules.specs.declared.Layout.the-variants.{Plain, List as FieldList, Secured}
-use Rattle.zvt_rules.specs.Reading.{Reading, got, refused, pick, unless, andThen}
-use Rattle.zvt_rules.specs.Objects.{longTag, nested, secondTag, tagSize, oneByteLen, twoByteLen, lenOf, Head, headWith, headOf, RunReader, insideOf, oneBy, runBy, runOf}
+use Rattle.zvt_rules.specs.Reading.{Reading, got, refused, no as no-at, pick, unless, andThen, part}
+use Rattle.zvt_rules.specs.Objects.{longTag, nested, secondTag, tagSize, oneByteLen, twoByteLen, lenOf}
+use Rattle.zvt_rules.specs.Objects.{from, to, headWith, headOf, runBy, oneBy, runOf, oneOf}
 use Rattle.zvt_rules.specs.Fields.{digitsOf, unlessUndecimal, holdsDigits, digitsIn, valueOf, plainOf, containerOf, fieldBy, fieldOf, listBy, listOf}
-use Rattle.zvt_rules.specs.Message.{longLength, lengthOf, headerWith, headerOf, securedOf, bodyOf, messageOf, wholeHeader, readOf}
+use Rattle.zvt_rules.specs.Message.{longLength, lengthOf, headerWith, headerOf, securedOf, bodyOf, messageOf, wholeHeader, firstOf, readOf}
 use Rattle.zvt_rules.proofs.Readings.{got-not-refused}
+use Rattle.zvt_rules.proofs.ObjectReading.{part-length, head-in, one-in, run-none, run-step, one-step}
+use Rattle.zvt_rules.proofs.FieldReading.{field-in, list-none, list-step}
 use Rattle.zvt_rules.proofs.Tests.{pick-test, between}
 
 abbrev Low : Fault → Type 0
@@ -29,10 +33,13 @@ unfolding unless
 small-unless true f x l h = no f l
 small-unless false f x l h = h
 
-small-then : {A B : Type 0} (x : Reading A) (f : A → Reading B) → Small x → ((a : A) → Small (f a)) → Small (andThen x f)
+small-with : {A B : Type 0} (x : Reading A) (f : A → Reading B) → Small x → ((a : A) → x ≡ got a → Small (f a)) → Small (andThen x f)
 unfolding andThen
-small-then _ f (is a) h = h a
-small-then _ f (no r l) h = no r l
+small-with _ f (is a) h = h a refl
+small-with _ f (no r l) h = no r l
+
+small-then : {A B : Type 0} (x : Reading A) (f : A → Reading B) → Small x → ((a : A) → Small (f a)) → Small (andThen x f)
+small-then x f s h = small-with x f s (λ a _. h a)
 
 small-pick : {A : Type 0} (t : Bool) {x y : Reading A} → Small x → Small y → Small (pick t x y)
 small-pick t h k = pick-test Small t (λ e. h) (λ e. k)
@@ -68,22 +75,32 @@ head-small : (at : ℕ) (s : List ℕ) → Small (headOf at s)
 unfolding headOf headWith
 head-small at s = small-then _ _ (tag-small at s) λ tag. small-then _ _ (len-small (at + tag) (drop tag s)) λ l. small-unless _ _ _ refl (is _)
 
-inside-small : (run : RunReader) (left n at : ℕ) (s : List ℕ) (h : Head) → ((l m p : ℕ) (t : List ℕ) → Small (run l m p t))
-    → Small (insideOf run left n at s h)
-unfolding insideOf
-inside-small run left n at s h r = small-pick (nested (getD s 0 0)) (small-then _ _ (r _ _ _ _) λ o. is _) (is _)
+-- an object, where that is known of the shorter runs
+object-by : (left n at : ℕ) (s : List ℕ) → ((l m a : ℕ) (t : List ℕ) → length t < length s → Small (runOf l m a t)) → Small (oneOf left n at s)
+object-by left n at s run =
+    rw (one-step left n at s)
+    (small-unless _ _ _ refl
+    (small-unless _ _ _ refl
+    (small-with _ _ (head-small at s) λ h e.
+    let i = head-in at s h e in
+    let less : length (part (from h) (to h) s) < length s = omega (arith, part-length s (from h) (to h) (omega arith) (i .2)) in
+    small-pick (nested (getD s 0 0)) (small-then _ _ (run _ _ _ _ less) λ r. is _) (is _))))
 
-object-small : (run : RunReader) (left n at : ℕ) (s : List ℕ) → ((l m p : ℕ) (t : List ℕ) → Small (run l m p t)) → Small (oneBy run left n at s)
-unfolding oneBy
-object-small run left n at s r =
-    small-unless _ _ _ refl (small-unless _ _ _ refl (small-then _ _ (head-small at s) λ h. inside-small run left n at s h r))
+run-by : (f left n at : ℕ) (s : List ℕ) → length s < f → Small (runOf left n at s)
+run-by zero left n at s l = absurd (omega arith)
+run-by (suc f) left n at [] l = rw (run-none left n at [] refl) (is _)
+run-by (suc f) left n at (b ∷ s) l =
+    rw (run-step left n at (b ∷ s) (omega arith))
+    (small-with _ _ (object-by left n at (b ∷ s) (λ i m a t h. run-by f i m a t (omega arith))) λ o e.
+    let i = one-in left n at (b ∷ s) o e in
+    let rest = drop (o .size) (b ∷ s) in
+    small-then _ _ (run-by f left (o .count) (at + o .size) rest (omega (arith, length-drop (o .size) (b ∷ s)))) λ r. is _)
 
-run-small : (f left n at : ℕ) (s : List ℕ) → Small (runBy f left n at s)
-unfolding runBy
-run-small zero left n at s = is _
-run-small (suc f) left n at [] = is _
-run-small (suc f) left n at (b ∷ s) =
-    small-then _ _ (object-small _ left n at (b ∷ s) (run-small f)) λ o. small-then _ _ (run-small f left _ _ _) λ r. is _
+run-small : (left n at : ℕ) (s : List ℕ) → Small (runOf left n at s)
+run-small left n at s = run-by (suc (length s)) left n at s (omega arith)
+
+object-small : (left n at : ℕ) (s : List ℕ) → Small (oneOf left n at s)
+object-small left n at s = object-by left n at s (λ l m a t h. run-small l m a t)
 
 -- ---- fields
 digits-small : (d v at : ℕ) (s : List ℕ) → Small (digitsOf d v at s)
@@ -106,9 +123,9 @@ unfolding plainOf digitsIn
 plain-small id n at a v s = small-then _ _ (value-small at a v s) λ value. small-pick (holdsDigits id) (decimal-small _ value _ (is _)) (is _)
 
 container-small : (n at : ℕ) (s : List ℕ) → Small (containerOf n at s)
-unfolding containerOf runOf
+unfolding containerOf
 container-small n at s =
-    small-then _ _ (len-small _ _) λ l. small-then _ _ (value-small _ _ _ _) λ value. small-then _ _ (run-small _ _ _ _ _) λ r. is _
+    small-then _ _ (len-small _ _) λ l. small-then _ _ (value-small _ _ _ _) λ value. small-then _ _ (run-small _ _ _ _) λ r. is _
 
 format-small : (id n at : ℕ) (s : List ℕ) (format : Format) → Small (fieldBy id n at s format)
 unfolding fieldBy
@@ -121,12 +138,18 @@ field-small : (seen : List ℕ) (n at : ℕ) (s : List ℕ) → Small (fieldOf s
 unfolding fieldOf
 field-small seen n at s = small-unless _ _ _ refl (small-unless _ _ _ refl (format-small _ n at s _))
 
-list-small : (f : ℕ) (seen : List ℕ) (n at : ℕ) (s : List ℕ) → Small (listBy f seen n at s)
-unfolding listBy
-list-small zero seen n at s = is _
-list-small (suc f) seen n at [] = is _
-list-small (suc f) seen n at (id ∷ s) =
-    small-then _ _ (field-small seen n at (id ∷ s)) λ o. small-then _ _ (list-small f _ _ _ _) λ r. is _
+list-by : (f : ℕ) (seen : List ℕ) (n at : ℕ) (s : List ℕ) → length s < f → Small (listOf seen n at s)
+list-by zero seen n at s l = absurd (omega arith)
+list-by (suc f) seen n at [] l = rw (list-none seen n at [] refl) (is _)
+list-by (suc f) seen n at (id ∷ s) l =
+    rw (list-step seen n at (id ∷ s) (omega arith))
+    (small-with _ _ (field-small seen n at (id ∷ s)) λ o e.
+    let i = field-in seen n at (id ∷ s) o e in
+    let rest = drop (o .size) (id ∷ s) in
+    small-then _ _ (list-by f (id ∷ seen) (o .count) (at + o .size) rest (omega (arith, length-drop (o .size) (id ∷ s)))) λ r. is _)
+
+list-small : (seen : List ℕ) (n at : ℕ) (s : List ℕ) → Small (listOf seen n at s)
+list-small seen n at s = list-by (suc (length s)) seen n at s (omega arith)
 
 -- ---- messages
 long-small : (s : List ℕ) → Small (longLength s)
@@ -151,10 +174,10 @@ unfolding wholeHeader
 whole-small s = small-then _ _ (header-small s) λ h. small-unless _ _ _ refl (is h)
 
 body-small : (at : ℕ) (s : List ℕ) (layout : Layout) → Small (bodyOf at s layout)
-unfolding bodyOf securedOf listOf
+unfolding bodyOf securedOf
 body-small at s Plain = is _
-body-small at s FieldList = small-then _ _ (list-small _ _ _ _ _) λ l. is _
-body-small at s Secured = small-unless _ _ _ refl (decimal-small at _ _ (small-then _ _ (list-small _ _ _ _ _) λ l. is _))
+body-small at s FieldList = small-then _ _ (list-small _ _ _ _) λ l. is _
+body-small at s Secured = small-unless _ _ _ refl (decimal-small at _ _ (small-then _ _ (list-small _ _ _ _) λ l. is _))
 
 read-small : (s : List ℕ) → Small (readOf s)
 unfolding readOf messageOf
@@ -167,3 +190,22 @@ small-number f (no g l) e = let same : g .number ≡ f .number = cc in rw same a
 
 pub read-numbers : (s : List ℕ) (f : Fault) → readOf s ≡ refused f → (1 ≤ f .number) × (f .number ≤ 10)
 read-numbers s f e = small-number f (read-small s) e
+
+pub first-numbers : (s : List ℕ) (f : Fault) → firstOf s ≡ refused f → (1 ≤ f .number) × (f .number ≤ 10)
+unfolding firstOf messageOf
+first-numbers s f e = small-number f (small-then _ _ (header-small s) λ h. small-then _ _ (body-small _ _ _) λ b. is _) e
+
+-- ---- fuel: where it is spent the answer is a refusal with 0, and no run, no object and no list is refused with 0
+pub spent : (left n at : ℕ) (seen s : List ℕ)
+    → (runBy 0 left n at s ≡ refused (no-at 0 at)) × (oneBy 0 left n at s ≡ refused (no-at 0 at)) × (listBy 0 seen n at s ≡ refused (no-at 0 at))
+unfolding runBy oneBy listBy
+spent left n at seen s = (refl, refl, refl)
+
+pub never-spent : (f : Fault) → f .number ≡ 0
+    → ((left n at : ℕ) (s : List ℕ) → runOf left n at s ≡ refused f → ⊥) × ((left n at : ℕ) (s : List ℕ) → oneOf left n at s ≡ refused f → ⊥)
+    × ((seen : List ℕ) (n at : ℕ) (s : List ℕ) → listOf seen n at s ≡ refused f → ⊥)
+never-spent f z = (
+  λ left n at s e. omega (arith, small-number f (run-small left n at s) e),
+  λ left n at s e. omega (arith, small-number f (object-small left n at s) e),
+  λ seen n at s e. omega (arith, small-number f (list-small seen n at s) e),
+)

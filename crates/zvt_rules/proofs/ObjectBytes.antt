@@ -12,13 +12,13 @@ use borrow.Author.Tests.{lt-leb, ne-eqb, le-ltb}
 use Rattle.zvt_rules.specs.Reading.{Reading, got, no, unless, part}
 use Rattle.zvt_rules.specs.Limits.{mostObjects}
 use Rattle.zvt_rules.specs.Objects.{longTag, topBit, nested, secondTag, tagSize, Form, formSize, lenOf, Head, from, to, headWith}
-use Rattle.zvt_rules.specs.Objects.{headOf, Obj, leaf, branch, Objs, none, more, OneRead, RunRead, insideOf, oneBy, runOf, oneOf}
+use Rattle.zvt_rules.specs.Objects.{headOf, Obj, leaf, branch, Objs, none, more, OneRead, RunRead, runOf, oneOf}
 use Rattle.zvt_rules.specs.Objects.{countObj, countObjs}
-use Rattle.zvt_rules.specs.Writing.{lenBytes, sized, objBytes, runBytes}
-use Rattle.zvt_rules.specs.Grammar.{Bytes, TagOk, FormOk, ObjOk, RunOk}
+use Rattle.zvt_rules.specs.believed.Writing.{lenBytes, sized, objBytes, runBytes}
+use Rattle.zvt_rules.specs.believed.Grammar.{Bytes, TagOk, FormOk, ObjOk, RunOk}
 use Rattle.zvt_rules.proofs.Tests.{pick-test, pick-true, pick-false}
 use Rattle.zvt_rules.proofs.Readings.{got-same, got-not-refused, unless-got, then-on}
-use Rattle.zvt_rules.proofs.ObjectReading.{part-length, head-got, head-in, one-got, one-in, run-none, run-step, run-got}
+use Rattle.zvt_rules.proofs.ObjectReading.{part-length, head-got, head-in, inside, one-got, one-in, run-none, run-step, one-step, run-got}
 use Rattle.zvt_rules.proofs.Lengths.{lenBytes-size, object-size, len-written, len-sound}
 
 -- ---- bytes
@@ -44,14 +44,14 @@ second-sound at b (c ∷ s) k t e =
     let g = unless-got (topBit c) (no 8 at) (got 2) k e in
     subst (λ (m : ℕ). TagOk (take m (b ∷ (c ∷ s))) (nested b)) (got-same (g .1)) (t, g .0, refl)
 
-tag-sound : (at : ℕ) (s : List ℕ) (k : ℕ) → tagSize at s ≡ got k → TagOk (take k s) (nested (getD s 0 0))
+pub tag-sound : (at : ℕ) (s : List ℕ) (k : ℕ) → tagSize at s ≡ got k → TagOk (take k s) (nested (getD s 0 0))
 unfolding tagSize TagOk
 tag-sound at [] k e = absurd (got-not-refused (sym e))
 tag-sound at (b ∷ s) k e =
     pick-test (λ (x : Reading ℕ). x ≡ got k → TagOk (take k (b ∷ s)) (nested b)) (longTag b) (λ t. second-sound (at + 1) b s k t)
     (λ t f. subst (λ (m : ℕ). TagOk (take m (b ∷ s)) (nested b)) (got-same f) (t, refl)) e
 
-tag-written : (at : ℕ) (tag t : List ℕ) (run : Bool) → TagOk tag run
+pub tag-written : (at : ℕ) (tag t : List ℕ) (run : Bool) → TagOk tag run
     → (tagSize at (tag ++ t) ≡ got (length tag)) × (nested (getD (tag ++ t) 0 0) ≡ run)
 unfolding tagSize secondTag TagOk unless
 tag-written at [] t run ok = absurd ok
@@ -60,7 +60,7 @@ tag-written at (b ∷ (c ∷ [])) t run ok = (rw (ok .0, ok .1), ok .2)
 tag-written at (b ∷ (c ∷ (d ∷ s))) t run ok = absurd ok
 
 -- ---- a head that is read: the bytes up to the value's end are tag, length and value
-head-sound : (at : ℕ) (s : List ℕ) (h : Head) → Bytes s → headOf at s ≡ got h
+pub head-sound : (at : ℕ) (s : List ℕ) (h : Head) → Bytes s → headOf at s ≡ got h
     → TagOk (take (h .tag) s) (nested (getD s 0 0)) × FormOk (h .form) (length (part (from h) (to h) s))
     × (take (h .tag) s ++ sized (h .form) (part (from h) (to h) s) ≡ take (to h) s)
 unfolding sized
@@ -87,9 +87,9 @@ OneSound left n s o = (objBytes (o .obj) ≡ take (o .size) s) × ObjOk (o .obj)
 one-from : (left n at : ℕ) (s : List ℕ) (o : OneRead)
     → ((l m a : ℕ) (t : List ℕ) (r : RunRead) → length t < length s → Bytes t → runOf l m a t ≡ got r → RunSound l m t r)
     → Bytes s → oneOf left n at s ≡ got o → OneSound left n s o
-unfolding oneOf objBytes ObjOk countObj
+unfolding objBytes ObjOk countObj
 one-from left n at s o run b e =
-    let w = one-got runOf left n at s o e in
+    let w = one-got left n at s o e in
     let h = w .head in
     let i = head-in at s h (w .read) in
     let g = head-sound at s h b (w .read) in
@@ -151,7 +151,7 @@ module _ (tag : List ℕ) (form : Form) (v rest : List ℕ) where
   taken : take (length tag) whole ≡ tag
   taken = rw regroup (take-append-seam tag _)
 
-  value-part : part (from written) (to written) whole ≡ v
+  pub value-part : part (from written) (to written) whole ≡ v
   value-part =
       let behind = drop-at (lenBytes form (length v)) (v ++ rest) (formSize form) (lenBytes-size form (length v)) in
       rw (regroup, add-sub-cancel-left (from written) (length v), drop-append-add tag, behind) (take-append-seam v rest)
@@ -160,26 +160,26 @@ module _ (tag : List ℕ) (form : Form) (v rest : List ℕ) where
   end = omega (arith, object-size tag form v)
 
   module _ (run : Bool) (ok : TagOk tag run) (fits : FormOk form (length v)) where
-    first : nested (getD whole 0 0) ≡ run
+    pub first : nested (getD whole 0 0) ≡ run
     first = rw regroup (tag-written 0 tag _ run ok .1)
 
     at-len : (at : ℕ) → lenOf at (drop (length tag) whole) ≡ got (record { form = form; value = length v })
     at-len at = rw (regroup, drop-append-seam tag) (len-written at form (length v) (v ++ rest) fits)
 
-    head-written : (at : ℕ) → headOf at whole ≡ got written
+    pub head-written : (at : ℕ) → headOf at whole ≡ got written
     unfolding headOf headWith unless
     head-written at =
         then-on _ (length tag) (rw regroup (tag-written at tag _ run ok .0)) ∙ then-on _ _ (at-len (at + length tag))
         ∙ rw (le-ltb (length whole) (to written) (omega (arith, end, length-append (tag ++ sized form v) rest)))
 
-    at-object : (left n at : ℕ) → n < mostObjects → 0 < left → oneOf left n at whole ≡ insideOf runOf left n at whole written
-    unfolding oneOf oneBy unless
-    at-object left n at room deep = rw (lt-leb mostObjects n room, ne-eqb left 0 (λ e. omega arith)) (then-on _ written (head-written at))
+    at-object : (left n at : ℕ) → n < mostObjects → 0 < left → oneOf left n at whole ≡ inside runOf left n at whole written
+    unfolding unless
+    at-object left n at room deep =
+        rw (one-step left n at whole, lt-leb mostObjects n room, ne-eqb left 0 (λ e. omega arith)) (then-on _ written (head-written at))
 
 leaf-written : (tag : List ℕ) (form : Form) (v rest : List ℕ) (left n at : ℕ) → TagOk tag false → FormOk form (length v) → n < mostObjects → 0 < left
     → oneOf left n at ((tag ++ sized form v) ++ rest)
     ≡ got (record { obj = leaf tag form v; size = length (tag ++ sized form v); count = n + 1 })
-unfolding insideOf
 leaf-written tag form v rest left n at ok fits room deep =
     at-object tag form v rest false ok fits left n at room deep ∙ pick-false _ _ (first tag form v rest false ok fits)
     ∙ cc (taken tag form v rest, value-part tag form v rest, end tag form v rest)
@@ -189,7 +189,6 @@ branch-written : (tag : List ℕ) (form : Form) (os : Objs) (rest : List ℕ) (l
     → ((a : ℕ) → runOf (left - 1) (n + 1) a (runBytes os) ≡ got (record { objs = os; count = c }))
     → oneOf left n at ((tag ++ sized form (runBytes os)) ++ rest)
     ≡ got (record { obj = branch tag form os; size = length (tag ++ sized form (runBytes os)); count = c })
-unfolding insideOf
 branch-written tag form os rest left n at c ok fits room deep inner =
     let v = runBytes os in
     at-object tag form v rest true ok fits left n at room deep ∙ pick-true _ _ (first tag form v rest true ok fits)

@@ -9,11 +9,11 @@ use lib.ListN.{length, getD, take, drop, length-take, length-drop}
 use lib.Seq.{take-all}
 use lib.Dec.{ltb, leb, eqb}
 use borrow.Author.Tests.{ltb-false, leb-false, eqb-false}
-use Rattle.zvt_rules.specs.Reading.{Reading, got, no, unless, andThen, part}
+use Rattle.zvt_rules.specs.Reading.{Reading, got, no, pick, unless, andThen, part}
 use Rattle.zvt_rules.specs.Limits.{mostObjects}
 use Rattle.zvt_rules.specs.Objects.{longTag, topBit, nested, secondTag, tagSize, formSize, Len, oneByteLen, twoByteLen, lenOf}
-use Rattle.zvt_rules.specs.Objects.{Head, from, to, headWith, headOf, Obj, leaf, branch, none, more}
-use Rattle.zvt_rules.specs.Objects.{OneRead, RunRead, RunReader, insideOf, oneBy, runBy, runOf, oneOf}
+use Rattle.zvt_rules.specs.Objects.{Head, from, to, headWith, headOf, Obj, none, more}
+use Rattle.zvt_rules.specs.Objects.{OneRead, RunRead, leafOf, branchOf, runBy, oneBy, runOf, oneOf}
 use Rattle.zvt_rules.proofs.Tests.{pick-test}
 use Rattle.zvt_rules.proofs.Readings.{got-same, got-not-refused, unless-got, then-got, then-alike}
 
@@ -82,13 +82,20 @@ head-in at s h e =
     let i = w .within in
     omega arith
 
--- ---- what an object that was read says, by whatever reader of runs
-abbrev pub branchOf : List ℕ → Head → RunRead → OneRead
-branchOf s h r = record { obj = branch (take (h .tag) s) (h .form) (r .objs); size = to h; count = r .count }
+-- ---- an object, by whatever reader of the run inside it
+abbrev RunReader : Type 0
+RunReader = ℕ → ℕ → ℕ → List ℕ → Reading RunRead
 
-abbrev pub leafOf : ℕ → List ℕ → Head → OneRead
-leafOf n s h = record { obj = leaf (take (h .tag) s) (h .form) (part (from h) (to h) s); size = to h; count = n + 1 }
+abbrev pub inside : RunReader → ℕ → ℕ → ℕ → List ℕ → Head → Reading OneRead
+inside run left n at s h =
+    pick (nested (getD s 0 0))
+    (andThen (run (left - 1) (n + 1) (at + from h) (part (from h) (to h) s)) λ r. got (branchOf s h r)) (got (leafOf n s h))
 
+abbrev object : RunReader → ℕ → ℕ → ℕ → List ℕ → Reading OneRead
+object run left n at s =
+    unless (leb mostObjects n) (no 10 at) (unless (eqb left 0) (no 9 at) (andThen (headOf at s) λ h. inside run left n at s h))
+
+-- what an object that was read says
 abbrev pub Inside : RunReader → ℕ → ℕ → ℕ → List ℕ → OneRead → Head → Type 0
 Inside run left n at s o h =
     ((nested (getD s 0 0) ≡ true)
@@ -103,8 +110,7 @@ pub record ObjRead (run : RunReader) (left n at : ℕ) (s : List ℕ) (o : OneRe
   pub inside : Inside run left n at s o head
 
 inside-got : (run : RunReader) (left n at : ℕ) (s : List ℕ) (h : Head) (o : OneRead)
-    → insideOf run left n at s h ≡ got o → Inside run left n at s o h
-unfolding insideOf
+    → inside run left n at s h ≡ got o → Inside run left n at s o h
 inside-got run left n at s h o =
     pick-test (λ (x : Reading OneRead). x ≡ got o → Inside run left n at s o h) (nested (getD s 0 0))
     (λ t f.
@@ -112,43 +118,42 @@ inside-got run left n at s h o =
     inl (t, (r .0, r .1, got-same (r .2))))
     (λ t f. inr (t, got-same f))
 
-pub one-got : (run : RunReader) (left n at : ℕ) (s : List ℕ) (o : OneRead) → oneBy run left n at s ≡ got o → ObjRead run left n at s o
-unfolding oneBy
-one-got run left n at s o e =
+object-got : (run : RunReader) (left n at : ℕ) (s : List ℕ) (o : OneRead) → object run left n at s ≡ got o → ObjRead run left n at s o
+object-got run left n at s o e =
     let c = unless-got (leb mostObjects n) (no 10 at) _ o e in
     let d = unless-got (eqb left 0) (no 9 at) _ o (c .1) in
     let h = then-got (headOf at s) _ o (d .1) in
     let z = eqb-false left 0 (d .0) in
     record { room = leb-false mostObjects n (c .0); deep = omega arith; head = h .0; read = h .1; inside = inside-got run left n at s (h .0) o (h .2) }
 
-by-in : (run : RunReader) (left n at : ℕ) (s : List ℕ) (o : OneRead) → oneBy run left n at s ≡ got o → (2 ≤ o .size) × (o .size ≤ length s)
-by-in run left n at s o e =
-    let w = one-got run left n at s o e in
+-- it takes two bytes at least, and lies within
+object-in : (run : RunReader) (left n at : ℕ) (s : List ℕ) (o : OneRead) → object run left n at s ≡ got o → (2 ≤ o .size) × (o .size ≤ length s)
+object-in run left n at s o e =
+    let w = object-got run left n at s o e in
     let i = head-in at s (w .head) (w .read) in
     let size : OneRead → ℕ = λ x. x .size in
     let z : to (w .head) ≡ o .size = ⊎-elim (λ b. ap size (b .1 .2)) (λ b. ap size (b .1)) (w .inside) in
     omega arith
 
+by-in : (f left n at : ℕ) (s : List ℕ) (o : OneRead) → oneBy f left n at s ≡ got o → (2 ≤ o .size) × (o .size ≤ length s)
+unfolding oneBy
+by-in zero left n at s o e = absurd (got-not-refused (sym e))
+by-in (suc f) left n at s o e = object-in (λ l m a t. runBy f l m a t) left n at s o e
+
 pub one-in : (left n at : ℕ) (s : List ℕ) (o : OneRead) → oneOf left n at s ≡ got o → (2 ≤ o .size) × (o .size ≤ length s)
 unfolding oneOf
-one-in left n at s o e = by-in runOf left n at s o e
+one-in left n at s o e = by-in (suc (length s)) left n at s o e
 
--- ---- the bound on the steps does not matter, where it is the length at least
+-- ---- how much fuel there is does not matter, where there is enough
 abbrev Agree : RunReader → RunReader → List ℕ → Type 0
-Agree p q s = (l m a : ℕ) (t : List ℕ) → length t < length s → p l m a t ≡ q l m a t
+Agree p q s = (l m a : ℕ) (t : List ℕ) → length t + 2 ≤ length s → p l m a t ≡ q l m a t
 
-inside-cong : (p q : RunReader) (left n at : ℕ) (s : List ℕ) (h : Head) → headOf at s ≡ got h → Agree p q s
-    → insideOf p left n at s h ≡ insideOf q left n at s h
-unfolding insideOf
-inside-cong p q left n at s h e f =
-    let i = head-in at s h e in
-    rw (f (left - 1) (n + 1) (at + from h) (part (from h) (to h) s) (omega (arith, part-length s (from h) (to h) (omega arith) (i .2))))
-
-one-cong : (p q : RunReader) (left n at : ℕ) (s : List ℕ) → Agree p q s → oneBy p left n at s ≡ oneBy q left n at s
-unfolding oneBy
-one-cong p q left n at s f =
+object-alike : (p q : RunReader) (left n at : ℕ) (s : List ℕ) → Agree p q s → object p left n at s ≡ object q left n at s
+object-alike p q left n at s f =
     ap (λ (x : Reading OneRead). unless (leb mostObjects n) (no 10 at) (unless (eqb left 0) (no 9 at) x))
-    (then-alike (headOf at s) _ _ (λ h e. inside-cong p q left n at s h e f))
+    (then-alike (headOf at s) _ _ (λ h e.
+    let i = head-in at s h e in
+    rw (f (left - 1) (n + 1) (at + from h) (part (from h) (to h) s) (omega (arith, part-length s (from h) (to h) (omega arith) (i .2))))))
 
 abbrev andMore : Obj → RunRead → Reading RunRead
 andMore o r = got (record { objs = more o (r .objs); count = r .count })
@@ -156,28 +161,34 @@ andMore o r = got (record { objs = more o (r .objs); count = r .count })
 abbrev rest : RunReader → ℕ → ℕ → List ℕ → OneRead → Reading RunRead
 rest run left at s o = andThen (run left (o .count) (at + o .size) (drop (o .size) s)) λ r. andMore (o .obj) r
 
-step-cong : (p q : RunReader) (left n at : ℕ) (s : List ℕ) → Agree p q s
-    → andThen (oneBy p left n at s) (λ o. rest p left at s o) ≡ andThen (oneBy q left n at s) (λ o. rest q left at s o)
-step-cong p q left n at s f =
-    then-alike (oneBy p left n at s) _ _ (λ o e.
-    let i = by-in p left n at s o e in
+rest-alike : (p q : RunReader) (f left n at : ℕ) (s : List ℕ) (y : Reading OneRead) → Agree p q s → oneBy f left n at s ≡ y
+    → andThen (oneBy f left n at s) (λ o. rest p left at s o) ≡ andThen y (λ o. rest q left at s o)
+rest-alike p q f left n at s y h e =
+    then-alike (oneBy f left n at s) _ _ (λ o g.
+    let i = by-in f left n at s o g in
     ap (λ (x : Reading RunRead). andThen x (andMore (o .obj)))
-    (f left (o .count) (at + o .size) (drop (o .size) s) (omega (arith, length-drop (o .size) s))))
-    ∙ ap (λ (x : Reading OneRead). andThen x (λ o. rest q left at s o)) (one-cong p q left n at s f)
+    (h left (o .count) (at + o .size) (drop (o .size) s) (omega (arith, length-drop (o .size) s))))
+    ∙ ap (λ (x : Reading OneRead). andThen x (λ o. rest q left at s o)) e
 
-enough : (f g left n at : ℕ) (s : List ℕ) → length s ≤ f → length s ≤ g → runBy f left n at s ≡ runBy g left n at s
-unfolding runBy
-enough zero zero left n at s hf hg = refl
-enough zero (suc g) left n at [] hf hg = refl
-enough zero (suc g) left n at (b ∷ s) hf hg = absurd (omega arith)
-enough (suc f) zero left n at [] hf hg = refl
-enough (suc f) zero left n at (b ∷ s) hf hg = absurd (omega arith)
-enough (suc f) (suc g) left n at [] hf hg = refl
-enough (suc f) (suc g) left n at (b ∷ s) hf hg =
-    step-cong (λ l m a t. runBy f l m a t) (λ l m a t. runBy g l m a t) left n at (b ∷ s)
-    (λ l m a t h. enough f g l m a t (omega arith) (omega arith))
+mutual
+  unfolding runBy
 
--- ---- the laws of a run
+  run-enough : (f g left n at : ℕ) (s : List ℕ) → length s < f → length s < g → runBy f left n at s ≡ runBy g left n at s
+  run-enough zero g left n at s hf hg = absurd (omega arith)
+  run-enough (suc f) zero left n at s hf hg = absurd (omega arith)
+  run-enough (suc f) (suc g) left n at [] hf hg = refl
+  run-enough (suc f) (suc g) left n at (b ∷ s) hf hg =
+      rest-alike (λ l m a t. runBy f l m a t) (λ l m a t. runBy g l m a t) f left n at (b ∷ s) (oneBy g left n at (b ∷ s))
+      (λ l m a t h. run-enough f g l m a t (omega arith) (omega arith)) (one-enough f g left n at (b ∷ s) (omega arith) (omega arith) (omega arith))
+
+  one-enough : (f g left n at : ℕ) (s : List ℕ) → 0 < length s → length s ≤ f → length s ≤ g → oneBy f left n at s ≡ oneBy g left n at s
+  one-enough zero g left n at s l hf hg = absurd (omega arith)
+  one-enough (suc f) zero left n at s l hf hg = absurd (omega arith)
+  one-enough (suc f) (suc g) left n at s l hf hg =
+      object-alike (λ l m a t. runBy f l m a t) (λ l m a t. runBy g l m a t) left n at s
+      (λ l m a t h. run-enough f g l m a t (omega arith) (omega arith))
+
+-- ---- the laws of a run and of an object, without fuel
 pub run-none : (left n at : ℕ) (s : List ℕ) → length s ≡ 0 → runOf left n at s ≡ got (record { objs = none; count = n })
 unfolding runOf runBy
 run-none left n at [] h = refl
@@ -190,8 +201,22 @@ pub run-step : (left n at : ℕ) (s : List ℕ) → 0 < length s
 unfolding runOf runBy oneOf
 run-step left n at [] h = absurd (omega arith)
 run-step left n at (b ∷ s) h =
-    step-cong (λ l m a t. runBy (length s) l m a t) runOf left n at (b ∷ s)
-    (λ l m a t k. enough (length s) (length t) l m a t (omega arith) (omega arith))
+    let f = suc (length s) in
+    rest-alike (λ l m a t. runBy f l m a t) runOf f left n at (b ∷ s) (oneOf left n at (b ∷ s))
+    (λ l m a t k. run-enough f (suc (length t)) l m a t (omega arith) (omega arith))
+    (one-enough f (suc f) left n at (b ∷ s) (omega arith) (omega arith) (omega arith))
+
+pub one-step : (left n at : ℕ) (s : List ℕ)
+    → oneOf left n at s
+    ≡ unless (leb mostObjects n) (no 10 at) (unless (eqb left 0) (no 9 at) (andThen (headOf at s) λ h. inside runOf left n at s h))
+unfolding runOf oneOf oneBy
+one-step left n at s =
+    object-alike (λ l m a t. runBy (length s) l m a t) runOf left n at s
+    (λ l m a t k. run-enough (length s) (suc (length t)) l m a t (omega arith) (omega arith))
+
+-- what an object that was read says, the run inside it read as any run is
+pub one-got : (left n at : ℕ) (s : List ℕ) (o : OneRead) → oneOf left n at s ≡ got o → ObjRead runOf left n at s o
+one-got left n at s o e = object-got runOf left n at s o (sym (one-step left n at s) ∙ e)
 
 -- what a run that was read says: its first object, and the rest
 pub record MoreRead (left n at : ℕ) (s : List ℕ) (r : RunRead) : Type 0 where

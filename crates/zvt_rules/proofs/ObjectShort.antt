@@ -4,10 +4,11 @@ use mathlib.Core.Bool.{true, and-eq-true-iff}
 use Prim.Native.Nat.{ℕ, suc, _+_, _-_, _≤_}
 use native.Mathlib.Omega.{arith}
 use lib.ListN.{length, length-append}
-use Rattle.zvt_rules.specs.Objects.{Form, formSize, Obj, leaf, branch, Objs, none, more, countObj, countObjs}
-use Rattle.zvt_rules.specs.Writing.{objBytes, runBytes}
-use Rattle.zvt_rules.specs.Shortest.{formFor, isShortest, shortObj, shortRun, isShortObj, isShortRun, SameObj, SameRun}
-use Rattle.zvt_rules.specs.Grammar.{ObjOk, RunOk}
+use Rattle.zvt_rules.specs.Objects.{bare, Form, formSize, Obj, leaf, branch, Objs, none, more, countObj, countObjs}
+use Rattle.zvt_rules.specs.believed.Writing.{objBytes, runBytes}
+use Rattle.zvt_rules.specs.Shortest.{formFor, isShortest, shortObj, shortRun, isShortObj, isShortRun}
+use Rattle.zvt_rules.specs.believed.Shortest.{formlessObj, formlessRun}
+use Rattle.zvt_rules.specs.believed.Grammar.{ObjOk, RunOk}
 use Rattle.zvt_rules.proofs.Lengths.{object-size, formFor-ok, form-shorter, form-kept, form-strict, formFor-shortest}
 
 -- ---- the sizes
@@ -60,15 +61,15 @@ mutual
   run-count (more o os) = ap₂ (λ (a b : ℕ). a + b) (obj-count o) (run-count os)
 
 mutual
-  unfolding shortObj shortRun SameObj SameRun
+  unfolding shortObj shortRun formlessObj formlessRun
 
-  pub obj-same : (o : Obj) → SameObj o (shortObj o)
-  obj-same (leaf tag form value) = (refl, refl)
-  obj-same (branch tag form os) = (refl, run-same os)
+  pub obj-same : (o : Obj) → formlessObj o ≡ formlessObj (shortObj o)
+  obj-same (leaf tag form value) = refl
+  obj-same (branch tag form os) = ap (branch tag bare) (run-same os)
 
-  pub run-same : (os : Objs) → SameRun os (shortRun os)
-  run-same none = tt
-  run-same (more o os) = (obj-same o, run-same os)
+  pub run-same : (os : Objs) → formlessRun os ≡ formlessRun (shortRun os)
+  run-same none = refl
+  run-same (more o os) = ap₂ more (obj-same o) (run-same os)
 
 -- ---- every length shortest
 mutual

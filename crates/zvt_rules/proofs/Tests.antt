@@ -6,7 +6,7 @@ use Prim.Native.Nat.{ℕ, zero, suc, _+_, _<_, _≤_}
 use native.Mathlib.Nat.{eq-or-lt-of-le}
 use native.Mathlib.Omega.{arith}
 use lib.Dec.{leb, eqb}
-use borrow.Author.Tests.{leb-true, le-leb, eqb-true, eq-eqb}
+use borrow.Author.Tests.{leb-true, le-leb, leb-false, lt-leb, eqb-true, eq-eqb}
 use Rattle.zvt_rules.specs.Reading.{pick}
 
 -- ---- a test holds or fails, and never both
@@ -45,6 +45,9 @@ pick-under f false x y = refl
 pub leb-test : (m n : ℕ) → (leb m n ≡ true) ↔ (m ≤ n)
 leb-test m n = (leb-true m n, le-leb m n)
 
+pub leb-fails : (m n : ℕ) → (leb m n ≡ false) ↔ (n < m)
+leb-fails m n = (leb-false m n, lt-leb m n)
+
 pub eqb-test : (m n : ℕ) → (eqb m n ≡ true) ↔ (m ≡ n)
 eqb-test m n = (eqb-true m n, eq-eqb m n)
 
@@ -56,6 +59,11 @@ pub or-test : {A B : Type 0} {t u : Bool} → ((t ≡ true) ↔ A) → ((u ≡ t
 or-test {t = true} r q = (λ e. inl (r .0 refl), λ k. refl)
 or-test {t = false} r q = (λ e. inr (q .0 e), ⊎-elim (λ a. absurd (false≢true (r .1 a))) (q .1))
 
+-- two together fail where one of them does
+pub nand-test : {A B : Type 0} {t u : Bool} → ((t ≡ false) ↔ A) → ((u ≡ false) ↔ B) → (t && u ≡ false) ↔ (A ⊎ B)
+nand-test {t = true} r q = (λ e. inr (q .0 e), ⊎-elim (λ a. absurd (false≢true (sym (r .1 a)))) (q .1))
+nand-test {t = false} r q = (λ e. inl (r .0 refl), λ k. refl)
+
 pub between : (n top : ℕ) → (leb 1 n && leb n top ≡ true) ↔ ((1 ≤ n) × (n ≤ top))
 between n top = and-test (leb-test 1 n) (leb-test n top)
 
@@ -64,6 +72,14 @@ case {t} r h k = by-test t (λ e. h (r .0 e)) (λ f. k λ a. true-false (r .1 a)
 
 pub no-for : {A : Type 0} {t : Bool} → ((t ≡ true) ↔ A) → (A → ⊥) → t ≡ false
 no-for {t} r n = by-test t (λ e. absurd (n (r .0 e))) (λ f. f)
+
+pub fails : {A : Type 0} {t : Bool} → ((t ≡ true) ↔ A) → (t ≡ false) ↔ (A → ⊥)
+fails r = (λ f a. true-false (r .1 a) f, no-for r)
+
+-- two tests of the same thing
+pub same-test : {A : Type 0} {t u : Bool} → ((t ≡ true) ↔ A) → ((u ≡ true) ↔ A) → t ≡ u
+same-test {t = true} {u} r q = sym (q .1 (r .0 refl))
+same-test {t = false} {u} r q = sym (no-for q λ a. false≢true (r .1 a))
 
 -- ---- one of two, and neither
 pub either : (t u : Bool) → (t || u) ≡ true → (t ≡ true) ⊎ (u ≡ true)

@@ -11,7 +11,7 @@ use Rattle.zvt_rules.specs.declared.Layout.the-variants.{Plain, List as 
 use Rattle.zvt_rules.specs.Reading.{got, among}
 use Rattle.zvt_rules.specs.Fields.{formatOf, Field, plain, container, fieldId}
 use Rattle.zvt_rules.specs.Message.{Body, bytes, listed, Message, readOf, layoutOf}
-use Rattle.zvt_rules.specs.Grammar.{Bytes, SizeOk, FieldOk, ListOk, FieldsOk, LayoutOk, MessageOk}
+use Rattle.zvt_rules.specs.believed.Grammar.{Bytes, SizeOk, FieldOk, ListOk, FieldsOk, LayoutOk, MessageOk}
 use Rattle.zvt_rules.specs.Values.{fieldValue, Found, missing, found, valueIn, bodyFields}
 use Rattle.zvt_rules.specs.Digits.{numberOf}
 use Rattle.zvt_rules.proofs.Tests.{pick-test}

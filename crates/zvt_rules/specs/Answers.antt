@@ -18,7 +18,7 @@ use Rattle.zvt_rules.specs.declared.ShortenAnswer.the-variants.{Written,
 use Rattle.zvt_rules.specs.Reading.{Reading, got, refused, noHeader, unless, andThen}
 use Rattle.zvt_rules.specs.Buffers.{writtenLeaves}
 use Rattle.zvt_rules.specs.Message.{Heading, headerSize, start, wholeHeader, Message, readOf, firstOf, countOf}
-use Rattle.zvt_rules.specs.Writing.{bodyBytes, messageBytes}
+use Rattle.zvt_rules.specs.believed.Writing.{bodyBytes, messageBytes}
 use Rattle.zvt_rules.specs.Shortest.{isShort, shorten}
 
 -- R31: "A refusal answers its number and nothing else."

@@ -1,5 +1,6 @@
 -- What a function leaves in a buffer that it is lent. R32: "A refusal leaves the desk and all lent buffers as they were." R33:
 -- "Success leaves the bytes of a lent buffer behind those written as they were." Definitions only.
+use mathlib.Core.Path.{_≡_}
 use Prim.Native.Nat.{ℕ}
 use mathlib.Core.List.{List, _++_}
 use lib.ListN.{length, drop}
@@ -8,6 +9,10 @@ use Rattle.zvt_rules.specs.Reading.{Reading, got, refused}
 -- w over the front of a buffer
 abbrev pub front : List ℕ → List ℕ → List ℕ
 front w out = w ++ drop (length w) out
+
+-- w stands whole at the start of the buffer, and ends there
+abbrev pub Whole : List ℕ → ℕ → List ℕ → List ℕ → Type 0
+Whole w end entry exit = (end ≡ length w) × (exit ≡ front w entry)
 
 -- what is written, or a refusal
 unfoldable pub writtenLeaves : Reading (List ℕ) → List ℕ → List ℕ

@@ -123,9 +123,10 @@ fieldOf seen n at s =
     let id = getD s 0 0 in
     unless (unknown (formatOf id)) (no 5 at) (unless (among seen id) (no 7 at) (fieldBy id n at s (formatOf id)))
 
--- F1: "A list is any number of fields, also none." R40: "from left to right"; f bounds their number, which the bytes bound too
+-- F1: "A list is any number of fields, also none." R40: "from left to right". f is fuel, as in the reading of objects: it is never
+-- spent, since a field takes a byte or more (proofs/Numbers.antt, never-spent)
 unfoldable pub listBy : ℕ → List ℕ → ℕ → ℕ → List ℕ → Reading ListRead
-listBy zero seen n at s = got (record { fields = []; count = n })
+listBy zero seen n at s = refused (no 0 at)
 listBy (suc f) seen n at [] = got (record { fields = []; count = n })
 listBy (suc f) seen n at (id ∷ s) =
     andThen (fieldOf seen n at (id ∷ s)) λ o.
@@ -134,4 +135,4 @@ listBy (suc f) seen n at (id ∷ s) =
 
 -- the fields of a list that is s
 unfoldable pub listOf : List ℕ → ℕ → ℕ → List ℕ → Reading ListRead
-listOf seen n at s = listBy (length s) seen n at s
+listOf seen n at s = listBy (suc (length s)) seen n at s

@@ -1,15 +1,12 @@
--- What the rules say of a message. A reader has to believe these files; they are in the order in which one needs the other.
+-- What the rules say of a message, as it is computed, in the order in which one file needs the other; believed/ says it a second time, for
+-- a reader to believe.
 pub mod Reading
 pub mod Limits
 pub mod Buffers
 pub mod Objects
 pub mod Fields
-pub mod Grids
 pub mod Message
-pub mod Pairs
-pub mod Writing
 pub mod Shortest
-pub mod Grammar
 pub mod Digits
 pub mod Values
 pub mod Answers
@@ -17,3 +14,4 @@ pub mod Listed
 pub mod Name
 pub mod Text
 pub mod Listing
+pub mod believed

@@ -11,7 +11,7 @@ use Rattle.zvt_rules.specs.declared.ListPlace.the-variants.{Nowhere, Bet
 use Rattle.zvt_rules.specs.Reading.{Reading, got, refused, pick}
 use Rattle.zvt_rules.specs.Fields.{Field, fieldId}
 use Rattle.zvt_rules.specs.Message.{headerSize, Body, bytes, listed, Message, readOf}
-use Rattle.zvt_rules.specs.Writing.{fieldBytes, messageBytes}
+use Rattle.zvt_rules.specs.believed.Writing.{fieldBytes, messageBytes}
 use Rattle.zvt_rules.specs.Values.{fieldValue}
 
 -- a field that begins at place at: a value ends where its field ends

@@ -1,13 +1,13 @@
 -- M16 to M19: the text that the lister prints. Definitions only.
-use Prim.Native.Nat.{ℕ, zero, suc, _+_}
+use Prim.Native.Nat.{ℕ, zero, suc, _+_, _-_}
 use mathlib.Core.Bool.{Bool, true, false}
 use mathlib.Core.List.{List, [], _∷_, _++_}
-use lib.ListN.{length, drop}
-use lib.Dec.{ltb, eqb}
+use lib.ListN.{length}
+use lib.Dec.{ltb}
 use Rattle.zvt_rules.specs.Reading.{Reading, got, refused, pick}
 use Rattle.zvt_rules.specs.Fields.{Field, fieldId}
 use Rattle.zvt_rules.specs.Message.{Message, Body, bytes, listed, firstOf}
-use Rattle.zvt_rules.specs.Writing.{bodyBytes, messageBytes}
+use Rattle.zvt_rules.specs.believed.Writing.{bodyBytes, messageBytes}
 use Rattle.zvt_rules.specs.Shortest.{isShort}
 use Rattle.zvt_rules.specs.Text.{hexText, decimalText}
 
@@ -54,32 +54,18 @@ okText count = endText count ++ (32 ∷ 111 ∷ 107 ∷ [])
 unfoldable pub refusedText : ℕ → ℕ → List ℕ
 refusedText count number = endText count ++ (32 ∷ 114 ∷ 101 ∷ 102 ∷ 117 ∷ 115 ∷ 101 ∷ 100 ∷ 32 ∷ decimalText number)
 
--- the next line of a listing, after so many messages: a message's and how many bytes that message has, or the last
-pub data NextLine : Type 0 where
-  message : List ℕ → ℕ → NextLine
-  last : List ℕ → NextLine
+-- a line with its end, after count messages: that of the message that was read, and what follows the rest of its bytes; or the last. M18:
+-- "the listing ends at a refused message, which gets no line"
+unfoldable pub lineAnd : ℕ → (ℕ → List ℕ) → Reading Message → List ℕ
+lineAnd count follows (got m) = messageText (count + 1) m ++ (10 ∷ follows (length (messageBytes m) - 1))
+lineAnd count follows (refused f) = refusedText count (f .number) ++ (10 ∷ [])
 
--- M18: "the listing ends at a refused message, which gets no line"
-unfoldable pub nextBy : ℕ → Reading Message → NextLine
-nextBy count (got m) = message (messageText (count + 1) m) (length (messageBytes m))
-nextBy count (refused f) = last (refusedText count (f .number))
+-- the lines after count messages, the last of which has so many bytes of s left. M16: "each directly behind the one before"
+unfoldable pub linesFrom : ℕ → ℕ → List ℕ → List ℕ
+linesFrom count left [] = okText count ++ (10 ∷ [])
+linesFrom count zero (b ∷ s) = lineAnd count (λ left. linesFrom (count + 1) left s) (firstOf (b ∷ s))
+linesFrom count (suc left) (b ∷ s) = linesFrom count left s
 
--- M19: "More than 65,536 bytes of input give `end 0 refused 2` and nothing else." M18: "No input gives `end 0 ok`."
-unfoldable pub nextOf : ℕ → List ℕ → NextLine
-nextOf count s =
-    pick (ltb 65536 (length s)) (last (refusedText count 2))
-    (pick (eqb (length s) 0) (last (okText count)) (nextBy count (firstOf s)))
-
--- a line with its end, and behind a message's the rest: what follows so many bytes
-unfoldable pub andRest : (ℕ → List ℕ) → NextLine → List ℕ
-andRest rest (message w next) = w ++ (10 ∷ rest next)
-andRest rest (last w) = w ++ (10 ∷ [])
-
--- the lines from there on; f bounds their number, which the bytes bound too
-unfoldable pub linesBy : ℕ → ℕ → List ℕ → List ℕ
-linesBy zero count s = []
-linesBy (suc f) count s = andRest (λ next. linesBy f (count + 1) (drop next s)) (nextOf count s)
-
--- M16: "The lister takes messages from standard input, each directly behind the one before"
+-- M19: "More than 65,536 bytes of input give `end 0 refused 2` and nothing else."
 unfoldable pub listing : List ℕ → List ℕ
-listing s = linesBy (length s + 1) 0 s
+listing s = pick (ltb 65536 (length s)) (refusedText 0 2 ++ (10 ∷ [])) (linesFrom 0 0 s)

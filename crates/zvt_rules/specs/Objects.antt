@@ -78,7 +78,7 @@ headWith at s tag l =
     unless (ltb (length s) (tag + formSize (l .form) + l .value)) (no 1 (at + length s))
     (got (record { tag = tag; form = l .form; value = l .value }))
 
--- O2: "An object is a tag, a length and a value of that many bytes."
+-- O2: "An object is a tag, a length and a value of that many bytes." R43: "tag 1, 8, length 1 or 4, value 1"
 unfoldable pub headOf : ℕ → List ℕ → Reading Head
 headOf at s = andThen (tagSize at s) λ tag. andThen (lenOf (at + tag) (drop tag s)) λ l. headWith at s tag l
 
@@ -102,39 +102,45 @@ pub record RunRead : Type 0 where
   pub objs : Objs
   pub count : ℕ
 
--- a reader of runs: levels left, objects so far, place, bytes
-abbrev pub RunReader : Type 0
-RunReader = ℕ → ℕ → ℕ → List ℕ → Reading RunRead
+-- the object that s begins with, by its head: with plain bytes as its value, and with the run that was read inside it
+abbrev pub leafOf : ℕ → List ℕ → Head → OneRead
+leafOf n s h = record { obj = leaf (take (h .tag) s) (h .form) (part (from h) (to h) s); size = to h; count = n + 1 }
 
--- R43: "then its inside". O5: "read as a part of the same bytes .. A value without that bit is never looked into."
-unfoldable pub insideOf : RunReader → ℕ → ℕ → ℕ → List ℕ → Head → Reading OneRead
-insideOf run left n at s h =
-    pick (nested (getD s 0 0))
-    (andThen (run (left - 1) (n + 1) (at + from h) (part (from h) (to h) s)) λ r.
-    got (record { obj = branch (take (h .tag) s) (h .form) (r .objs); size = to h; count = r .count }))
-    (got (record { obj = leaf (take (h .tag) s) (h .form) (part (from h) (to h) s); size = to h; count = n + 1 }))
+abbrev pub branchOf : List ℕ → Head → RunRead → OneRead
+branchOf s h r = record { obj = branch (take (h .tag) s) (h .form) (r .objs); size = to h; count = r .count }
 
--- R43: "An object: 10, 9, tag 1, 8, length 1 or 4, value 1, then its inside."
-unfoldable pub oneBy : RunReader → ℕ → ℕ → ℕ → List ℕ → Reading OneRead
-oneBy run left n at s =
-    unless (leb mostObjects n) (no 10 at) (unless (eqb left 0) (no 9 at) (andThen (headOf at s) λ h. insideOf run left n at s h))
+-- A run and an object are read by two functions that call each other; left is how many levels there are yet, n how many objects have
+-- begun. f is fuel, of which each call takes one. Where it is spent the answer is a refusal with 0, which no rule gives. It never is:
+-- an object takes two bytes or more, so that one more than the bytes is enough (proofs/Numbers.antt, never-spent).
+unfoldable mutual
+  -- one object after the other, left to right (R40), whatever their tags (O12)
+  pub runBy : ℕ → ℕ → ℕ → ℕ → List ℕ → Reading RunRead
+  runBy zero left n at s = refused (no 0 at)
+  runBy (suc f) left n at [] = got (record { objs = none; count = n })
+  runBy (suc f) left n at (b ∷ s) =
+      andThen (oneBy f left n at (b ∷ s)) λ o.
+      andThen (runBy f left (o .count) (at + o .size) (drop (o .size) (b ∷ s))) λ r.
+      got (record { objs = more (o .obj) (r .objs); count = r .count })
 
--- one object after the other, left to right (R40), whatever their tags (O12); f bounds their number, which the bytes bound too
-unfoldable pub runBy : ℕ → ℕ → ℕ → ℕ → List ℕ → Reading RunRead
-runBy zero left n at s = got (record { objs = none; count = n })
-runBy (suc f) left n at [] = got (record { objs = none; count = n })
-runBy (suc f) left n at (b ∷ s) =
-    andThen (oneBy (λ l m p t. runBy f l m p t) left n at (b ∷ s)) λ o.
-    andThen (runBy f left (o .count) (at + o .size) (drop (o .size) (b ∷ s))) λ r.
-    got (record { objs = more (o .obj) (r .objs); count = r .count })
+  -- R43: "An object: 10, 9, tag 1, 8, length 1 or 4, value 1, then its inside." O5: "read as a part of the same bytes .. A value
+  -- without that bit is never looked into."
+  pub oneBy : ℕ → ℕ → ℕ → ℕ → List ℕ → Reading OneRead
+  oneBy zero left n at s = refused (no 0 at)
+  oneBy (suc f) left n at s =
+      unless (leb mostObjects n) (no 10 at)
+      (unless (eqb left 0) (no 9 at)
+      (andThen (headOf at s) λ h.
+      pick (nested (getD s 0 0))
+      (andThen (runBy f (left - 1) (n + 1) (at + from h) (part (from h) (to h) s)) λ r. got (branchOf s h r))
+      (got (leafOf n s h))))
 
 -- the objects of a run that is s
 unfoldable pub runOf : ℕ → ℕ → ℕ → List ℕ → Reading RunRead
-runOf left n at s = runBy (length s) left n at s
+runOf left n at s = runBy (suc (length s)) left n at s
 
 -- the object that s begins with
 unfoldable pub oneOf : ℕ → ℕ → ℕ → List ℕ → Reading OneRead
-oneOf left n at s = oneBy (λ l m p t. runOf l m p t) left n at s
+oneOf left n at s = oneBy (suc (length s)) left n at s
 
 -- O10: "inner ones counted"
 unfoldable mutual

@@ -1,5 +1,4 @@
 -- The same message with every length in its shortest form, and whether it is so already. Definitions only.
-use mathlib.Core.Path.{_≡_}
 use Prim.Native.Nat.{ℕ}
 use mathlib.Core.Bool.{Bool, true, not, _&&_, _||_}
 use mathlib.Core.List.{List, [], _∷_}
@@ -9,8 +8,7 @@ use Rattle.zvt_rules.specs.Reading.{Reading, got, pick, andThen}
 use Rattle.zvt_rules.specs.Objects.{Form, bare, one, two, Obj, leaf, branch, Objs, none, more}
 use Rattle.zvt_rules.specs.Fields.{Field, plain, container}
 use Rattle.zvt_rules.specs.Message.{Body, bytes, listed, Message, readOf}
-use Rattle.zvt_rules.specs.Pairs.{Bodies}
-use Rattle.zvt_rules.specs.Writing.{runBytes, bodyBytes, messageBytes}
+use Rattle.zvt_rules.specs.believed.Writing.{runBytes, bodyBytes, messageBytes}
 
 -- O7: "Shortest is one byte under 128, 81 from there to 255, 82 from 256."
 unfoldable pub formFor : ℕ → Form
@@ -85,26 +83,3 @@ write m = messageBytes (shortMessage m)
 
 unfoldable pub shorten : List ℕ → Reading (List ℕ)
 shorten s = andThen (readOf s) λ m. got (write m)
-
--- the same values: all but the forms of lengths
-unfoldable mutual
-  pub SameObj : Obj → Obj → Type 0
-  SameObj (leaf tag form value) (leaf tag′ form′ value′) = (tag ≡ tag′) × (value ≡ value′)
-  SameObj (leaf tag form value) (branch tag′ form′ os′) = ⊥
-  SameObj (branch tag form os) (leaf tag′ form′ value′) = ⊥
-  SameObj (branch tag form os) (branch tag′ form′ os′) = (tag ≡ tag′) × SameRun os os′
-
-  pub SameRun : Objs → Objs → Type 0
-  SameRun none none = Unit {0}
-  SameRun none (more o′ os′) = ⊥
-  SameRun (more o os) none = ⊥
-  SameRun (more o os) (more o′ os′) = SameObj o o′ × SameRun os os′
-
-unfoldable pub SameField : Field → Field → Type 0
-SameField (plain id value) (plain id′ value′) = (id ≡ id′) × (value ≡ value′)
-SameField (plain id value) (container form′ os′) = ⊥
-SameField (container form os) (plain id′ value′) = ⊥
-SameField (container form os) (container form′ os′) = SameRun os os′
-
-unfoldable pub SameValues : Message → Message → Type 0
-SameValues m m′ = (m .class ≡ m′ .class) × (m .instruction ≡ m′ .instruction) × Bodies (λ p p′. p ≡ p′) SameField (m .body) (m′ .body)

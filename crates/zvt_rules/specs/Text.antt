@@ -44,11 +44,11 @@ hexValue b =
     (pick (leb b 57) (b - 48)
     (pick (ltb b 65) 16 (pick (leb b 70) (b - 55) (pick (ltb b 97) 16 (pick (leb b 102) (b - 87) 16)))))
 
--- M17: "the rest is decimal": the digits of n, which has at most f + 1
+-- M17: "the rest is decimal": the digits of n, which has at most f. There is no number with a `?`, which would say that it has more
 unfoldable pub decimalBy : ℕ → ℕ → List ℕ
-decimalBy zero n = (48 + n % 10) ∷ []
+decimalBy zero n = 63 ∷ []
 decimalBy (suc f) n = pick (ltb n 10) ((48 + n) ∷ []) (decimalBy f (n / 10) ++ ((48 + n % 10) ∷ []))
 
--- a number has at most one digit more than its value: as many as decimalBy is given
+-- a number has at most one digit more than its value
 unfoldable pub decimalText : ℕ → List ℕ
-decimalText n = decimalBy n n
+decimalText n = decimalBy (suc n) n

@@ -10,11 +10,10 @@ use Rattle.zvt_rules.specs.declared.Format.the-variants.{Unknown, Fixed,
 use Rattle.zvt_rules.specs.declared.Layout.{Layout}
 use Rattle.zvt_rules.specs.declared.Layout.the-variants.{Plain, List as FieldList, Secured}
 use Rattle.zvt_rules.specs.Reading.{among}
-use Rattle.zvt_rules.specs.Limits.{mostBody, mostObjects, deepest}
 use Rattle.zvt_rules.specs.Objects.{longTag, topBit, nested, Form, bare, one, two, Obj, leaf, branch, Objs, none, more}
 use Rattle.zvt_rules.specs.Fields.{formatOf, decimal, holdsDigits, Field, plain, container, fieldId, countFields}
 use Rattle.zvt_rules.specs.Message.{layoutOf, Body, bytes, listed, Message}
-use Rattle.zvt_rules.specs.Writing.{runBytes, bodyBytes}
+use Rattle.zvt_rules.specs.believed.Writing.{runBytes, bodyBytes}
 
 -- every element a byte: what a slice of bytes is
 unfoldable pub Bytes : List ℕ → Type 0
@@ -59,7 +58,7 @@ SizeOk Container v = ⊥
 -- a value of the right size, digits where digits must be (F5). O9: "down to depth 4"
 unfoldable pub FieldOk : Field → Type 0
 FieldOk (plain id value) = SizeOk (formatOf id) (length value) × (holdsDigits id ≡ true → Decimals value)
-FieldOk (container form os) = FormOk form (length (runBytes os)) × RunOk os deepest
+FieldOk (container form os) = FormOk form (length (runBytes os)) × RunOk os 4
 
 -- F4: "No id stands twice in a list."; seen are the ids of the fields before
 unfoldable pub ListOk : List ℕ → List Field → Type 0
@@ -68,7 +67,7 @@ ListOk seen (f ∷ fs) = FieldOk f × (among seen (fieldId f) ≡ false) × List
 
 -- O10: "A message has at most 64 objects, inner ones counted"
 unfoldable pub FieldsOk : List Field → Type 0
-FieldsOk fs = ListOk [] fs × (countFields fs ≤ mostObjects)
+FieldsOk fs = ListOk [] fs × (countFields fs ≤ 64)
 
 -- M5: "a field list". M6: "a password of three bytes, then a field list", the password of decimal digits (F5). M7: "plain"
 unfoldable pub LayoutOk : Layout → Body → Type 0
@@ -82,7 +81,7 @@ LayoutOk Secured (listed password fs) = (length password ≡ 3) × Decimals pass
 -- M2: "A length byte 00 to FE is itself the length." M3: "A body has at most 4,096 bytes."
 unfoldable pub LengthOk : Bool → ℕ → Type 0
 LengthOk false v = v < 255
-LengthOk true v = v ≤ mostBody
+LengthOk true v = v ≤ 4_096
 
 unfoldable pub MessageOk : Message → Type 0
 MessageOk m = LayoutOk (layoutOf (m .class) (m .instruction)) (m .body) × LengthOk (m .long) (length (bodyBytes (m .body)))

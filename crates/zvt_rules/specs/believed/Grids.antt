@@ -1,63 +1,37 @@
--- The ids of fields, drawn: 16 lines of 16, the high half of the id down, the low half across. A law says that the grid is what the
--- definitions compute. Definitions only.
+-- The ids of fields, drawn: 16 lines of 16, the high half of the id down, the low half across; and the pairs that are not plain. The laws
+-- say that this is what the first writing computes. Definitions only.
 use mathlib.Core.Bool.{Bool, true, false}
 use mathlib.Core.List.{List, [], _∷_}
+use Prim.Native.Nat.{ℕ}
 use Rattle.zvt_rules.specs.declared.Format.{Format}
 use Rattle.zvt_rules.specs.declared.Format.the-variants.{Unknown, Fixed, Digits, Container}
-
--- what an id says: the format of its field, and whether the value is of decimal digits
-pub record Id : Type 0 where
-  pub format : Format
-  pub decimal : Bool
-
-abbrev bare : Format → Id
-bare f = record { format = f; decimal = false }
+use Rattle.zvt_rules.specs.declared.Layout.{Layout}
+use Rattle.zvt_rules.specs.declared.Layout.the-variants.{Plain, List as FieldList, Secured}
+use Rattle.zvt_rules.specs.believed.Values.{In}
 
 -- unknown; so many bytes (fF is 15); so many bytes of decimal digits; two or three length digits; the container
-abbrev ·· : Id
-·· = bare Unknown
+pub data Cell : Type 0 where
+  ·· f1 f2 f3 f4 f5 f8 fF n2 n3 n6 d2 d3 co : Cell
 
-abbrev f1 : Id
-f1 = bare (Fixed 1)
+-- the format of a field, and whether its value is of decimal digits
+unfoldable pub says : Cell → Format × Bool
+says ·· = (Unknown, false)
+says f1 = (Fixed 1, false)
+says f2 = (Fixed 2, false)
+says f3 = (Fixed 3, false)
+says f4 = (Fixed 4, false)
+says f5 = (Fixed 5, false)
+says f8 = (Fixed 8, false)
+says fF = (Fixed 15, false)
+says n2 = (Fixed 2, true)
+says n3 = (Fixed 3, true)
+says n6 = (Fixed 6, true)
+says d2 = (Digits 2, false)
+says d3 = (Digits 3, false)
+says co = (Container, false)
 
-abbrev f2 : Id
-f2 = bare (Fixed 2)
-
-abbrev f3 : Id
-f3 = bare (Fixed 3)
-
-abbrev f4 : Id
-f4 = bare (Fixed 4)
-
-abbrev f5 : Id
-f5 = bare (Fixed 5)
-
-abbrev f8 : Id
-f8 = bare (Fixed 8)
-
-abbrev fF : Id
-fF = bare (Fixed 15)
-
-abbrev n2 : Id
-n2 = record { format = Fixed 2; decimal = true }
-
-abbrev n3 : Id
-n3 = record { format = Fixed 3; decimal = true }
-
-abbrev n6 : Id
-n6 = record { format = Fixed 6; decimal = true }
-
-abbrev d2 : Id
-d2 = bare (Digits 2)
-
-abbrev d3 : Id
-d3 = bare (Digits 3)
-
-abbrev co : Id
-co = bare Container
-
--- F2: "The id alone decides the format." F5: "a decimal digit in each half of each byte"
-unfoldable pub ids : List Id
+-- F2: "The id alone decides the format." F5: "Fields 04, 0B, 37, 49, 87 and 88 .. have a decimal digit in each half of each byte."
+unfoldable pub ids : List Cell
 ids =
     -- 0    1    2    3    4    5    6    7    8    9    A    B    C    D    E    F
     ·· ∷ f1 ∷ f1 ∷ f1 ∷ n6 ∷ f1 ∷ co ∷ ·· ∷ ·· ∷ ·· ∷ ·· ∷ n3 ∷ f3 ∷ f2 ∷ f2 ∷ ·· ∷  -- 00
@@ -75,5 +49,17 @@ ids =
     ·· ∷ ·· ∷ ·· ∷ ·· ∷ ·· ∷ ·· ∷ ·· ∷ ·· ∷ ·· ∷ ·· ∷ ·· ∷ ·· ∷ ·· ∷ ·· ∷ ·· ∷ ·· ∷  -- C0
     f1 ∷ d2 ∷ f1 ∷ f1 ∷ ·· ∷ ·· ∷ ·· ∷ ·· ∷ ·· ∷ ·· ∷ ·· ∷ ·· ∷ ·· ∷ ·· ∷ ·· ∷ ·· ∷  -- D0
     f1 ∷ d2 ∷ d2 ∷ d2 ∷ d2 ∷ d2 ∷ d2 ∷ d2 ∷ d2 ∷ f1 ∷ f1 ∷ f8 ∷ ·· ∷ ·· ∷ ·· ∷ ·· ∷  -- E0
-    f1 ∷ d2 ∷ d2 ∷ d2 ∷ d2 ∷ d2 ∷ d2 ∷ d2 ∷ d2 ∷ f1 ∷ f1 ∷ f1 ∷ f1 ∷ f1 ∷ ·· ∷ ·· ∷  -- F0
-    []
+    f1 ∷ d2 ∷ d2 ∷ d2 ∷ d2 ∷ d2 ∷ d2 ∷ d2 ∷ d2 ∷ f1 ∷ f1 ∷ f1 ∷ f1 ∷ f1 ∷ ·· ∷ ·· ∷ []  -- F0
+
+-- M5: "The body of 06 01, 04 0F, 06 0F and 06 D3 is a field list." M6: "The body of 06 21, 06 30, 06 31 and 06 50 is a password of three
+-- bytes, then a field list." M7: "The body of every other pair is plain"
+abbrev pub lists : List (ℕ × ℕ)
+lists = (0x06, 0x01) ∷ (0x04, 0x0F) ∷ (0x06, 0x0F) ∷ (0x06, 0xD3) ∷ []
+
+abbrev pub secured : List (ℕ × ℕ)
+secured = (0x06, 0x21) ∷ (0x06, 0x30) ∷ (0x06, 0x31) ∷ (0x06, 0x50) ∷ []
+
+unfoldable pub LaidOut : ℕ → ℕ → Layout → Type 0
+LaidOut class instruction FieldList = In (class, instruction) lists
+LaidOut class instruction Secured = In (class, instruction) secured
+LaidOut class instruction Plain = (In (class, instruction) lists → ⊥) × (In (class, instruction) secured → ⊥)

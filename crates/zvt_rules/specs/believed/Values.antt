@@ -1,0 +1,36 @@
+-- What stands in a list, and what a status information tells, by the bytes that say it. Definitions only.
+use mathlib.Core.Path.{_≡_}
+use mathlib.Core.Bool.{Bool}
+use mathlib.Core.List.{List, [], _∷_, _++_}
+use Prim.Native.Nat.{ℕ}
+use Rattle.zvt_rules.specs.Fields.{Field, plain, fieldId}
+use Rattle.zvt_rules.specs.Message.{listed, Message}
+use Rattle.zvt_rules.specs.believed.Writing.{messageBytes}
+use Rattle.zvt_rules.specs.believed.Grammar.{MessageOk}
+use Rattle.zvt_rules.specs.Values.{fieldValue}
+use Rattle.zvt_rules.specs.believed.Digits.{Spells}
+
+-- x stands in a list
+abbrev pub In : {A : Type 0} → A → List A → Type 0
+In {A} x xs = (before : List A) × (after : List A) × (xs ≡ before ++ (x ∷ after))
+
+-- the bytes s are the message m, which keeps the limits
+abbrev pub Is : List ℕ → Message → Type 0
+Is s m = (messageBytes m ≡ s) × MessageOk m
+
+-- M13: "a status information (04 0F)": the bytes s are one, and that field stands in its list
+unfoldable pub Tells : List ℕ → ℕ → List ℕ → Type 0
+Tells s id value =
+    (long : Bool) × (fs : List Field)
+    × Is s (record { class = 0x04; instruction = 0x0F; long = long; body = listed [] fs })
+    × In (plain id value) fs
+
+-- P20: "code (27), amount (04) and receipt (87)"
+abbrev pub TellsCode : List ℕ → ℕ → Type 0
+TellsCode s code = Tells s 0x27 (code ∷ [])
+
+abbrev pub TellsAmount : List ℕ → ℕ → Type 0
+TellsAmount s amount = (value : List ℕ) × Tells s 0x04 value × Spells value amount
+
+abbrev pub TellsReceipt : List ℕ → ℕ → Type 0
+TellsReceipt s receipt = (value : List ℕ) × Tells s 0x87 value × Spells value receipt
