@@ -11,7 +11,8 @@ use lib.Seq.{drop-cons}
 use lib.Dec.{ltb}
 use Rattle.zvt_rules.proofs.Tests.{pick-test}
 use Rattle.io.specs.Digits.{digits, glyph, Fewest}
-use Rattle.zvt_rules.specs.Text.{Text, text, addOne, addAll, hexText, hexes, bytesText, decimalBy, decimalText}
+use Rattle.zvt_rules.specs.Text.{Text, text, addOne, addAll, hexText, hexes, bytesText, decimalText}
+use Rattle.zvt_rules.proofs.Text.{decimal-one, decimal-more}
 
 pub add-full : (b at : ℕ) (out : List ℕ) → length out ≤ at → text at out ≡ addAll (b ∷ []) (text at out)
 unfolding addAll addOne
@@ -84,14 +85,12 @@ glyph-digit d h = rw (lt-ltb d 10 h)
 last-digit : (n : ℕ) → glyph (n % 10) ≡ 48 + n % 10
 last-digit n = glyph-digit (n % 10) (mod-lt n (omega arith))
 
-decimals-by : (f k n : ℕ) → k ≤ f → Fewest 10 1 n (suc k) → digits 10 (suc k) n ≡ decimalBy f n
-unfolding decimalBy
-decimals-by zero zero n h w = ap (λ (g : ℕ). g ∷ []) (last-digit n)
-decimals-by zero (suc k) n h w = absurd (omega arith)
-decimals-by (suc f) zero n h w =
+pub decimals : (k n : ℕ) → Fewest 10 1 n k → digits 10 k n ≡ decimalText n
+decimals zero n w = absurd (omega (arith, w .0))
+decimals (suc zero) n w =
     let small : n < 10 = omega (arith, w .1) in
-    rw (lt-ltb n 10 small) (ap (λ (g : ℕ). g ∷ []) (last-digit n ∙ ap (λ (d : ℕ). 48 + d) (mod-eq-of-lt small)))
-decimals-by (suc f) (suc k) n h w =
+    ap (λ (g : ℕ). g ∷ []) (last-digit n ∙ ap (λ (d : ℕ). 48 + d) (mod-eq-of-lt small)) ∙ sym (decimal-one n small)
+decimals (suc (suc k)) n w =
     let less : suc (suc k) - 1 ≡ suc k = omega arith in
     let large : 10 ^ suc k ≤ n = rw less at (w .2 (omega arith)) in
     let below : n < 10 ^ suc k * 10 = rw (pow-suc 10 (suc k)) at (w .1) in
@@ -101,18 +100,4 @@ decimals-by (suc f) (suc k) n h w =
     let big : 10 ^ k ≤ n / 10 = le-div-iff-mul-le {k = 10} {x = 10 ^ k} {y = n} (omega arith) .1 ten in
     let less′ : suc k - 1 ≡ k = omega arith in
     let rest : Fewest 10 1 (n / 10) (suc k) = (omega arith, small, λ z. rw less′ big) in
-    rw (le-ltb n 10 (omega arith)) (ap₂ (λ (l : List ℕ) (g : ℕ). l ++ (g ∷ [])) (decimals-by f k (n / 10) (omega arith) rest) (last-digit n))
-
--- a number is at least as large as the count of its digits less one
-few : (k : ℕ) → k < 10 ^ k
-few zero = omega arith
-few (suc k) = omega (arith, few k, pow-suc 10 k)
-
-pub decimals : (k n : ℕ) → Fewest 10 1 n k → digits 10 k n ≡ decimalText n
-unfolding decimalText
-decimals zero n w = absurd (omega (arith, w .0))
-decimals (suc zero) n w = decimals-by n zero n (omega arith) w
-decimals (suc (suc k)) n w =
-    let less : suc (suc k) - 1 ≡ suc k = omega arith in
-    let large : 10 ^ suc k ≤ n = rw less at (w .2 (omega arith)) in
-    decimals-by n (suc k) n (omega (arith, few (suc k))) w
+    ap₂ (λ (l : List ℕ) (g : ℕ). l ++ (g ∷ [])) (decimals (suc k) (n / 10) rest) (last-digit n) ∙ sym (decimal-more n (omega arith))

@@ -1,5 +1,4 @@
 // Lists the messages on standard input, one line each.
-use buffers::upto;
 use libc::STDIN_FILENO;
 use libc::STDOUT_FILENO;
 
@@ -8,6 +7,5 @@ fn main() {
     let mut text = [0u8; listing::TEXT];
     let n = io::read_full(STDIN_FILENO, &mut input);
     let size = listing::list(&input[..n], &mut text);
-    let end = upto(size, &text);
-    io::write_all(STDOUT_FILENO, &text[..end]);
+    io::write_all(STDOUT_FILENO, &text[..size]);
 }

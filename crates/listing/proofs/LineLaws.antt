@@ -8,8 +8,8 @@ use lib.ListN.{length, drop, length-append, drop-of-length-le}
 use Rattle.zvt_rules.specs.Reading.{Reading, got, refused}
 use Rattle.zvt_rules.specs.Fields.{Field, plain, container, fieldId}
 use Rattle.zvt_rules.specs.Message.{headerSize, Body, bytes, listed, Message, readOf}
-use Rattle.zvt_rules.specs.Writing.{fieldBytes, listBytes, bodyBytes, lengthBytes, messageBytes}
-use Rattle.zvt_rules.specs.Grammar.{Bytes}
+use Rattle.zvt_rules.specs.believed.Writing.{fieldBytes, listBytes, bodyBytes, lengthBytes, messageBytes}
+use Rattle.zvt_rules.specs.believed.Grammar.{Bytes}
 use Rattle.zvt_rules.proofs.MessageBytes.{read-sound}
 use Rattle.zvt_rules.specs.declared.Listed.{Listed}
 use Rattle.zvt_rules.specs.declared.FieldAnswer.the-variants.{Field as listed-field, End}

@@ -1,25 +1,31 @@
 -- The next line of a listing, case by case, and the lines from there on. Assumes nothing.
-use mathlib.Core.Path.{_≡_, refl, _∙_, ap}
-use mathlib.Core.List.{List, [], _∷_}
-use Prim.Native.Nat.{ℕ, suc, _+_, _-_, _≤_, _<_}
+use mathlib.Core.Path.{_≡_, refl, sym, _∙_, ap}
+use mathlib.Core.List.{List, [], _∷_, _++_}
+use Prim.Native.Nat.{ℕ, _+_, _-_, _*_, _≤_, _<_}
 use native.Mathlib.Omega.{arith}
-use borrow.Author.Tests.{lt-ltb, le-ltb, eq-eqb, ne-eqb}
-use lib.ListN.{length, take, drop, length-take}
-use lib.Seq.{drop-drop}
+use borrow.Author.Tests.{lt-ltb, le-ltb, eq-eqb, ne-eqb, ltb-false, eqb-true, eqb-false}
+use lib.ListN.{length, take, drop, length-take, length-drop}
+use lib.Seq.{drop-drop, length-take-le}
+use lib.Dec.{ltb, eqb}
 use Rattle.zvt_rules.specs.Reading.{Reading, got, refused}
+use Rattle.io.specs.Counts.{Counts}
+use Rattle.zvt_rules.specs.Buffers.{front, Whole}
 use Rattle.zvt_rules.specs.Message.{Message, readOf, firstOf}
-use Rattle.zvt_rules.specs.Writing.{messageBytes}
-use Rattle.zvt_rules.specs.Grammar.{Bytes}
-use Rattle.zvt_rules.specs.Text.{Text, addAll}
-use Rattle.zvt_rules.specs.Listing.{messageText, okText, refusedText, idsOf, message, last, nextBy, nextOf, andRest, linesBy}
+use Rattle.zvt_rules.specs.believed.Writing.{messageBytes}
+use Rattle.zvt_rules.specs.believed.Grammar.{Bytes}
+use Rattle.zvt_rules.specs.Text.{Text, text, addAll}
+use Rattle.zvt_rules.specs.Listing.{messageText, okText, refusedText, idsOf, listing}
 use Rattle.zvt_rules.proofs.ObjectReading.{tail}
+use Rattle.zvt_rules.proofs.Tests.{by-test}
 use Rattle.zvt_rules.proofs.MessageBytes.{first-sound, read-complete}
+use Rattle.zvt_rules.proofs.Text.{put-exactly, put-whole, putEnd}
+use Rattle.zvt_rules.proofs.Listing.{lines-none, lines-refused, lines-message, listing-long}
 use Rattle.zvt_rules.specs.declared.Refusal.{Refusal}
 use Rattle.zvt_rules.specs.declared.Outline.{Outline}
 use Rattle.zvt_rules.specs.declared.FirstAnswer.the-variants.{Accepted as first-accepted, Refused as first-refused}
 use Rattle.zvt_rules.specs.Answers.{refusalOf, outlineOf, asFirstAnswer, firstAnswer}
-use Rattle.buffers.proofs.TextLaws.{addAll-append}
-use Rattle.listing.specs.Lines.{readText}
+use Rattle.buffers.proofs.TextLaws.{addAll-append, addAll-room}
+use Rattle.listing.specs.Lines.{readText, NextLine, message, last, nextBy, nextOf, linesOf}
 
 pub next-over : (count : ℕ) (s : List ℕ) → 65536 < length s → nextOf count s ≡ last (refusedText count 2)
 unfolding nextOf
@@ -80,32 +86,56 @@ module _ (s : List ℕ) (b : Bytes s) (m : Outline) (next : ℕ) (e : firstAnswe
       next-some count s most some ∙ ap (nextBy count) (w .1) ∙ told count (w .0) m (readOf (take next s)) next (w .2) (w .3) (w .4)
 
 -- ---- the lines from there on
-lines-last : (f count : ℕ) (s w : List ℕ) (t : Text) → nextOf count s ≡ last w
-    → addAll (linesBy (suc f) count s) t ≡ addAll (10 ∷ []) (addAll w t)
-unfolding linesBy andRest
-lines-last f count s w t e = rw e (addAll-append w (10 ∷ []) t)
+-- a line with its end, and behind a message's the rest: what follows so many bytes
+unfoldable andRest : (ℕ → List ℕ) → NextLine → List ℕ
+andRest rest (message w next) = w ++ (10 ∷ rest next)
+andRest rest (last w) = w ++ (10 ∷ [])
 
-lines-message : (f count : ℕ) (s w : List ℕ) (next : ℕ) (t : Text) → nextOf count s ≡ message w next
-    → addAll (linesBy (suc f) count s) t ≡ addAll (linesBy f (count + 1) (drop next s)) (addAll (10 ∷ []) (addAll w t))
-unfolding linesBy andRest
-lines-message f count s w next t e =
-    let rest = linesBy f (count + 1) (drop next s) in
-    rw e (addAll-append w (10 ∷ rest) t ∙ addAll-append (10 ∷ []) rest (addAll w t))
+module _ (count : ℕ) (s : List ℕ) where
+  abbrev Next : NextLine → Type 0
+  Next n = linesOf count s ≡ andRest (λ next. linesOf (count + 1) (drop next s)) n
 
--- what is left of s behind its first bytes, of which no more messages were listed than there are
-module _ (s : List ℕ) (from count : ℕ) (few : count ≤ from) (inside : from ≤ length s) (w : List ℕ) (t : Text) where
+  lines-some : length s ≤ 65536 → (length s ≡ 0 → ⊥) → (x : Reading Message) → firstOf s ≡ x → Next (nextBy count x)
+  unfolding linesOf andRest nextBy
+  lines-some most some (got m) e =
+      let less : length (drop (length (messageBytes m)) s) ≤ 65536 = omega (arith, length-drop (length (messageBytes m)) s) in
+      rw (le-ltb 65536 (length s) most, le-ltb 65536 _ less) (lines-message count s m (omega arith) e)
+  lines-some most some (refused f) e = rw (le-ltb 65536 (length s) most) (lines-refused count s f (omega arith) e)
+
+  lines-next : Next (nextOf count s)
+  unfolding linesOf andRest nextOf
+  lines-next =
+      by-test (ltb 65536 (length s)) (λ t. rw t)
+      (λ t.
+      let most = ltb-false 65536 (length s) t in
+      by-test (eqb (length s) 0) (λ z. rw (t, z) (lines-none count s (eqb-true (length s) 0 z)))
+      (λ z. rw (t, z) (rw t at (lines-some most (eqb-false (length s) 0 z) (firstOf s) refl))))
+
+-- what is left of s behind its first bytes
+module _ (s : List ℕ) (from count : ℕ) (w : List ℕ) (t : Text) where
   abbrev rest : List ℕ
   rest = take (length s - from) (drop from s)
 
-  more : length s + 1 - count ≡ suc (length s - count)
-  more = omega arith
-
-  pub rest-last : nextOf count rest ≡ last w → addAll (linesBy (length s + 1 - count) count (drop from s)) t ≡ addAll (10 ∷ []) (addAll w t)
-  rest-last e = rw more (lines-last (length s - count) count (drop from s) w t (rw (tail from s) at e))
+  pub rest-last : nextOf count rest ≡ last w → addAll (linesOf count (drop from s)) t ≡ addAll (10 ∷ []) (addAll w t)
+  unfolding andRest
+  rest-last e = rw (lines-next count (drop from s), rw (tail from s) at e) (addAll-append w (10 ∷ []) t)
 
   pub rest-message : (next : ℕ) → nextOf count rest ≡ message w next
-      → addAll (linesBy (length s + 1 - count) count (drop from s)) t
-      ≡ addAll (linesBy (length s + 1 - (count + 1)) (count + 1) (drop (from + next) s)) (addAll (10 ∷ []) (addAll w t))
+      → addAll (linesOf count (drop from s)) t ≡ addAll (linesOf (count + 1) (drop (from + next) s)) (addAll (10 ∷ []) (addAll w t))
+  unfolding andRest
   rest-message next e =
-      let fewer : length s + 1 - (count + 1) ≡ length s - count = omega arith in
-      rw (more, fewer, ← (drop-drop next from s)) (lines-message (length s - count) count (drop from s) w next t (rw (tail from s) at e))
+      let more = linesOf (count + 1) (drop next (drop from s)) in
+      rw (lines-next count (drop from s), rw (tail from s) at e, ← (drop-drop next from s))
+      (addAll-append w (10 ∷ more) t ∙ addAll-append (10 ∷ []) more (addAll w t))
+
+-- ---- the whole text
+-- what `list` leaves: where there is room for the longest listing, nothing is cut off; it never goes beyond the buffer
+pub listed-whole : (s out : List ℕ) (end : ℕ) (exit : List ℕ) → Bytes s → text end exit ≡ addAll (listing s) (text 0 out)
+    → (text end exit ≡ addAll (listing s) (text 0 out)) × ((65536 * 7 ≤ length out → Whole (listing s) end out exit) × Counts end exit)
+listed-whole s out end exit b e =
+    let least : end ≡ putEnd (listing s) 0 out = ap (λ (x : Text). x .at) (e ∙ put-exactly (listing s) 0 out) in
+    let whole : 65536 * 7 ≤ length out → text end exit ≡ text (length (listing s)) (front (listing s) out) =
+    λ h. e ∙ put-whole (listing s) out (omega (arith, listing-long s b)) in
+    let room : length exit ≡ length out = ap (λ (x : Text). length (x .bytes)) e ∙ addAll-room (listing s) (text 0 out) in
+    let inside : end ≤ length exit = omega arith in
+    (e, (λ h. (ap (λ (x : Text). x .at) (whole h), ap (λ (x : Text). x .bytes) (whole h)), (inside, sym (length-take-le end exit inside))))

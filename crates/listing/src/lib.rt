@@ -7,15 +7,19 @@ use zvt_rules::FieldAnswer;
 use zvt_rules::FirstAnswer;
 use zvt_rules::Outline;
 ghost use mathlib.Core.Path.{_≡_};
+ghost use Prim.Native.Nat.{_*_, _≤_};
+ghost use lib.ListN.{length};
+ghost use Rattle.io.specs.Counts.{Counts};
 ghost use Rattle.zvt_rules.specs.Message.{readOf};
+ghost use Rattle.zvt_rules.specs.Buffers.{Whole};
 ghost use Rattle.zvt_rules.specs.Text.{text, addAll};
-ghost use Rattle.zvt_rules.specs.Listing.{startText, sizeText, endText, okText, refusedText, idsOf, nextOf, listing};
-ghost use Rattle.listing.specs.Lines.{readText, Added};
+ghost use Rattle.zvt_rules.specs.Listing.{startText, sizeText, endText, okText, refusedText, idsOf, listing};
+ghost use Rattle.listing.specs.Lines.{readText, nextOf, Added};
 
 // An input of more bytes is refused before its first message.
 pub const LIMIT: usize = 65536;
 
-// No listing is longer. The shortest message has the most text for its bytes: three, and a line of at most 19.
+// No listing is longer, by the law listing-long. The shortest message has the most text for its bytes: three, and a line of at most 19.
 pub const TEXT: usize = LIMIT * 7;
 
 // Where the text of a line ends, and, where it is a message's, where the next message begins.
@@ -117,9 +121,11 @@ fn next_line(rest: &[u8], count: u32, at: usize, out: &mut [u8]) -> Line
     }
 }
 
-// The listing of an input, each line with its end, at the start of out; and where it ends.
+// The listing of an input, each line with its end, at the start of out; and where it ends. Nothing of it is cut off where out has TEXT bytes.
 pub fn list(s: &[u8], out: &mut [u8]) -> usize
-    ensures { λ r. ⌜ text r (now (out .exit)) ≡ addAll (listing (now (s .entry))) (text 0 (now (out .entry))) ⌝ }
+    ensures added { λ r. ⌜ text r (now (out .exit)) ≡ addAll (listing (now (s .entry))) (text 0 (now (out .entry))) ⌝ }
+    ensures whole { λ r. ⌜ (65536 * 7 ≤ length (now (out .entry)) → Whole (listing (now (s .entry))) r (now (out .entry)) (now (out .exit))) ⌝ }
+    ensures inside { λ r. ⌜ Counts r (now (out .exit)) ⌝ }
 {
     let mut to: usize = 0;
     let mut from: usize = 0;

@@ -10,9 +10,9 @@ use Rattle.zvt_rules.specs.declared.Layout.the-variants.{Plain, List as FieldLi
 use Rattle.zvt_rules.specs.Reading.{Reading, got, refused, no, unless, andThen}
 use Rattle.zvt_rules.specs.Fields.{unlessUndecimal, countFields, ListRead, listOf}
 use Rattle.zvt_rules.specs.Message.{listed, bodyOf, securedOf, countBody}
-use Rattle.zvt_rules.specs.Writing.{listBytes, bodyBytes}
+use Rattle.zvt_rules.specs.believed.Writing.{listBytes, bodyBytes}
 use Rattle.zvt_rules.specs.Shortest.{shortList, shortBody}
-use Rattle.zvt_rules.specs.Grammar.{Bytes}
+use Rattle.zvt_rules.specs.believed.Grammar.{Bytes}
 use Rattle.zvt_rules.proofs.Readings.{unless-on, then-on, then-stop}
 use Rattle.zvt_rules.proofs.ObjectReading.{tail}
 use Rattle.zvt_rules.proofs.ObjectBytes.{bytes-drop}

@@ -13,9 +13,9 @@ use Rattle.zvt_rules.specs.Reading.{Reading, got, refused, no, unless, andThen,
 use Rattle.zvt_rules.specs.Limits.{deepest}
 use Rattle.zvt_rules.specs.Objects.{formSize, Len, lenOf, RunRead, runOf}
 use Rattle.zvt_rules.specs.Fields.{formatOf, unknown, digitsOf, digitsIn, plain, container, FieldRead, valueOf, plainOf, containerOf, fieldBy}
-use Rattle.zvt_rules.specs.Writing.{runBytes, fieldBytes}
+use Rattle.zvt_rules.specs.believed.Writing.{runBytes, fieldBytes}
 use Rattle.zvt_rules.specs.Shortest.{formFor, shortRun, shortField}
-use Rattle.zvt_rules.specs.Grammar.{Bytes}
+use Rattle.zvt_rules.specs.believed.Grammar.{Bytes}
 use Rattle.zvt_rules.proofs.Readings.{got-same, got-not-refused, unless-got, unless-on, then-got, then-on, then-stop}
 use Rattle.zvt_rules.proofs.ObjectReading.{part-length}
 use Rattle.zvt_rules.proofs.ObjectBytes.{bytes-drop, bytes-part}

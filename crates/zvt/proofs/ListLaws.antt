@@ -12,9 +12,9 @@ use borrow.Author.Tests.{eqb-true, eqb-false}
 use Rattle.zvt_rules.specs.declared.Fault.{Fault}
 use Rattle.zvt_rules.specs.Reading.{Reading, got, refused, andThen, among}
 use Rattle.zvt_rules.specs.Fields.{Field, FieldRead, ListRead, fieldOf, listOf}
-use Rattle.zvt_rules.specs.Writing.{fieldBytes, listBytes}
+use Rattle.zvt_rules.specs.believed.Writing.{fieldBytes, listBytes}
 use Rattle.zvt_rules.specs.Shortest.{shortField, shortList}
-use Rattle.zvt_rules.specs.Grammar.{Bytes, FieldOk, ListOk}
+use Rattle.zvt_rules.specs.believed.Grammar.{Bytes, FieldOk, ListOk}
 use Rattle.zvt_rules.proofs.Readings.{then-on, then-stop}
 use Rattle.zvt_rules.proofs.ObjectReading.{tail}
 use Rattle.zvt_rules.proofs.ObjectBytes.{bytes-drop}

@@ -11,9 +11,9 @@ use Rattle.zvt_rules.specs.declared.Fault.{Fault}
 use Rattle.zvt_rules.specs.declared.Layout.{Layout}
 use Rattle.zvt_rules.specs.Reading.{Reading, got, refused, andThen, part}
 use Rattle.zvt_rules.specs.Message.{Heading, headerSize, start, end, layoutOf, Body, bodyOf, Message, messageOf, headerOf, countOf}
-use Rattle.zvt_rules.specs.Writing.{bodyBytes, messageBytes}
+use Rattle.zvt_rules.specs.believed.Writing.{bodyBytes, messageBytes}
 use Rattle.zvt_rules.specs.Shortest.{isShortBody, isShort}
-use Rattle.zvt_rules.specs.Grammar.{Bytes, LayoutOk}
+use Rattle.zvt_rules.specs.believed.Grammar.{Bytes, LayoutOk}
 use Rattle.zvt_rules.proofs.Readings.{then-on, then-stop}
 use Rattle.zvt_rules.proofs.ObjectReading.{part-length}
 use Rattle.zvt_rules.proofs.ObjectBytes.{bytes-part}

@@ -1,15 +1,15 @@
 -- The card name: the bytes of field 8B up to the first zero byte, and where they lie. Assumes nothing.
-use mathlib.Core.Path.{_≡_, refl, sym, ap, _∙_}
-use mathlib.Core.Bool.{Bool, true, false}
+use mathlib.Core.Path.{_≡_, refl, ap, _∙_}
 use mathlib.Core.List.{List, [], _∷_}
-use Prim.Native.Nat.{ℕ, _+_, _-_, _<_, _≤_}
+use Prim.Native.Nat.{ℕ, _+_, _<_, _≤_}
 use native.Mathlib.Numerals.{add-one}
 use native.Mathlib.Omega.{arith}
-use lib.ListN.{length, getD, take, drop, drop-of-length-le}
-use lib.Seq.{drop-cons, take-take}
+use lib.ListN.{length, getD, drop, drop-of-length-le}
+use lib.Seq.{drop-cons}
 use lib.Dec.{eqb}
 use borrow.Author.Tests.{eq-eqb, ne-eqb}
-use Rattle.zvt_rules.specs.Reading.{pick, part}
+use Rattle.zvt_rules.specs.Reading.{part}
+use Rattle.zvt_rules.proofs.Tests.{pick-test}
 use Rattle.zvt_rules.proofs.ObjectReading.{part-length}
 use Rattle.zvt_rules.specs.declared.Listed.{Listed}
 use Rattle.zvt_rules.specs.declared.FieldAnswer.the-variants.{Field as listed-field, End}
@@ -32,26 +32,11 @@ module _ (s : List ℕ) (i : ℕ) where
   unfolding upToZero
   name-ends h = rw (drop-of-length-le s h)
 
--- ---- they are the first bytes of the value
-abbrev Begins : List ℕ → List ℕ → Type 0
-Begins u s = (u ≡ take (length u) s) × (length u ≤ length s)
-
-begins-with : (t : Bool) (b : ℕ) (s u : List ℕ) → Begins u s → Begins (pick t [] (b ∷ u)) (b ∷ s)
-begins-with true b s u h = (refl, omega arith)
-begins-with false b s u h = (ap (λ (l : List ℕ). b ∷ l) (h .0), omega arith)
-
-pub name-begins : (s : List ℕ) → (upToZero s ≡ take (length (upToZero s)) s) × (length (upToZero s) ≤ length s)
+-- ---- they are no more than the value has
+name-short : (s : List ℕ) → length (upToZero s) ≤ length s
 unfolding upToZero
-name-begins [] = (refl, omega arith)
-name-begins (b ∷ s) = begins-with (eqb b 0) b s (upToZero s) (name-begins s)
-
--- so they stand in the message as they are
-pub name-stands : (a e : ℕ) (s : List ℕ) → a ≤ e → e ≤ length s → part a (a + length (upToZero (part a e s))) s ≡ upToZero (part a e s)
-name-stands a e s o i =
-    let v = part a e s in
-    let k = length (upToZero v) in
-    let z : a + k - a ≡ k = omega arith in
-    rw z (sym (take-take k (e - a) (drop a s) (omega (arith, name-begins v .1, part-length s a e o i))) ∙ sym (name-begins v .0))
+name-short [] = omega arith
+name-short (b ∷ s) = pick-test (λ (w : List ℕ). length w ≤ length (b ∷ s)) (eqb b 0) (λ _. omega arith) (λ _. omega (arith, name-short s))
 
 -- ---- what the name is, and where it lies
 module _ (s till : List ℕ) (p q : ℕ × ℕ) where
@@ -79,4 +64,4 @@ module _ (from end : ℕ) (s : List ℕ) (h : StatusIn from end s) where
 
     -- it is no longer than the field's value
     pub name-inside : l .from ≤ l .to → l .to ≤ length s → l .from + k ≤ l .to
-    name-inside o i = let v = part (l .from) (l .to) s in omega (arith, size, name-begins v .1, part-length s (l .from) (l .to) o i)
+    name-inside o i = let v = part (l .from) (l .to) s in omega (arith, size, name-short v, part-length s (l .from) (l .to) o i)

@@ -15,8 +15,8 @@ use Rattle.zvt_rules.specs.declared.Layout.the-variants.{Plain, List as FieldLi
 use Rattle.zvt_rules.specs.Reading.{Reading, got, refused, pick, part, among}
 use Rattle.zvt_rules.specs.Fields.{Field, listOf}
 use Rattle.zvt_rules.specs.Message.{headerSize, layoutOf, Body, bytes, listed, Message, readOf}
-use Rattle.zvt_rules.specs.Writing.{listBytes, bodyBytes, lengthBytes, messageBytes}
-use Rattle.zvt_rules.specs.Grammar.{Bytes, FieldsOk, LayoutOk, MessageOk}
+use Rattle.zvt_rules.specs.believed.Writing.{listBytes, bodyBytes, lengthBytes, messageBytes}
+use Rattle.zvt_rules.specs.believed.Grammar.{Bytes, FieldsOk, LayoutOk, MessageOk}
 use Rattle.zvt_rules.proofs.ObjectReading.{tail}
 use Rattle.zvt_rules.proofs.FieldBytes.{list-complete}
 use Rattle.zvt_rules.proofs.FieldReading.{header-most, list-none}

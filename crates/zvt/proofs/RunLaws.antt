@@ -11,13 +11,13 @@ use Rattle.zvt_rules.specs.declared.Fault.{Fault}
 use Rattle.zvt_rules.specs.Reading.{Reading, got, refused, no, unless, andThen, part}
 use Rattle.zvt_rules.specs.Limits.{mostObjects}
 use Rattle.zvt_rules.specs.Objects.{nested, Form, formSize, Head, from, to, headOf}
-use Rattle.zvt_rules.specs.Objects.{Obj, Objs, more, OneRead, RunRead, insideOf, oneBy, oneOf, runOf}
-use Rattle.zvt_rules.specs.Writing.{objBytes, runBytes}
+use Rattle.zvt_rules.specs.Objects.{Obj, Objs, more, OneRead, RunRead, leafOf, branchOf, oneOf, runOf}
+use Rattle.zvt_rules.specs.believed.Writing.{objBytes, runBytes}
 use Rattle.zvt_rules.specs.Shortest.{formFor, shortObj, shortRun}
-use Rattle.zvt_rules.specs.Grammar.{Bytes, FormOk, ObjOk, RunOk}
+use Rattle.zvt_rules.specs.believed.Grammar.{Bytes, FormOk, ObjOk, RunOk}
 use Rattle.zvt_rules.proofs.Tests.{pick-true, pick-false}
 use Rattle.zvt_rules.proofs.Readings.{then-on, then-stop}
-use Rattle.zvt_rules.proofs.ObjectReading.{tail, part-length, head-got, head-in, branchOf, leafOf, one-in, run-none, run-step}
+use Rattle.zvt_rules.proofs.ObjectReading.{tail, part-length, head-got, head-in, inside, one-in, run-none, run-step, one-step}
 use Rattle.zvt_rules.proofs.Lengths.{object-size, len-sound, form-shorter}
 use Rattle.zvt_rules.proofs.ObjectShort.{obj-shorter, run-shorter}
 use Rattle.zvt_rules.proofs.ObjectBytes.{bytes-drop, bytes-part, run-sound, one-sound}
@@ -149,12 +149,12 @@ first-in left n at s = part-got oneTally (oneOf left n at s) (λ o. (2 ≤ o .si
 
 -- ---- an object
 pub one-full : (left n at : ℕ) (s : List ℕ) → mostObjects ≤ n → oneAnswer left n at s ≡ part-refused (no 10 at)
-unfolding oneAnswer asPart oneOf oneBy unless
-one-full left n at s h = rw (le-leb mostObjects n h)
+unfolding oneAnswer asPart unless
+one-full left n at s h = rw (one-step left n at s, le-leb mostObjects n h)
 
 pub one-deep : (left n at : ℕ) (s : List ℕ) → n < mostObjects → left ≡ 0 → oneAnswer left n at s ≡ part-refused (no 9 at)
-unfolding oneAnswer asPart oneOf oneBy unless
-one-deep left n at s h e = rw (lt-leb mostObjects n h, eq-eqb left 0 e)
+unfolding oneAnswer asPart unless
+one-deep left n at s h e = rw (one-step left n at s, lt-leb mostObjects n h, eq-eqb left 0 e)
 
 -- the answer for the run inside an object
 abbrev inner : ℕ → ℕ → ℕ → List ℕ → Bounds → PartRead
@@ -210,21 +210,19 @@ module _ (at : ℕ) (s : List ℕ) (h : Head) (b : Bytes s) (read : headOf at s 
       )
 
 module _ (left n at : ℕ) (s : List ℕ) (room : n < mostObjects) (deep : left ≡ 0 → ⊥) where
-  at-head : oneOf left n at s ≡ andThen (headOf at s) (λ h. insideOf runOf left n at s h)
-  unfolding oneOf oneBy unless
-  at-head = rw (lt-leb mostObjects n room, ne-eqb left 0 deep)
+  at-head : oneOf left n at s ≡ andThen (headOf at s) (λ h. inside runOf left n at s h)
+  unfolding unless
+  at-head = rw (one-step left n at s, lt-leb mostObjects n room, ne-eqb left 0 deep)
 
   pub one-no-head : (r : Fault) → headAnswer at s ≡ bounds-refused r → oneAnswer left n at s ≡ part-refused r
   unfolding headAnswer oneAnswer asPart
   one-no-head r e = ap (asPart oneTally) (at-head ∙ then-stop _ r (bounds-stopped s _ r e))
 
   at-leaf : (h : Head) → headOf at s ≡ got h → nested (getD s 0 0) ≡ false → oneOf left n at s ≡ got (leafOf n s h)
-  unfolding insideOf
   at-leaf h e f = at-head ∙ then-on _ h e ∙ pick-false _ _ f
 
   at-branch : (h : Head) → headOf at s ≡ got h → nested (getD s 0 0) ≡ true
       → oneOf left n at s ≡ andThen (runOf (left - 1) (n + 1) (at + from h) (part (from h) (to h) s)) (λ r. got (branchOf s h r))
-  unfolding insideOf
   at-branch h e f = at-head ∙ then-on _ h e ∙ pick-true _ _ f
 
   pub one-leaf : Bytes s → (b : Bounds) → headAnswer at s ≡ bounds-read b → b .nested ≡ false → Answered left n at s b (n + 1) 0

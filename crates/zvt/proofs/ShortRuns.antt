@@ -9,10 +9,10 @@ use lib.ListN.{length, getD, take, drop}
 use Rattle.zvt_rules.specs.declared.Fault.{Fault}
 use Rattle.zvt_rules.specs.Reading.{got, pick, part}
 use Rattle.zvt_rules.specs.Limits.{mostObjects, deepest}
-use Rattle.zvt_rules.specs.Objects.{nested, Head, from, to, Obj, leaf, branch, Objs, none, more, OneRead, RunRead, oneOf, runOf, countObjs}
-use Rattle.zvt_rules.specs.Writing.{lenBytes, sized, objBytes, runBytes}
+use Rattle.zvt_rules.specs.Objects.{nested, Head, from, to, Obj, leaf, branch, Objs, none, more, OneRead, RunRead, runOf, countObjs}
+use Rattle.zvt_rules.specs.believed.Writing.{lenBytes, sized, objBytes, runBytes}
 use Rattle.zvt_rules.specs.Shortest.{formFor, shortObj, shortRun}
-use Rattle.zvt_rules.specs.Grammar.{Bytes, ObjOk, RunOk}
+use Rattle.zvt_rules.specs.believed.Grammar.{Bytes, ObjOk, RunOk}
 use Rattle.zvt_rules.proofs.Readings.{then-on}
 use Rattle.zvt_rules.proofs.ObjectReading.{Inside, head-in, one-got, run-none, run-got}
 use Rattle.zvt_rules.proofs.ObjectBytes.{bytes-drop, bytes-part, one-sound, run-sound, run-complete}
@@ -91,11 +91,11 @@ object-short s h o b =
     (λ x. subst (ObjectShort s h) (x .1) (refl, λ t. absurd (let z : _≡_ {A = ℕ} 0 1 = cc in omega arith), rw (x .0) (value-short tag value)))
 
 pub first-object : (s : List ℕ) → Bytes s → RunReads s → 0 < length s → (b : Bounds) × (headAnswer 0 s ≡ bounds-read b) × FirstObject s b
-unfolding RunReads oneOf headAnswer asBounds boundsOf runBytes shortRun
+unfolding RunReads headAnswer asBounds boundsOf runBytes shortRun
 first-object s b r l =
     let w = run-got 4 0 0 s (r .0) l (r .1) in
     let o = w .first in
-    let x = one-got runOf deepest 0 0 s o (w .read) in
+    let x = one-got deepest 0 0 s o (w .read) in
     let h = x .head in
     let i = head-in 0 s h (x .read) in
     let g = one-sound 4 0 0 s o b (w .read) in

@@ -13,7 +13,7 @@ use Rattle.zvt_rules.specs.declared.Format.the-variants.{Fixed, Container}
 use Rattle.zvt_rules.specs.Reading.{pick, part, among}
 use Rattle.zvt_rules.specs.Digits.{numberOf}
 use Rattle.zvt_rules.specs.Fields.{formatOf, holdsDigits, Field, plain, container, fieldId}
-use Rattle.zvt_rules.specs.Grammar.{Bytes, Decimals, SizeOk, FieldOk, ListOk}
+use Rattle.zvt_rules.specs.believed.Grammar.{Bytes, Decimals, SizeOk, FieldOk, ListOk}
 use Rattle.zvt_rules.proofs.Tests.{pick-test}
 use Rattle.zvt_rules.proofs.ObjectReading.{part-length}
 use Rattle.zvt_rules.proofs.ObjectBytes.{bytes-part}

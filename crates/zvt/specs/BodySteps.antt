@@ -7,7 +7,7 @@ use lib.Dec.{leb, eqb}
 use Rattle.zvt_rules.specs.declared.Layout.{Layout}
 use Rattle.zvt_rules.specs.Reading.{part}
 use Rattle.zvt_rules.specs.Message.{Body, bodyOf, securedOf, layoutOf, countBody}
-use Rattle.zvt_rules.specs.Writing.{bodyBytes}
+use Rattle.zvt_rules.specs.believed.Writing.{bodyBytes}
 use Rattle.zvt_rules.specs.Shortest.{shortBody}
 use Rattle.zvt_rules.specs.declared.Header.{Header}
 use Rattle.zvt_rules.specs.declared.Outline.{Outline}

@@ -8,7 +8,7 @@ use Rattle.zvt_rules.specs.declared.Format.the-variants.{Unknown, Fixed, Digits
 use Rattle.zvt_rules.specs.Reading.{Reading, got, refused, no, unless, andThen, part}
 use Rattle.zvt_rules.specs.Objects.{formSize, lenOf}
 use Rattle.zvt_rules.specs.Fields.{formatOf, unknown, digitsOf, unlessUndecimal, digitsIn, Field, plain, FieldRead, ListRead, fieldBy, listOf}
-use Rattle.zvt_rules.specs.Writing.{fieldBytes, listBytes}
+use Rattle.zvt_rules.specs.believed.Writing.{fieldBytes, listBytes}
 use Rattle.zvt_rules.specs.Shortest.{shortField, shortList}
 use Rattle.zvt.specs.declared.objects.Bounds.{Bounds}
 use Rattle.zvt.specs.declared.objects.BoundsRead.{BoundsRead}

@@ -6,7 +6,7 @@ use lib.ListN.{length, getD}
 use lib.Dec.{ltb}
 use Rattle.zvt_rules.specs.Reading.{Reading, got, refused, no, unless, andThen}
 use Rattle.zvt_rules.specs.Objects.{nested, formSize, tagSize, Len, lenOf, Head, from, to, headOf, Obj, Objs, OneRead, RunRead, oneOf, runOf}
-use Rattle.zvt_rules.specs.Writing.{objBytes, runBytes}
+use Rattle.zvt_rules.specs.believed.Writing.{objBytes, runBytes}
 use Rattle.zvt_rules.specs.Shortest.{formFor, shortObj, shortRun}
 use Rattle.zvt.specs.declared.objects.TagRead.{TagRead}
 use Rattle.zvt.specs.declared.objects.TagRead.the-variants.{Size, Refused as tag-refused}

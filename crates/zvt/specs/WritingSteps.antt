@@ -10,7 +10,7 @@ use Rattle.zvt_rules.specs.Limits.{deepest}
 use Rattle.zvt_rules.specs.Objects.{RunRead, runOf}
 use Rattle.zvt_rules.specs.Fields.{ListRead, listOf}
 use Rattle.zvt_rules.specs.Message.{Body, bodyOf, layoutOf}
-use Rattle.zvt_rules.specs.Writing.{lenBytes, runBytes, listBytes, bodyBytes, lengthBytes}
+use Rattle.zvt_rules.specs.believed.Writing.{lenBytes, runBytes, listBytes, bodyBytes, lengthBytes}
 use Rattle.zvt_rules.specs.Shortest.{formFor, shortRun, shortList, shortBody}
 use Rattle.zvt_rules.specs.declared.Header.{Header}
 use Rattle.zvt.specs.declared.objects.Bounds.{Bounds}

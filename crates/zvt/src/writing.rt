@@ -14,7 +14,7 @@ ghost use Prim.Native.Nat.{_+_, _<_, _≤_};
 ghost use lib.ListN.{length};
 ghost use Rattle.zvt_rules.specs.Reading.{part};
 ghost use Rattle.zvt_rules.specs.Limits.{mostBody};
-ghost use Rattle.zvt_rules.specs.Writing.{lenBytes};
+ghost use Rattle.zvt_rules.specs.believed.Writing.{lenBytes};
 ghost use Rattle.zvt_rules.specs.Shortest.{formFor};
 ghost use Rattle.zvt.specs.WritingSteps.{Put, headBytes, valueBytes, RunReads, shortRunOf, shortFieldOf, ListReads, shortListOf, BodyReads, shortBodyOf, headerBytes, bodyPart, headerLayout, shortMessageOf};
 

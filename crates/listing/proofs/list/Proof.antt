@@ -1,31 +1,31 @@
 -- `listing::list`. The loop's invariant: the lines of what is left, written behind the text so far, come to the whole listing; no more
 -- messages were listed than bytes are passed, and none of an input that is too long. Assumes nothing.
-use Prim.Native.Nat.{ℕ, _+_, _-_, _≤_}
+use Prim.Native.Nat.{ℕ, _-_, _≤_}
 use mathlib.Core.Logic.{_⊎_, inl, inr, ⊎-elim}
 use mathlib.Core.Path.{_≡_, refl, ap, _∙_}
 use lib.ListN.{length, drop}
-use native.Mathlib.Numerals.{unary-clauses}
 use native.Mathlib.Omega.{arith}
 use borrow.Author.Needs.{needs}
+use Rattle.zvt.proofs.Slices.{bytes-known}
 use Rattle.zvt_rules.specs.Text.{Text, text, addAll}
-use Rattle.zvt_rules.specs.Listing.{linesBy, listing}
+use Rattle.zvt_rules.specs.Listing.{listing}
 use Rattle.buffers.proofs.TextLaws.{addAll-room}
-use Rattle.listing.specs.Lines.{Added}
-use Rattle.listing.proofs.NextLaws.{rest-last, rest-message}
+use Rattle.listing.specs.Lines.{linesOf, Added}
+use Rattle.listing.proofs.NextLaws.{rest-last, rest-message, listed-whole}
 use Rattle.listing.proofs.list.Statement.{statement}
 use Rattle.listing.proofs.list.Tie as tie
 
 abbrev Inv-loop : tie.InvT-loop
 Inv-loop s out₀ to₀ from₀ count₀ out to from count =
     (from ≤ length s) × (count ≤ from) × ((from ≡ 0) ⊎ (length s ≤ 65536)) × (length out ≡ length out₀)
-    × (addAll (linesBy (length s + 1 - count) count (drop from s)) (text to out) ≡ addAll (listing s) (text 0 out₀))
+    × (addAll (linesOf count (drop from s)) (text to out) ≡ addAll (listing s) (text 0 out₀))
 
 abbrev μ-loop : tie.MeasureT-loop
 μ-loop s out₀ to₀ from₀ count₀ out to from count = length s - from
 
 loop-holds : tie.Need-loop-holds Inv-loop μ-loop
-unfolding listing
-loop-holds c = (omega arith, omega arith, inl refl, refl, simp unary-clauses)
+unfolding listing linesOf
+loop-holds c = (omega arith, omega arith, inl refl, refl, refl)
 
 returns : tie.Need-returns Inv-loop μ-loop
 unfolding Added
@@ -36,7 +36,9 @@ returns c =
     let turn = line .before .before .before .loop in
     let put = rw (told .end .given .1) at (line .next-line .ensures) in
     let t = text (turn .to) (turn .out) in
-    cc (end .add .ensures, put .2, rest-last _ (turn .from) (turn .count) (turn .inv .1) (turn .inv .0) (put .0) t (put .1), turn .inv .4)
+    let s = line .before .before .before .before .before .before .args .s .now in
+    let known = bytes-known _ (line .before .before .before .before .before .shared-slice-known .given) in
+    listed-whole s _ _ _ known (cc (end .add .ensures, put .2, rest-last s (turn .from) (turn .count) (put .0) t (put .1), turn .inv .4))
 
 add-from : tie.Need-add-from Inv-loop μ-loop
 unfolding Added
@@ -69,7 +71,7 @@ loop-again c =
     let put = rw (told .end2 .given .1) at (line .next-line .ensures) in
     let t = text (turn .to) (turn .out) in
     let s = line .before .before .before .before .before .before .args .s .now in
-    let step = rest-message s (turn .from) (turn .count) (turn .inv .1) (turn .inv .0) (put .0) t (told .end2 .given .0 .1 .0) (put .1) in
+    let step = rest-message s (turn .from) (turn .count) (put .0) t (told .end2 .given .0 .1 .0) (put .1) in
     let room : Text → ℕ = λ x. length (x .bytes) in (
       omega (arith, put .4),
       omega (arith, put .3),

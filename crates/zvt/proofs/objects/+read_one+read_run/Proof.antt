@@ -8,7 +8,7 @@ use borrow.Author.Needs.{needs}
 use borrow.Author.Tests.{not-true, not-false}
 use borrow.Fn.Kinds.{In}
 use borrow.Fn.PlainCycle.{Measures, is, falls, and}
-use Rattle.zvt_rules.specs.Grammar.{Bytes}
+use Rattle.zvt_rules.specs.believed.Grammar.{Bytes}
 use Rattle.zvt.specs.ObjectSteps.{headAnswer, oneAnswer}
 use Rattle.zvt.specs.declared.objects.Bounds.{Bounds}
 use Rattle.zvt.specs.declared.objects.BoundsRead.the-variants.{Bounds as bounds-read}

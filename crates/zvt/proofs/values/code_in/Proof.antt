@@ -4,7 +4,7 @@ use native.Mathlib.Omega.{arith}
 use borrow.Author.Needs.{needs}
 use Rattle.zvt_rules.specs.Reading.{among}
 use Rattle.zvt_rules.specs.Fields.{formatOf}
-use Rattle.zvt_rules.specs.Grammar.{SizeOk}
+use Rattle.zvt_rules.specs.believed.Grammar.{SizeOk}
 use Rattle.zvt_rules.specs.declared.ToldCode.the-variants.{Code}
 use Rattle.zvt_rules.specs.Values.{codeOf, codeIn}
 use Rattle.zvt.proofs.Slices.{bytes-known}

@@ -1,7 +1,7 @@
 -- `message_size` meets its contract. Assumes nothing.
 use native.Mathlib.Omega.{arith}
 use borrow.Author.Tests.{lt-leb, le-leb}
-use Rattle.zvt_rules.specs.Writing.{lengthBytes}
+use Rattle.zvt_rules.specs.believed.Writing.{lengthBytes}
 use Rattle.zvt.specs.WritingSteps.{headerBytes}
 use borrow.Author.Needs.{needs}
 use Rattle.zvt.proofs.writing.message_size.Statement.{statement}

@@ -1,7 +1,7 @@
 -- `put_head` meets its contract: the length, and the tag before it. Assumes nothing.
 use native.Mathlib.Omega.{arith}
 use lib.ListN.{length-append}
-use Rattle.zvt_rules.specs.Writing.{lenBytes}
+use Rattle.zvt_rules.specs.believed.Writing.{lenBytes}
 use Rattle.zvt_rules.specs.Shortest.{formFor}
 use Rattle.zvt.specs.WritingSteps.{headBytes}
 use Rattle.zvt.proofs.Back.{lent-all, room, then-put}

@@ -5,7 +5,7 @@ use Prim.Native.Nat.{ℕ, _/_, _%_, _<_, _≤_}
 use native.Mathlib.Nat.{mod-eq-of-lt}
 use native.Mathlib.Omega.{arith}
 use borrow.Author.Tests.{lt-ltb, le-ltb}
-use Rattle.zvt_rules.specs.Writing.{lenBytes}
+use Rattle.zvt_rules.specs.believed.Writing.{lenBytes}
 use Rattle.zvt_rules.specs.Shortest.{formFor}
 use Rattle.zvt.proofs.Back.{fits-as, put-as}
 use borrow.Author.Needs.{needs}
