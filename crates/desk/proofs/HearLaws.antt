@@ -17,8 +17,8 @@ use Rattle.zvt_rules.specs.declared.ToldCode.the-variants.{Code}
 use Rattle.zvt_rules.specs.declared.Layout.the-variants.{Plain}
 use Rattle.zvt_rules.specs.Reading.{Reading, got, refused, pick, among}
 use Rattle.zvt_rules.specs.Message.{Heading, wholeHeader, layoutOf, Body, bytes, listed, Message, readOf}
-use Rattle.zvt_rules.specs.Writing.{bodyBytes, lengthBytes, messageBytes}
-use Rattle.zvt_rules.specs.Grammar.{Bytes, LayoutOk, MessageOk}
+use Rattle.zvt_rules.specs.believed.Writing.{bodyBytes, lengthBytes, messageBytes}
+use Rattle.zvt_rules.specs.believed.Grammar.{Bytes, LayoutOk, MessageOk}
 use Rattle.zvt_rules.specs.Values.{isStatus, bodyFields, statusFields, statusIn, statusOf, codeIn, codeOf, valueIn}
 use Rattle.zvt_rules.proofs.MessageBytes.{read-sound, message-size}
 use Rattle.zvt_rules.specs.declared.Header.{Header}

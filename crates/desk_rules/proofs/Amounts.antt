@@ -7,7 +7,7 @@ use native.Mathlib.Omega.{arith}
 use lib.ListN.{getD}
 use lib.Dec.{eqb}
 use Rattle.zvt_rules.specs.Reading.{Reading, got, refused, among}
-use Rattle.zvt_rules.specs.Grammar.{Bytes}
+use Rattle.zvt_rules.specs.believed.Grammar.{Bytes}
 use Rattle.zvt_rules.specs.Message.{Heading, wholeHeader, Body, bytes, listed, Message, readOf}
 use Rattle.zvt_rules.specs.Values.{Found, missing, found, valueIn, amountOf, amountIn, statusIn, bodyFields}
 use Rattle.zvt_rules.specs.declared.Status.{Status}

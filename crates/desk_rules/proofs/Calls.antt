@@ -1,8 +1,8 @@
 -- What a call that is not refused does to its lane, by cases on the calls. Assumes nothing.
-use mathlib.Core.Path.{_≡_, refl, ap, sym, _∙_}
+use mathlib.Core.Path.{_≡_, refl, ap, ap₂, sym, _∙_}
 use mathlib.Core.Bool.{Bool, true, false, _&&_}
 use mathlib.Core.List.{List, [], _∷_}
-use Prim.Native.Nat.{ℕ, _+_, _*_, _<_}
+use Prim.Native.Nat.{ℕ, _+_, _*_, _≤_, _<_}
 use native.Mathlib.Omega.{arith}
 use lib.Dec.{eqb}
 use borrow.Author.Tests.{eqb-true, ne-eqb}
@@ -27,7 +27,8 @@ use Rattle.desk_rules.specs.Kinds.{isIdle}
 use Rattle.desk_rules.specs.Lanes.{runningLane, reportedLane}
 use Rattle.desk_rules.specs.Openings.{withinLimits, refersTo, stands, openedLane}
 use Rattle.desk_rules.specs.Course.{runningPairs, pairIs, heardWaiting, settledAs, completedBy, abortedBy, reportedBy, movedBy, afterBody, heardRunning, heardBy, afterHeader, heard, lostBy, openedBy, Call, opening, message, lost, opens, moves}
-use Rattle.desk_rules.specs.Payments.{endsBy, ends, askOf, orElse, remembered, verdictOf, verdict}
+use Rattle.desk_rules.specs.Payments.{endsBy, ends}
+use Rattle.desk_rules.proofs.Judge.{orElse, remembered, verdictOf, verdict}
 
 -- not refused
 abbrev pub Passes : Moved → Type 0
@@ -37,35 +38,35 @@ Passes (Becomes l) = Unit {0}
 Passes (Ends outcome settled code) = Unit {0}
 
 -- ---- an opening finds its lane idle and makes it wait for what it asks
-abbrev Opened : Lane → Lane → Moved → Type 0
-Opened l n m = (isIdle (l .phase) ≡ true) × (m ≡ Becomes n)
+abbrev Opened : Lane → Opening → Line → Moved → Type 0
+Opened l o line m = (isIdle (l .phase) ≡ true) × (stands (refersTo o) line ≡ true) × (m ≡ Becomes (openedLane o line))
 
-by-opening : (l : Lane) (o : Opening) (line : Line) → Passes (openedBy l o line) → Opened l (openedLane o line) (openedBy l o line)
+pub opened : (l : Lane) (o : Opening) (line : Line) → Passes (openedBy l o line) → Opened l o line (openedBy l o line)
 unfolding openedBy
-by-opening l o line =
+opened l o line =
     pick-test P (isIdle (l .phase))
-    (λ e. pick-test P (withinLimits o) (λ _. pick-test P (stands (refersTo o) line) (λ _ _. (e, refl)) (λ _ h. absurd h)) (λ _ h. absurd h))
+    (λ e. pick-test P (withinLimits o) (λ _. pick-test P (stands (refersTo o) line) (λ f _. (e, f, refl)) (λ _ h. absurd h)) (λ _ h. absurd h))
     (λ _ h. absurd h)
   where
     P : Moved → Type 0
-    P m = Passes m → Opened l (openedLane o line) m
-
-pub opened : (l : Lane) (ls : List Line) (c : Call) → opens c ≡ true → Passes (moves l ls c) → Opened l (askOf ls c) (moves l ls c)
-unfolding opens moves askOf
-opened l ls (opening i o) e h = by-opening l o _ h
-opened l ls (message i s) e h = let z : _≡_ {A = ℕ} 0 1 = cc in absurd (omega arith)
-opened l ls (lost i) e h = let z : _≡_ {A = ℕ} 0 1 = cc in absurd (omega arith)
+    P m = Passes m → Opened l o line m
 
 -- ---- any other call finds it open, and goes on with what it remembers or ends by its verdict
 
--- the lane as a payment's later calls leave it, but for its phase
-abbrev pub retold : Lane → Call → Lane
-retold l c = reportedLane (runningLane l) (remembered (l .status) c)
+-- the lane as a payment's later calls leave it
+abbrev pub retold : Lane → List ℕ → Lane
+retold l s = reportedLane (runningLane l) (remembered (l .status) s)
+
+-- the call is a message, which leaves the lane n
+abbrev pub Heeds : Lane → Call → Lane → Type 0
+Heeds l (opening i o) n = ⊥
+Heeds l (message i s) n = n ≡ retold l s
+Heeds l (lost i) n = ⊥
 
 abbrev pub Later : Lane → Call → Moved → Type 0
 Later l c (Refused r) = ⊥
-Later l c Stays = runningLane l ≡ retold l c
-Later l c (Becomes n) = (isIdle (n .phase) ≡ false) × (runningLane n ≡ retold l c)
+Later l c Stays = Heeds l c l
+Later l c (Becomes n) = Heeds l c n
 Later l c (Ends outcome settled code) = verdict (runningLane l) c ≡ Ends outcome settled code
 
 -- the header's class is the message's
@@ -75,7 +76,7 @@ of-header s h m e =
     let t = then-got (bodyOf (start h) _ (layoutOf (h .class) (h .instruction))) _ m e in
     ap (λ (x : Message). x .class) (sym (got-same (t .2)))
 
-both : (a b x y : ℕ) → pairIs a b x y ≡ true → (a ≡ x) × (b ≡ y)
+pub both : (a b x y : ℕ) → pairIs a b x y ≡ true → (a ≡ x) × (b ≡ y)
 both a b x y = go (eqb a x) refl (eqb b y) refl
   where
     go : (p : Bool) → eqb a x ≡ p → (q : Bool) → eqb b y ≡ q → p && q ≡ true → (a ≡ x) × (b ≡ y)
@@ -93,22 +94,25 @@ unfolding among
 above [] x u = refl
 above (k ∷ ks) x u = rw (ne-eqb k x (λ e. omega arith)) (above ks x (u .1))
 
--- 84 xx is read as plain bytes
-plain-read : (s : List ℕ) (h : Heading) → wholeHeader s ≡ got h → h .class ≡ 0x84
+-- 80 xx and what lies above it is read as plain bytes
+pub plain-read : (s : List ℕ) (h : Heading) → wholeHeader s ≡ got h → 0x80 ≤ h .class
     → readOf s ≡ got (record { class = h .class; instruction = h .instruction; long = h .long; body = bytes (part (start h) (end h) s) })
 unfolding readOf messageOf layoutOf bodyOf andThen
 plain-read s h w e =
     let pair = h .class * 256 + h .instruction in
     rw (w, andThen, above (0x0601 ∷ 0x040F ∷ 0x060F ∷ 0x06D3 ∷ []) pair (omega arith), above (0x0621 ∷ 0x0630 ∷ 0x0631 ∷ 0x0650 ∷ []) pair (omega arith))
 
+running-same : (l : Lane) → l .phase ≡ Running → l ≡ runningLane l
+running-same l e = ap (λ (p : Phase). record { phase = p; kind = l .kind; asked = l .asked; named = l .named; status = l .status }) e
+
 -- refused, or an end
-abbrev Closing : Moved → Type 0
+abbrev pub Closing : Moved → Type 0
 Closing (Refused r) = Unit {0}
 Closing Stays = ⊥
 Closing (Becomes l) = ⊥
 Closing (Ends outcome settled code) = Unit {0}
 
-completed-closes : (l : Lane) (t : ToldCode) → Closing (completedBy l t)
+pub completed-closes : (l : Lane) (t : ToldCode) → Closing (completedBy l t)
 unfolding completedBy settledAs
 completed-closes l no-code = tt
 completed-closes l (Code c) = search (pick-test Closing, tt)
@@ -118,7 +122,7 @@ unfolding completedBy
 completed-running l no-code = refl
 completed-running l (Code c) = refl
 
-aborted-closes : (b : Body) → Closing (abortedBy b)
+pub aborted-closes : (b : Body) → Closing (abortedBy b)
 unfolding abortedBy
 aborted-closes (bytes []) = tt
 aborted-closes (bytes (b ∷ s)) = tt
@@ -132,13 +136,13 @@ module _ (l : Lane) (i : ℕ) (s : List ℕ) where
   unfolding Goes
   refuses r h = absurd h
 
-  stays : runningLane l ≡ retold l (message i s) → Goes Stays
+  stays : l ≡ retold l s → Goes Stays
   unfolding Goes
   stays e h = e
 
-  becomes : (n : Lane) → isIdle (n .phase) ≡ false → runningLane n ≡ retold l (message i s) → Goes (Becomes n)
+  becomes : (n : Lane) → n ≡ retold l s → Goes (Becomes n)
   unfolding Goes
-  becomes n p e h = (p, e)
+  becomes n e h = e
 
   closes : (m : Moved) → Closing m → verdict (runningLane l) (message i s) ≡ m → Goes m
   unfolding Goes
@@ -148,7 +152,7 @@ module _ (l : Lane) (i : ℕ) (s : List ℕ) where
   closes (Ends outcome settled code) c v h = v
 
   -- what tells no status leaves what is remembered
-  same : ((m : Message) → readOf s ≡ got m → isStatus m ≡ false) → runningLane l ≡ retold l (message i s)
+  same : ((m : Message) → readOf s ≡ got m → isStatus m ≡ false) → runningLane l ≡ retold l s
   unfolding remembered statusOf statusFields statusIn codeIn valueIn codeOf orElse
   same n = ap (reportedLane (runningLane l)) (go (readOf s) refl)
     where
@@ -161,58 +165,58 @@ module _ (l : Lane) (i : ℕ) (s : List ℕ) where
   waiting h w =
       pick-test Goes (eqb (h .size) 0)
       (λ _. pick-test Goes (pairIs (h .class) (h .instruction) 0x80 0x00)
-      (λ e. becomes (runningLane l) refl (same λ m f. rw (of-header s h m (sym (then-on _ h w) ∙ f), both (h .class) (h .instruction) 0x80 0x00 e .0)))
+      (λ e. becomes (runningLane l) (same λ m f. rw (of-header s h m (sym (then-on _ h w) ∙ f), both (h .class) (h .instruction) 0x80 0x00 e .0)))
       (λ _. pick-test Goes (eqb (h .class) 0x84)
-      (λ e. closes (Ends Declined 0 (h .instruction)) tt (rw (plain-read s h w (eqb-true _ _ e), e)))
+      (λ e. closes (Ends Declined 0 (h .instruction)) tt (rw (plain-read s h w (omega (arith, eqb-true (h .class) 0x84 e)), e)))
       (λ _. refuses _)))
       (λ _. refuses _)
 
-  reported : (st : Status) → remembered (l .status) (message i s) ≡ orElse (st .code) st (l .status)
-      → isIdle (l .phase) ≡ false → Goes (reportedBy l st (st .code))
+  reported : (st : Status) → remembered (l .status) s ≡ orElse (st .code) st (l .status)
+      → l .phase ≡ Running → Goes (reportedBy l st (st .code))
   unfolding reportedBy orElse
-  reported st e idle = go (st .code) e
+  reported st e on = go (st .code) e
     where
-      go : (t : ToldCode) → remembered (l .status) (message i s) ≡ orElse t st (l .status) → Goes (reportedBy l st t)
-      go no-code f = stays (rw f)
-      go (Code c) f = becomes (reportedLane l st) idle (rw f)
+      go : (t : ToldCode) → remembered (l .status) s ≡ orElse t st (l .status) → Goes (reportedBy l st t)
+      go no-code f = stays (running-same l on ∙ ap (reportedLane (runningLane l)) (sym f))
+      go (Code c) f = becomes (reportedLane l st) (ap₂ reportedLane (running-same l on) (sym f))
 
-  moved : (m : Message) → readOf s ≡ got m → isIdle (l .phase) ≡ false → Goes (movedBy l m)
+  moved : (m : Message) → readOf s ≡ got m → l .phase ≡ Running → Goes (movedBy l m)
   unfolding movedBy verdict verdictOf remembered statusOf statusFields
-  moved m r idle =
+  moved m r on =
       pick-test Goes (pairIs (m .class) (m .instruction) 0x06 0x0F)
       (λ e. let p = both (m .class) (m .instruction) 0x06 0x0F e in
       closes (completedBy l (l .status .code)) (completed-closes l _) (rw (r, p .0, p .1) (completed-running l _)))
       (λ _. pick-test Goes (pairIs (m .class) (m .instruction) 0x06 0x1E)
       (λ e. let p = both (m .class) (m .instruction) 0x06 0x1E e in closes (abortedBy (m .body)) (aborted-closes (m .body)) (rw (r, p .0, p .1)))
       (λ _. pick-test Goes (pairIs (m .class) (m .instruction) 0x04 0x0F)
-      (λ e. reported (statusIn (bodyFields (m .body))) (rw (r, e)) idle)
-      (λ e. stays (same λ k f. rw (got-same (sym f ∙ r)) e))))
+      (λ e. reported (statusIn (bodyFields (m .body))) (rw (r, e)) on)
+      (λ e. stays (running-same l on ∙ same λ k f. rw (got-same (sym f ∙ r)) e))))
 
-  running : (h : Heading) → isIdle (l .phase) ≡ false → Goes (heardRunning l s h)
+  running : (h : Heading) → l .phase ≡ Running → Goes (heardRunning l s h)
   unfolding heardRunning afterBody
-  running h idle =
+  running h on =
       pick-test Goes (among runningPairs (h .class * 256 + h .instruction))
       (λ _. go (readOf s) refl) (λ _. refuses _)
     where
       go : (r : Reading Message) → readOf s ≡ r → Goes (afterBody l r)
       go (refused f) e = refuses _
-      go (got m) e = moved m e idle
+      go (got m) e = moved m e on
 
-  heard-goes : isIdle (l .phase) ≡ false → (r : Reading Heading) → wholeHeader s ≡ r → Goes (afterHeader l s r)
+  heard-goes : (r : Reading Heading) → wholeHeader s ≡ r → Goes (afterHeader l s r)
   unfolding afterHeader heardBy
-  heard-goes idle (refused f) w = refuses _
-  heard-goes idle (got h) w = go (l .phase)
+  heard-goes (refused f) w = refuses _
+  heard-goes (got h) w = go (l .phase) refl
     where
-      go : (p : Phase) → Goes (heardBy p l s h)
-      go Idle = refuses _
-      go Waiting = waiting h w
-      go Running = running h idle
+      go : (p : Phase) → l .phase ≡ p → Goes (heardBy p l s h)
+      go Idle e = refuses _
+      go Waiting e = waiting h w
+      go Running e = running h e
 
 pub later : (l : Lane) (ls : List Line) (c : Call) → opens c ≡ false → Passes (moves l ls c) → (isIdle (l .phase) ≡ false) × Later l c (moves l ls c)
 unfolding opens moves heard lostBy verdict Goes
 later l ls (opening i o) e = let z : _≡_ {A = ℕ} 0 1 = cc in absurd (omega arith)
 later l ls (message i s) e = pick-test (λ m. Passes m → (isIdle (l .phase) ≡ false) × Later l (message i s) m)
-    (isIdle (l .phase)) (λ _ h. absurd h) (λ o h. (o, heard-goes l i s o (wholeHeader s) refl h))
+    (isIdle (l .phase)) (λ _ h. absurd h) (λ o h. (o, heard-goes l i s (wholeHeader s) refl h))
 later l ls (lost i) e = pick-test (λ m. Passes m → (isIdle (l .phase) ≡ false) × Later l (lost i) m)
     (isIdle (l .phase)) (λ _ h. absurd h) (λ o _. (o, refl))
 
@@ -259,7 +263,7 @@ module _ (l : Lane) (s : List ℕ) where
       (λ _. pick-test Right (pairIs (h .class) (h .instruction) 0x80 0x00)
       (λ e. open-right _ refl (go (readOf s) refl (both (h .class) (h .instruction) 0x80 0x00 e .0)))
       (λ _. pick-test Right (eqb (h .class) 0x84)
-      (λ e. end-right (Ends Declined 0 (h .instruction)) tt (ap endsBy (plain-read s h w (eqb-true _ _ e)) ∙ rw e))
+      (λ e. end-right (Ends Declined 0 (h .instruction)) tt (ap endsBy (plain-read s h w (omega (arith, eqb-true (h .class) 0x84 e))) ∙ rw e))
       (λ _. refused-right _)))
       (λ _. refused-right _)
     where
@@ -307,7 +311,7 @@ module _ (l : Lane) (s : List ℕ) where
 
 pub ends-same : (l : Lane) (ls : List Line) (c : Call) → Passes (moves l ls c) → endsIn (moves l ls c) ≡ ends c
 unfolding moves ends endsIn heard lostBy Right
-ends-same l ls (opening i o) = λ h. rw (by-opening l o _ h .1)
+ends-same l ls (opening i o) = λ h. rw (opened l o _ h .2)
 ends-same l ls (message i s) = pick-test (λ m. Passes m → endsIn m ≡ endsBy (readOf s))
     (isIdle (l .phase)) (λ _ h. absurd h) (λ _. heard-ends l s (wholeHeader s) refl)
 ends-same l ls (lost i) = pick-test (λ m. Passes m → endsIn m ≡ true) (isIdle (l .phase)) (λ _ h. absurd h) (λ _ _. refl)

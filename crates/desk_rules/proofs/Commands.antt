@@ -1,30 +1,32 @@
 -- What opening writes is a message, and reads back as what was asked. Assumes nothing.
-use mathlib.Core.Path.{_≡_, refl}
+use mathlib.Core.Path.{_≡_, refl, sym, _∙_}
 use mathlib.Core.Bool.{true, and-eq-true-iff}
-use mathlib.Core.List.{List, [], _∷_, _++_}
-use Prim.Native.Nat.{ℕ, _≤_}
+use mathlib.Core.Logic.{_↔_}
+use mathlib.Core.List.{List, [], _∷_, _++_, append-nil}
+use Prim.Native.Nat.{ℕ, zero, suc, _/_, _%_, _≤_}
 use native.Mathlib.Omega.{arith}
 use lib.ListN.{length}
-use borrow.Author.Tests.{leb-true}
+use lib.Dec.{ltb}
+use borrow.Author.Tests.{leb-true, ltb-true, lt-ltb}
 use Rattle.zvt_rules.specs.declared.Format.the-variants.{Fixed}
 use Rattle.zvt_rules.specs.Reading.{got, among}
-use Rattle.zvt_rules.specs.Fields.{Field, plain, formatOf, fieldId, countField, countFields}
+use Rattle.zvt_rules.specs.Fields.{plain, decimal, formatOf, fieldId, countField, countFields}
 use Rattle.zvt_rules.specs.Message.{Message, layoutOf, readOf}
-use Rattle.zvt_rules.specs.Writing.{fieldBytes, lengthIn, listBytes, bodyBytes, lengthBytes, messageBytes}
-use Rattle.zvt_rules.specs.Grammar.{Decimals, SizeOk, FieldOk, ListOk, FieldsOk, LayoutOk, LengthOk, MessageOk}
-use Rattle.zvt_rules.specs.Digits.{digitBytesOf, numberOf}
+use Rattle.zvt_rules.specs.believed.Writing.{fieldBytes, lengthIn, listBytes, bodyBytes, lengthBytes, messageBytes}
+use Rattle.zvt_rules.specs.believed.Grammar.{Bytes, Decimals, SizeOk, FieldOk, ListOk, FieldsOk, LayoutOk, LengthOk, MessageOk}
+use Rattle.zvt_rules.specs.Digits.{digitBytesOf, decimalFrom, numberOf}
 use Rattle.zvt_rules.proofs.DigitLaws.{digits-size, digits-decimal, number-same}
-use Rattle.zvt_rules.proofs.MessageBytes.{read-complete}
-use Rattle.zvt_rules.proofs.Tests.{between}
+use Rattle.zvt_rules.proofs.MessageBytes.{read-sound, read-complete}
+use Rattle.zvt_rules.proofs.Tests.{leb-test, and-test, between}
 use Rattle.desk_rules.specs.declared.Opening.{Opening}
 use Rattle.desk_rules.specs.declared.Opening.the-variants.{Sale as sale, Refund as refund, Reversal as reversal}
 use Rattle.desk_rules.specs.declared.Phase.{Phase}
 use Rattle.desk_rules.specs.declared.Phase.the-variants.{Idle, Waiting, Running}
 use Rattle.desk_rules.specs.declared.Lane.{Lane}
 use Rattle.desk_rules.specs.Numbers.{amountOk, receiptOk, passwordOk, mostAsked, mostReceipt, mostPassword}
-use Rattle.desk_rules.specs.Openings.{withinLimits, money, command, commandOf, commandBytes, commandSize, mostCommand}
+use Rattle.desk_rules.specs.Openings.{withinLimits, money, commandOf, commandBytes, commandSize, mostCommand}
 use Rattle.desk_rules.specs.Course.{Call, opening, message, lost, answered, writes}
-use Rattle.desk_rules.specs.Table.{Heads, FieldSays, MoneySays, Commands}
+use Rattle.desk_rules.specs.believed.Table.{Commands}
 
 -- ---- the bytes
 
@@ -65,6 +67,9 @@ writes-short l (opening i o) = omega (arith, command-size o, size-most o)
 writes-short l (message i s) = answered-short (l .phase)
 writes-short l (lost i) = omega arith
 
+decimal-halves : (b : ℕ) → decimal b ≡ true → (b / 16 ≤ 9) × (b % 16 ≤ 9)
+decimal-halves b = and-test (leb-test (b / 16) 9) (leb-test (b % 16) 9) .0
+
 -- ---- a message of the grammar
 digits-ok : (id k n : ℕ) → formatOf id ≡ Fixed k → FieldOk (plain id (digitBytesOf k n))
 unfolding FieldOk SizeOk
@@ -93,25 +98,96 @@ command-reads o = read-complete (commandOf o) (command-ok o)
 password-same : (password : ℕ) → passwordOk password ≡ true → numberOf (digitBytesOf 3 password) ≡ password
 password-same password h = number-same 3 password (omega (arith, leb-true password mostPassword h))
 
-money-is : (amount : ℕ) → amountOk amount ≡ true → MoneySays amount (money amount)
-money-is amount h = (digitBytesOf 6 amount, refl, number-same 6 amount (omega (arith, between amount mostAsked .0 h)))
+amount-same : (amount : ℕ) → amountOk amount ≡ true → numberOf (digitBytesOf 6 amount) ≡ amount
+amount-same amount h = number-same 6 amount (omega (arith, between amount mostAsked .0 h))
 
-receipt-is : (receipt : ℕ) → receiptOk receipt ≡ true → FieldSays 0x87 receipt [] (plain 0x87 (digitBytesOf 2 receipt) ∷ [])
-receipt-is receipt h = (digitBytesOf 2 receipt, refl, number-same 2 receipt (omega (arith, between receipt mostReceipt .0 h)))
-
-heads : (instruction : ℕ) (password : List ℕ) (fs : List Field) → Heads (command instruction password fs) instruction
-heads instruction password fs = record { class = refl; pair = refl; short = refl }
+receipt-same : (receipt : ℕ) → receiptOk receipt ≡ true → numberOf (digitBytesOf 2 receipt) ≡ receipt
+receipt-same receipt h = number-same 2 receipt (omega (arith, between receipt mostReceipt .0 h))
 
 command-says : (o : Opening) → withinLimits o ≡ true → Commands o (commandOf o)
 unfolding commandOf
-command-says (sale amount) h = (heads _ _ _, (money amount, refl, money-is amount h))
+command-says (sale amount) h = (digitBytesOf 6 amount, amount-same amount h, refl)
 command-says (refund password amount) h =
     let w = and-eq-true-iff (passwordOk password) (amountOk amount) .0 h in
-    (heads _ _ _, (digitBytesOf 3 password, money amount, refl, password-same password (w .0), money-is amount (w .1)))
+    (digitBytesOf 3 password, digitBytesOf 6 amount, password-same password (w .0), amount-same amount (w .1), refl)
 command-says (reversal password receipt) h =
     let w = and-eq-true-iff (passwordOk password) (receiptOk receipt) .0 h in
-    (heads _ _ _, (digitBytesOf 3 password, _, refl, password-same password (w .0), receipt-is receipt (w .1)))
+    (digitBytesOf 3 password, digitBytesOf 2 receipt, password-same password (w .0), receipt-same receipt (w .1), refl)
 
 -- what an opening writes reads back as that opening's command
 pub opening-reads-back : (o : Opening) → withinLimits o ≡ true → (m : Message) × (readOf (commandBytes o) ≡ got m) × Commands o m
 opening-reads-back o h = (commandOf o, command-reads o, command-says o h)
+
+-- ---- no other bytes do
+
+-- as many digits are known by their number
+digits-one : (v w : List ℕ) (a b : ℕ) → length v ≡ length w → Decimals v → Decimals w → decimalFrom a v ≡ decimalFrom b w → (a ≡ b) × (v ≡ w)
+unfolding decimalFrom Decimals
+digits-one [] [] a b l p q e = (e, refl)
+digits-one [] (y ∷ w) a b l p q e = absurd (omega arith)
+digits-one (x ∷ v) [] a b l p q e = absurd (omega arith)
+digits-one (x ∷ v) (y ∷ w) a b l p q e =
+    let k = digits-one v w _ _ (omega arith) (p .1) (q .1) e in
+    let d = decimal-halves x (p .0) in
+    let f = decimal-halves y (q .0) in
+    let same : x ≡ y = omega (arith, k .0) in
+    (omega (arith, k .0), rw (same, k .1))
+
+digits-are : (k n : ℕ) (v : List ℕ) → numberOf (digitBytesOf k n) ≡ n → length v ≡ k → Decimals v → numberOf v ≡ n → v ≡ digitBytesOf k n
+unfolding numberOf
+digits-are k n v h l d e = digits-one v (digitBytesOf k n) 0 0 (l ∙ sym (digits-size k n)) d (digits-decimal k n) (e ∙ sym h) .1
+
+command-one : (o : Opening) (m : Message) → withinLimits o ≡ true → MessageOk m → Commands o m → m ≡ commandOf o
+unfolding commandOf MessageOk LayoutOk layoutOf among FieldsOk ListOk FieldOk SizeOk formatOf
+command-one (sale amount) m h ok (a, n, e) =
+    let f = (rw e at ok) .0 .1 .0 .0 in
+    e ∙ rw (digits-are 6 amount a (amount-same amount h) (f .0) (f .1 refl) n)
+command-one (refund password amount) m h ok (w, a, k, n, e) =
+    let l = and-eq-true-iff (passwordOk password) (amountOk amount) .0 h in
+    let f = (rw e at ok) .0 in
+    let g = f .2 .0 .0 in
+    e ∙ rw (digits-are 3 password w (password-same password (l .0)) (f .0) (f .1) k, digits-are 6 amount a (amount-same amount (l .1)) (g .0) (g .1 refl) n)
+command-one (reversal password receipt) m h ok (w, r, k, n, e) =
+    let l = and-eq-true-iff (passwordOk password) (receiptOk receipt) .0 h in
+    let f = (rw e at ok) .0 in
+    let g = f .2 .0 .0 in
+    e ∙ rw (digits-are 3 password w (password-same password (l .0)) (f .0) (f .1) k, digits-are 2 receipt r (receipt-same receipt (l .1)) (g .0) (g .1 refl) n)
+
+-- ---- a command is of bytes
+no-bytes : Bytes []
+unfolding Bytes
+no-bytes i = omega arith
+
+bytes-more : (b : ℕ) (s : List ℕ) → ltb b 256 ≡ true → Bytes s → Bytes (b ∷ s)
+unfolding Bytes
+bytes-more b s l h zero = ltb-true b 256 l
+bytes-more b s l h (suc i) = h i
+
+digits-bytes : (v s : List ℕ) → Decimals v → Bytes s → Bytes (v ++ s)
+unfolding Decimals
+digits-bytes [] s d h = h
+digits-bytes (b ∷ v) s d h = let k = decimal-halves b (d .0) in bytes-more b _ (lt-ltb b 256 (omega arith)) (digits-bytes v s (d .1) h)
+
+command-is-bytes : (o : Opening) → Bytes (commandBytes o)
+unfolding spelled
+command-is-bytes o = rw command-bytes (go o)
+  where
+    then : (k n : ℕ) (s : List ℕ) → Bytes s → Bytes (digitBytesOf k n ++ s)
+    then k n s h = digits-bytes (digitBytesOf k n) s (digits-decimal k n) h
+
+    last : (k n : ℕ) → Bytes (digitBytesOf k n)
+    last k n = rw append-nil at (then k n [] no-bytes)
+
+    go : (o : Opening) → Bytes (spelled o)
+    go (sale amount) = search (bytes-more, then, no-bytes) depth 12
+    go (refund password amount) = search (bytes-more, then, no-bytes) depth 12
+    go (reversal password receipt) = search (bytes-more, then, last) depth 12
+
+-- an opening writes the bytes that read as its command, and no others
+pub command-exactly : (o : Opening) (w : List ℕ) → withinLimits o ≡ true
+    → (w ≡ commandBytes o) ↔ (Bytes w × ((m : Message) × (readOf w ≡ got m) × Commands o m))
+unfolding commandBytes
+command-exactly o w h = (
+  λ e. rw e (command-is-bytes o, opening-reads-back o h),
+  λ (b, (m, r, c)). let k = read-sound w m b r in sym (k .0) ∙ rw (command-one o m h (k .1) c),
+)

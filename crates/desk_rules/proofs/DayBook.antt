@@ -1,86 +1,115 @@
--- Every line of the book is what its payment's own messages say, and every opening begins one payment. Assumes nothing.
-use mathlib.Core.Path.{_≡_, refl, ap, sym, _∙_}
-use mathlib.Core.Logic.{_⊎_, inl, inr}
-use mathlib.Core.Bool.{Bool, true, false}
-use mathlib.Core.List.{List, [], _∷_, _++_, append-nil}
+-- Line j of the book is the line that is due for the j-th payment that ended, each lane is what the calls of its open payment say, and
+-- every opening begins one payment. Assumes nothing.
+use mathlib.Core.Path.{_≡_, refl, ap, sym, subst, _∙_}
+use mathlib.Core.Logic.{_↔_, _⊎_, inl, inr, ⊎-elim}
+use mathlib.Core.Bool.{true, false}
+use mathlib.Core.List.{List, [], _∷_, _++_, map, append-nil}
 use Prim.Native.Nat.{ℕ, zero, suc, _+_, _<_}
 use native.Mathlib.Omega.{arith}
-use lib.ListN.{length, getD, take, length-append}
-use lib.Seq.{append-snoc, getD-at, take-at}
-use borrow.Author.Tests.{eq-eqb}
+use lib.ListN.{length, getD, take}
+use lib.Seq.{append-snoc}
+use Rattle.zvt_rules.specs.Fields.{Field}
+use Rattle.desk_rules.specs.declared.Kind.{Kind}
+use Rattle.desk_rules.specs.declared.Outcome.{Outcome}
 use Rattle.desk_rules.specs.declared.Lane.{Lane}
 use Rattle.desk_rules.specs.declared.Line.{Line}
-use Rattle.desk_rules.specs.Kinds.{booked}
-use Rattle.zvt_rules.specs.Reading.{pick}
+use Rattle.desk_rules.specs.Openings.{kindOf}
 use Rattle.desk_rules.specs.Lanes.{blankLine, idleLane, placeTaken}
-use Rattle.desk_rules.specs.Course.{Call}
-use Rattle.desk_rules.specs.Desk.{fresh, Accepted, run}
-use Rattle.desk_rules.specs.Runs.{callsOf, Own, ownOf, total, oneOpened, openings}
-use Rattle.desk_rules.specs.Payments.{paymentsOf, flattened, oneByOne, NoneOpens, Begins, WholePayment, askedLane, pays, paying, lineOf, linesOf, LaneSays}
-use Rattle.desk_rules.proofs.Lanes.{total-append, not-opened, asked-kind, places-total}
+use Rattle.desk_rules.specs.Course.{Call, message, opens, needsPlace}
+use Rattle.desk_rules.specs.Desk.{fresh, laneAt, Accepted, run}
+use Rattle.desk_rules.specs.Runs.{callsOf, total, openings}
+use Rattle.desk_rules.specs.Payments.{paymentsOf, flattened, oneByOne}
+use Rattle.desk_rules.specs.believed.Due.{Ended, not-taken, aborted, cut, approved, differs, other-code, no-status, Open, Due, LaneIs, idle, busy}
+use Rattle.desk_rules.proofs.Lanes.{total-append, opened-one, not-opened, places-total}
 use Rattle.desk_rules.proofs.Runs.{count}
-use Rattle.desk_rules.proofs.Kept.{Blocks, Kept, kept-lines, kept}
+use Rattle.desk_rules.proofs.Due.{lane-local, due-same, lane-same}
+use Rattle.desk_rules.proofs.Payment.{phase-busy}
+use Rattle.desk_rules.proofs.Kept.{every-kind, Blocks, kept}
 
-pub book : (cs : List Call) → Accepted fresh cs → run fresh cs .lines ≡ linesOf [] (paying (paymentsOf cs .ended))
-book cs h = kept-lines (kept cs h)
+-- ---- line j is due for payment j
 
--- each lane is what the calls of its open payment make of it
-pub lane-of-open : (cs : List Call) → Accepted fresh cs → (k : ℕ) → LaneSays k (ownOf k (run fresh cs)) (getD (paymentsOf cs .ongoing) k [])
-lane-of-open cs h k = kept cs h .each k .says
+lines-many : (ls : List Line) (ps : List (List Call)) (xs : List Line) → Blocks ls ps xs → length ps ≡ length xs
+unfolding Blocks
+lines-many ls [] [] b = refl
+lines-many ls [] (x ∷ xs) b = absurd b
+lines-many ls (p ∷ ps) [] b = absurd b
+lines-many ls (p ∷ ps) (x ∷ xs) b = ap suc (lines-many _ ps xs (b .1))
 
--- ---- line j is made by payment j, of those that take a place in the book
+due-at : (ls : List Line) (ps : List (List Call)) (xs : List Line) → Blocks ls ps xs → (j : ℕ) → j < length xs
+    → Due (ls ++ take j xs) (getD ps j []) (getD xs j blankLine)
+unfolding Blocks
+due-at ls [] [] b j h = absurd (omega arith)
+due-at ls [] (x ∷ xs) b j h = absurd b
+due-at ls (p ∷ ps) [] b j h = absurd b
+due-at ls (p ∷ ps) (x ∷ xs) b zero h = rw append-nil (b .0 .due)
+due-at ls (p ∷ ps) (x ∷ xs) b (suc j) h = rw append-snoc at (due-at (ls ++ (x ∷ [])) ps xs (b .1) j (omega arith))
 
-pub lines-length : (ls : List Line) (ps : List (List Call)) → length (linesOf ls ps) ≡ length ls + length ps
-unfolding linesOf
-lines-length ls [] = omega arith
-lines-length ls (p ∷ ps) = omega (arith, lines-length (ls ++ (lineOf ls p ∷ [])) ps, length-append ls (lineOf ls p ∷ []))
+-- ---- a payment begins with its opening, and has no other
 
-lines-grow : (ls : List Line) (ps : List (List Call)) → (more : List Line) × (linesOf ls ps ≡ ls ++ more)
-unfolding linesOf
-lines-grow ls [] = ([], sym (append-nil ls))
-lines-grow ls (p ∷ ps) = let g = lines-grow (ls ++ (lineOf ls p ∷ [])) ps in (lineOf ls p ∷ g .0, g .1 ∙ append-snoc ls (lineOf ls p) (g .0))
+unfoldable pub NoneOpens : List Call → Type 0
+NoneOpens [] = Unit {0}
+NoneOpens (c ∷ cs) = (opens c ≡ false) × NoneOpens cs
 
-line-at : (ls : List Line) (ps : List (List Call)) (j n : ℕ) → length ls + j ≡ n → j < length ps
-    → getD (linesOf ls ps) n blankLine ≡ lineOf (take n (linesOf ls ps)) (getD ps j [])
-unfolding linesOf
-line-at ls [] j n e h = absurd (omega arith)
-line-at ls (p ∷ ps) zero n e h =
-    let x = lineOf ls p in
-    let g = lines-grow (ls ++ (x ∷ [])) ps in
-    let f : length ls ≡ n = omega arith in
-    rw (g .1, append-snoc ls x (g .0), getD-at ls x (g .0) blankLine n f, take-at ls (x ∷ g .0) n f)
-line-at ls (p ∷ ps) (suc j) n e h = line-at (ls ++ (lineOf ls p ∷ [])) ps j n (omega (arith, length-append ls (lineOf ls p ∷ []))) (omega arith)
+unfoldable pub Begins : List Call → Type 0
+Begins [] = ⊥
+Begins (o ∷ ds) = (needsPlace o ≡ true) × (opens o ≡ true) × NoneOpens ds
 
-pub line-of : (cs : List Call) → Accepted fresh cs → (j : ℕ) → j < length (run fresh cs .lines)
-    → getD (run fresh cs .lines) j blankLine ≡ lineOf (take j (run fresh cs .lines)) (getD (paying (paymentsOf cs .ended)) j [])
-line-of cs h j l =
-    let e = book cs h in
-    let ps = paying (paymentsOf cs .ended) in
-    rw e (line-at [] ps j j (omega arith) (omega (arith, ap length e, lines-length [] ps)))
+ended-none : {i a s code : ℕ} {k : Kind} {fs : List Field} {c : Call} {o : Outcome} → Ended i k a fs c o s code → opens c ≡ false
+unfolding opens
+ended-none (not-taken h) = refl
+ended-none (aborted h) = refl
+ended-none cut = refl
+ended-none (approved h z t r) = refl
+ended-none (differs h z t r d) = refl
+ended-none (other-code h z d) = refl
+ended-none (no-status h m) = refl
 
--- ---- every opening begins one payment
+told-none : (i : ℕ) (ss : List (List ℕ)) (cs : List Call) → NoneOpens cs → NoneOpens (map (message i) ss ++ cs)
+unfolding NoneOpens opens
+told-none i [] cs n = n
+told-none i (s ∷ ss) cs n = (refl, told-none i ss cs n)
 
--- 1 for a payment that takes a place in the book
-abbrev pub paid : List Call → ℕ
-paid p = pick (pays p) 1 0
+open-begins : {i a n : ℕ} {ls : List Line} {q : List Call} {k : Kind} {ss : List (List ℕ)} {fs : List Field} (cs : List Call)
+    → Open i ls q k a n ss fs → NoneOpens cs → Begins (q ++ cs)
+unfolding Begins opens needsPlace
+open-begins {i} {ss = ss} cs x n = rw (x .in-order) (every-kind (kindOf (x .first)), refl, told-none i ss cs n)
+
+pub due-begins : {ls : List Line} {p : List Call} {x : Line} → Due ls p x → Begins p
+unfolding NoneOpens
+due-begins d = rw (d .in-order) (open-begins (d .last ∷ []) (d .its) (ended-none (d .ended), tt))
+
+lane-begins : {k : ℕ} {ls : List Line} {q : List Call} {l : Lane} → LaneIs k ls q l → ((q ≡ []) × (placeTaken l ≡ 0)) ⊎ (Begins q × (placeTaken l ≡ 1))
+unfolding NoneOpens placeTaken
+lane-begins idle = inl (refl, refl)
+lane-begins {q = q} {l = l} (busy x p s) = inr (rw append-nil at (open-begins [] x tt), rw (phase-busy p, every-kind (l .kind)))
+
+-- ---- how many are opened
 
 none-opened : (cs : List Call) → NoneOpens cs → openings cs ≡ 0
 unfolding NoneOpens total
 none-opened [] h = refl
 none-opened (c ∷ cs) h = omega (arith, not-opened c (h .0), none-opened cs (h .1))
 
-begins-one : (p : List Call) → Begins p → openings p ≡ paid p
-unfolding Begins pays total oneOpened
+begins-one : (p : List Call) → Begins p → openings p ≡ 1
+unfolding Begins total
 begins-one [] h = absurd h
-begins-one (o ∷ ds) h = omega (arith, none-opened ds (h .1))
+begins-one (o ∷ ds) h = omega (arith, opened-one o (h .0), none-opened ds (h .2))
 
-says-one : (k : ℕ) (w : Own) (q : List Call) → LaneSays k w q → (openings q ≡ paid q) × (paid q ≡ placeTaken (w .lane))
-unfolding LaneSays Begins askedLane pays total placeTaken
-says-one k w [] h = (refl, rw h)
-says-one k w (o ∷ ds) h = (
-  begins-one (o ∷ ds) (h .1),
-  rw (h .2, ap (λ (l : Lane). booked (l .kind)) (h .3), asked-kind (w .lines) o (h .1 .0)),
-)
+lane-one : {k : ℕ} {ls : List Line} {q : List Call} {l : Lane} → LaneIs k ls q l → openings q ≡ placeTaken l
+unfolding total
+lane-one {q = q} s = ⊎-elim (λ n. rw (n .0) (sym (n .1))) (λ b. begins-one q (b .0) ∙ sym (b .1)) (lane-begins s)
+
+openings-joined : (ps : List (List Call)) → openings (flattened ps) ≡ total openings ps
+unfolding flattened total
+openings-joined [] = refl
+openings-joined (p ∷ ps) = rw (total-append, openings-joined ps)
+
+blocks-count : (ls : List Line) (ps : List (List Call)) (xs : List Line) → Blocks ls ps xs → total openings ps ≡ length xs
+unfolding Blocks total
+blocks-count ls [] [] b = refl
+blocks-count ls [] (x ∷ xs) b = absurd b
+blocks-count ls (p ∷ ps) [] b = absurd b
+blocks-count ls (p ∷ ps) (x ∷ xs) b = omega (arith, begins-one p (due-begins (b .0 .due)), blocks-count _ ps xs (b .1))
 
 total-alike : {A B : Type 0} (f : A → ℕ) (g : B → ℕ) (d : A) (e : B) (xs : List A) (ys : List B)
     → length xs ≡ length ys → ((k : ℕ) → f (getD xs k d) ≡ g (getD ys k e))
@@ -91,87 +120,52 @@ total-alike f g d e [] (y ∷ ys) l h = absurd (omega arith)
 total-alike f g d e (x ∷ xs) [] l h = absurd (omega arith)
 total-alike f g d e (x ∷ xs) (y ∷ ys) l h = omega (arith, h 0, total-alike f g d e xs ys (omega arith) (λ k. h (suc k)))
 
-openings-joined : (ps : List (List Call)) → openings (flattened ps) ≡ total openings ps
-unfolding flattened total
-openings-joined [] = refl
-openings-joined (p ∷ ps) = rw (total-append, openings-joined ps)
+-- ---- a run of accepted calls
 
-paying-count : (ps : List (List Call)) → length (paying ps) ≡ total paid ps
-unfolding paying total
-paying-count [] = refl
-paying-count (p ∷ ps) = go (pays p) (paying-count ps)
-  where
-    go : (b : Bool) → length (paying ps) ≡ total paid ps → length (pick b (p ∷ paying ps) (paying ps)) ≡ pick b 1 0 + total paid ps
-    go true e = omega arith
-    go false e = omega arith
+module _ (cs : List Call) (h : Accepted fresh cs) where
+  abbrev lines : List Line
+  lines = run fresh cs .lines
 
-blocks-count : (ls : List Line) (ps : List (List Call)) → Blocks ls ps → total openings ps ≡ total paid ps
-unfolding Blocks total
-blocks-count ls [] b = refl
-blocks-count ls (p ∷ ps) b = omega (arith, begins-one p (b .0 .begins), blocks-count _ ps (b .1))
+  abbrev ended : List (List Call)
+  ended = paymentsOf cs .ended
 
-blocks-whole : (ls : List Line) (ps : List (List Call)) → Blocks ls ps → (j : ℕ) → j < length ps → WholePayment (getD ps j [])
-unfolding Blocks
-blocks-whole ls [] b j h = absurd (omega arith)
-blocks-whole ls (p ∷ ps) b zero h = let x = b .0 in (x .lane, x .small, x .its (x .lane) ∙ rw (eq-eqb (x .lane) (x .lane) refl), x .begins)
-blocks-whole ls (p ∷ ps) b (suc j) h = blocks-whole _ ps (b .1) j (omega arith)
+  abbrev ongoing : List (List Call)
+  ongoing = paymentsOf cs .ongoing
 
--- what holds of every payment holds of those that take a place
-paying-all : (P : List Call → Type 0) (ps : List (List Call)) → ((j : ℕ) → j < length ps → P (getD ps j []))
-    → (j : ℕ) → j < length (paying ps) → P (getD (paying ps) j [])
-unfolding paying
-paying-all P [] h j l = absurd (omega arith)
-paying-all P (p ∷ ps) h j l = go (pays p) (paying-all P ps (λ k m. h (suc k) (omega arith))) j l
-  where
-    go : (b : Bool) → ((k : ℕ) → k < length (paying ps) → P (getD (paying ps) k [])) → (j : ℕ) → j < length (pick b (p ∷ paying ps) (paying ps))
-        → P (getD (pick b (p ∷ paying ps) (paying ps)) j [])
-    go true ih zero l = h 0 (omega arith)
-    go true ih (suc j) l = ih j (omega arith)
-    go false ih j l = ih j l
+  -- line j of the book is l exactly when l is due for payment j
+  pub line-due : (j : ℕ) → j < length lines → (l : Line) → (getD lines j blankLine ≡ l) ↔ Due (take j lines) (getD ended j []) l
+  line-due j small l = let d = due-at [] ended lines (kept cs h .blocks) j small in (λ e. subst (Due (take j lines) (getD ended j [])) e d, due-same d)
 
-says-begins : (k : ℕ) (w : Own) (q : List Call) → LaneSays k w q → (q ≡ []) ⊎ Begins q
-unfolding LaneSays
-says-begins k w [] h = inl refl
-says-begins k w (o ∷ ds) h = inr (h .1)
+  -- and there are as many lines as payments that ended
+  pub lines-ended : length ended ≡ length lines
+  lines-ended = lines-many [] ended lines (kept cs h .blocks)
 
--- the payments of a run: each begins with its one opening, and lane by lane their calls are those of the run; those that take a
--- place in the book, ended or ongoing, are as many as were opened
-pub record Paid (cs : List Call) : Type 0 where
-  pub number : length (paying (paymentsOf cs .ended)) + total paid (paymentsOf cs .ongoing) ≡ openings cs
-  pub ended : (j : ℕ) → j < length (paymentsOf cs .ended) → WholePayment (getD (paymentsOf cs .ended) j [])
-  pub booked : (j : ℕ) → j < length (paying (paymentsOf cs .ended)) → WholePayment (getD (paying (paymentsOf cs .ended)) j [])
-  pub ongoing : (k : ℕ) → (getD (paymentsOf cs .ongoing) k [] ≡ []) ⊎ Begins (getD (paymentsOf cs .ongoing) k [])
-  pub calls : (k : ℕ) → callsOf k cs ≡ callsOf k (flattened (paymentsOf cs .ended)) ++ getD (paymentsOf cs .ongoing) k []
+  lane-there : (k : ℕ) → LaneIs k lines (getD ongoing k []) (laneAt (run fresh cs .lanes) k)
+  lane-there k = lane-local lines (kept cs h .each k .says)
 
-pub every-opening : (cs : List Call) → Accepted fresh cs → Paid cs
-every-opening cs h =
-    record {
-      number = omega (arith, count cs h .0, ap length (kept-lines k), lines-length [] (paying (paymentsOf cs .ended)), paid-places, places-total (run fresh cs .lanes));
-      ended = blocks-whole [] (paymentsOf cs .ended) (k .blocks);
-      booked = paying-all WholePayment (paymentsOf cs .ended) (blocks-whole [] (paymentsOf cs .ended) (k .blocks));
-      ongoing = λ i. says-begins i _ _ (k .each i .says);
-      calls = k .calls;
-    }
-  where
-    k : Kept (run fresh cs) (paymentsOf cs) cs
-    k = kept cs h
+  -- each lane is l exactly when the calls of its open payment say so
+  pub lane-due : (k : ℕ) (l : Lane) → (laneAt (run fresh cs .lanes) k ≡ l) ↔ LaneIs k lines (getD ongoing k []) l
+  lane-due k l = (λ e. subst (LaneIs k lines (getD ongoing k [])) e (lane-there k), lane-same (lane-there k))
 
-    paid-places : total paid (paymentsOf cs .ongoing) ≡ total placeTaken (run fresh cs .lanes)
-    paid-places = total-alike paid placeTaken [] idleLane _ _ (k .slots ∙ sym (k .lanes)) λ i. says-one i _ _ (k .each i .says) .1
+  -- payments begin with their one opening, and lane by lane their calls are those of the run
+  pub ended-begin : (j : ℕ) → j < length ended → Begins (getD ended j [])
+  ended-begin j small = due-begins (due-at [] ended lines (kept cs h .blocks) j (omega (arith, lines-ended)))
 
-pub openings-same : (cs : List Call) → Accepted fresh cs → openings (oneByOne cs) ≡ openings cs
-unfolding oneByOne
-openings-same cs h =
-    let k = kept cs h in
-    let ended = paymentsOf cs .ended in
-    let ongoing = paymentsOf cs .ongoing in
-    rw total-append (omega (
-      arith,
-      openings-joined ended,
-      openings-joined ongoing,
-      blocks-count [] ended (k .blocks),
-      paying-count ended,
-      total-alike openings paid [] [] ongoing ongoing refl
-          (λ i. says-one i _ _ (k .each i .says) .0),
-      every-opening cs h .number,
-    ))
+  pub ongoing-begin : (k : ℕ) → (getD ongoing k [] ≡ []) ⊎ Begins (getD ongoing k [])
+  ongoing-begin k = ⊎-elim (λ n. inl (n .0)) (λ b. inr (b .0)) (lane-begins (lane-there k))
+
+  pub payments-calls : (k : ℕ) → callsOf k cs ≡ callsOf k (flattened ended) ++ getD ongoing k []
+  payments-calls = kept cs h .calls
+
+  pub openings-same : openings (oneByOne cs) ≡ openings cs
+  unfolding oneByOne
+  openings-same =
+      rw total-append (omega (
+        arith,
+        openings-joined ended,
+        openings-joined ongoing,
+        blocks-count [] ended lines (kept cs h .blocks),
+        total-alike openings placeTaken [] idleLane ongoing (run fresh cs .lanes) (kept cs h .slots ∙ sym (kept cs h .lanes)) (λ k. lane-one (lane-there k)),
+        places-total (run fresh cs .lanes),
+        count cs h .0,
+      ))

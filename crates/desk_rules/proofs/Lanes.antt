@@ -17,13 +17,12 @@ use Rattle.desk_rules.specs.declared.Moved.the-variants.{Refused, Stays,
 use Rattle.desk_rules.specs.declared.Reference.{Reference}
 use Rattle.desk_rules.specs.Numbers.{laneCount, bookLines}
 use Rattle.desk_rules.specs.Kinds.{booked, isIdle}
-use Rattle.desk_rules.specs.Lanes.{noStatus, idleLane, runningLane, lineAt, placeTaken}
-use Rattle.desk_rules.specs.Openings.{refersTo, concerns, lastFrom, lastLine, openedLane}
-use Rattle.desk_rules.specs.Course.{openedBy, Call, opening, message, lost, laneOf, opens, needsPlace, moves, writes}
+use Rattle.desk_rules.specs.Lanes.{idleLane, lineAt, placeTaken}
+use Rattle.desk_rules.specs.Openings.{refersTo, concerns, lastFrom, lastLine}
+use Rattle.desk_rules.specs.Course.{heard, lostBy, openedBy, Call, opening, message, lost, laneOf, opens, needsPlace, moves, writes}
 use Rattle.desk_rules.specs.Desk.{State, laneAt, placesTaken, load, Decision, refuse, accept, unlessRefused, decide, laneAfter, lineIf, linesFrom, step, Accepts}
 use Rattle.desk_rules.specs.Runs.{having, ofLane, Own, ownOf, total, oneOpened}
-use Rattle.desk_rules.specs.Payments.{askOf, askedLane}
-use Rattle.desk_rules.proofs.Calls.{Passes, opened, Later, later}
+use Rattle.desk_rules.proofs.Calls.{Passes, opened, Heeds, Later, later}
 
 -- ---- lists: the elements with a number, and sums
 
@@ -45,7 +44,7 @@ total-set f (y ∷ xs) (suc i) x d h = omega (arith, total-set f xs i x d (omega
 
 -- ---- a call depends on its lane's own lines
 
-last-local : (i : ℕ) (r : Reference) (last : Line) (ls : List Line) → lastFrom i r last ls ≡ lastFrom i r last (ofLane i ls)
+pub last-local : (i : ℕ) (r : Reference) (last : Line) (ls : List Line) → lastFrom i r last ls ≡ lastFrom i r last (ofLane i ls)
 unfolding lastFrom having concerns
 last-local i r last [] = refl
 last-local i r last (l ∷ ls) = go (eqb (l .lane) i) refl (λ x. last-local i r x ls)
@@ -54,12 +53,6 @@ last-local i r last (l ∷ ls) = go (eqb (l .lane) i) refl (λ x. last-local i r
         → lastFrom i r (pick (concerns i r l) l last) ls ≡ lastFrom i r last (pick b (l ∷ ofLane i ls) (ofLane i ls))
     go true e ih = ih _
     go false e ih = rw e (ih last)
-
-pub ask-local : (ls : List Line) (c : Call) → askOf ls c ≡ askOf (ofLane (laneOf c) ls) c
-unfolding askOf laneOf lastLine
-ask-local ls (opening i o) = ap (openedLane o) (last-local i (refersTo o) _ ls)
-ask-local ls (message i s) = refl
-ask-local ls (lost i) = refl
 
 pub moves-local : (l : Lane) (ls : List Line) (c : Call) → moves l ls c ≡ moves l (ofLane (laneOf c) ls) c
 unfolding moves laneOf lastLine
@@ -191,52 +184,38 @@ pub opened-one : (c : Call) → needsPlace c ≡ true → oneOpened c ≡ 1
 unfolding oneOpened
 opened-one c e = rw e
 
--- only an opening needs a place, and the lane that it opens takes it
+-- only an opening needs a place
 pub not-opened : (c : Call) → opens c ≡ false → oneOpened c ≡ 0
 unfolding opens oneOpened needsPlace
 not-opened (opening i o) e = let z : _≡_ {A = ℕ} 0 1 = cc in absurd (omega arith)
 not-opened (message i s) e = refl
 not-opened (lost i) e = refl
 
-pub asked-kind : (ls : List Line) (c : Call) → opens c ≡ true → booked (askOf ls c .kind) ≡ needsPlace c
-unfolding opens askOf needsPlace
-asked-kind ls (opening i o) e = refl
-asked-kind ls (message i s) e = let z : _≡_ {A = ℕ} 0 1 = cc in absurd (omega arith)
-asked-kind ls (lost i) e = let z : _≡_ {A = ℕ} 0 1 = cc in absurd (omega arith)
-
--- it is open, with nothing remembered
-pub asked-open : (ls : List Line) (c : Call) → opens c ≡ true
-    → (isIdle (askOf ls c .phase) ≡ false) × (runningLane (askOf ls c) ≡ askedLane (askOf ls c) noStatus)
-unfolding opens askOf askedLane
-asked-open ls (opening i o) e = (refl, refl)
-asked-open ls (message i s) e = let z : _≡_ {A = ℕ} 0 1 = cc in absurd (omega arith)
-asked-open ls (lost i) e = let z : _≡_ {A = ℕ} 0 1 = cc in absurd (omega arith)
-
-pub asked-place : (ls : List Line) (c : Call) → opens c ≡ true → placeTaken (askOf ls c) ≡ oneOpened c
-unfolding opens askOf placeTaken oneOpened needsPlace
-asked-place ls (opening i o) e = refl
-asked-place ls (message i s) e = let z : _≡_ {A = ℕ} 0 1 = cc in absurd (omega arith)
-asked-place ls (lost i) e = let z : _≡_ {A = ℕ} 0 1 = cc in absurd (omega arith)
-
 line-count : (b : Bool) (x : Line) → length (lineIf b x) ≡ pick b 1 0
 line-count true x = refl
 line-count false x = refl
 
+heeds-place : (l : Lane) (c : Call) (n : Lane) → isIdle (l .phase) ≡ false → Heeds l c n → placeTaken n ≡ placeTaken l
+unfolding placeTaken
+heeds-place l (opening i o) n e f = absurd f
+heeds-place l (message i s) n e f = rw (e, f)
+heeds-place l (lost i) n e f = absurd f
+
 -- places are kept: an opening takes one, and an end passes it on to its line
+then-kept : (i : ℕ) (l : Lane) (c : Call) (m : Moved) → isIdle (l .phase) ≡ false → Later l c m
+    → placeTaken (laneAfter l m) + length (linesFrom i l m) ≡ placeTaken l + 0
+unfolding laneAfter linesFrom placeTaken
+then-kept i l c (Refused r) e f = absurd f
+then-kept i l c Stays e f = refl
+then-kept i l c (Becomes n) e f = omega (arith, heeds-place l c n e f)
+then-kept i l c (Ends outcome settled code) e f = rw (e, line-count) (omega arith)
+
 pub kept : (i : ℕ) (l : Lane) (ls : List Line) (c : Call) → Passes (moves l ls c)
     → placeTaken (laneAfter l (moves l ls c)) + length (linesFrom i l (moves l ls c)) ≡ placeTaken l + oneOpened c
-unfolding laneAfter linesFrom placeTaken
-kept i l ls c h = go (opens c) refl
-  where
-    then : (m : Moved) → isIdle (l .phase) ≡ false → Later l c m → placeTaken (laneAfter l m) + length (linesFrom i l m) ≡ placeTaken l + 0
-    then (Refused r) e f = absurd f
-    then Stays e f = refl
-    then (Becomes n) e f = rw (e, f .0, ap (λ (x : Lane). booked (x .kind)) (f .1))
-    then (Ends outcome settled code) e f = rw (e, line-count) (omega arith)
-
-    go : (b : Bool) → opens c ≡ b → placeTaken (laneAfter l (moves l ls c)) + length (linesFrom i l (moves l ls c)) ≡ placeTaken l + oneOpened c
-    go true e = let o = opened l ls c e h in rw (o .1, o .0) (omega (arith, asked-place ls c e))
-    go false e = let t = later l ls c e h in rw (not-opened c e) (then (moves l ls c) (t .0) (t .1))
+unfolding laneAfter linesFrom placeTaken moves oneOpened needsPlace opens
+kept i l ls (opening j o) h = let t = opened l o (lastLine j (refersTo o) ls) h in rw (t .2, t .0) (omega arith)
+kept i l ls (message j s) h = let t = later l ls (message j s) refl h in then-kept i l (message j s) (heard l s) (t .0) (t .1)
+kept i l ls (lost j) h = let t = later l ls (lost j) refl h in then-kept i l (lost j) (lostBy l) (t .0) (t .1)
 
 pub lanes-step : (s : State) (c : Call) → length (step s c .lanes) ≡ length (s .lanes)
 unfolding step

@@ -5,7 +5,7 @@ use mathlib.Core.List.{List, [], _∷_, _++_, append-nil, append-assoc}
 use Prim.Native.Nat.{ℕ, zero, suc}
 use native.Mathlib.Omega.{arith}
 use lib.ListN.{length, getD, length-append, List·getD-eq-default}
-use lib.Seq.{ext-getD}
+use lib.Seq.{append-snoc, ext-getD}
 use borrow.Author.Tests.{eq-eqb, ne-eqb}
 use Rattle.desk_rules.specs.declared.Lane.{Lane}
 use Rattle.desk_rules.specs.declared.Line.{Line}
@@ -17,8 +17,8 @@ use Rattle.desk_rules.specs.Runs.{having, callsOf, Own, ownOf}
 use Rattle.desk_rules.specs.Payments.{paymentsOf, flattened, oneByOne}
 use Rattle.desk_rules.proofs.Lanes.{having-append}
 use Rattle.desk_rules.proofs.Runs.{run-append, lanes-run, count, alone, AcceptedAlone, repliesTo, repliesAlone, run-alone, replies-alone, accepted-alone, accepted-from}
-use Rattle.desk_rules.proofs.Payment.{lineFrom, Brings, idle-again}
-use Rattle.desk_rules.proofs.Kept.{Blocks, bookOf, all-same, kept}
+use Rattle.desk_rules.proofs.Payment.{Brings, idle-again}
+use Rattle.desk_rules.proofs.Kept.{Blocks, all-same, kept}
 use Rattle.desk_rules.proofs.DayBook.{openings-same}
 
 -- ---- the calls of a lane are the same, in the same order
@@ -50,14 +50,16 @@ same-calls cs h k =
 -- ---- the lines are the same, in the same order
 
 -- ended payments one after the other bring their lines, and leave the lanes idle
-blocks-run : (ps : List (List Call)) (s : State) → length (s .lanes) ≡ laneCount → ((k : ℕ) → laneAt (s .lanes) k ≡ idleLane) → Blocks (s .lines) ps
-    → run s (flattened ps) ≡ record { lanes = s .lanes; lines = bookOf (s .lines) ps }
-unfolding flattened run bookOf Blocks Brings
-blocks-run [] s e idle b = refl
-blocks-run (p ∷ ps) s e idle b =
-    let x = b .0 in
-    rw (run-append s p (flattened ps), x .brings s (omega (arith, x .small)) (idle (x .lane)) refl, idle-again (s .lanes) (x .lane) (idle (x .lane)))
-    (blocks-run ps (record { lanes = s .lanes; lines = s .lines ++ lineFrom (s .lines) p }) e idle (b .1))
+blocks-run : (ps : List (List Call)) (xs : List Line) (s : State) → length (s .lanes) ≡ laneCount → ((k : ℕ) → laneAt (s .lanes) k ≡ idleLane)
+    → Blocks (s .lines) ps xs → run s (flattened ps) ≡ record { lanes = s .lanes; lines = s .lines ++ xs }
+unfolding flattened run Blocks Brings
+blocks-run [] [] s e idle b = ap (λ (ls : List Line). record { lanes = s .lanes; lines = ls }) (sym (append-nil (s .lines)))
+blocks-run [] (x ∷ xs) s e idle b = absurd b
+blocks-run (p ∷ ps) [] s e idle b = absurd b
+blocks-run (p ∷ ps) (x ∷ xs) s e idle b =
+    let k = b .0 in
+    rw (run-append s p (flattened ps), k .brings s (omega (arith, k .small)) (idle (k .lane)) refl, idle-again (s .lanes) (k .lane) (idle (k .lane)))
+    (rw append-snoc at (blocks-run ps xs (record { lanes = s .lanes; lines = s .lines ++ (x ∷ []) }) e idle (b .1)))
 
 lines-run : (s : State) (cs : List Call) → (more : List Line) × (run s cs .lines ≡ s .lines ++ more)
 unfolding run step
@@ -75,8 +77,8 @@ lines-one-by-one cs h =
     let p = paymentsOf cs in
     let g = lines-run (run fresh (flattened (p .ended))) (flattened (p .ongoing)) in (
       g .0,
-      rw (run-append fresh (flattened (p .ended)) (flattened (p .ongoing)), kept cs h .lines)
-          (g .1 ∙ ap (λ (s : State). s .lines ++ g .0) (blocks-run (p .ended) fresh refl (λ k. all-same laneCount k idleLane) (kept cs h .blocks))),
+      rw (run-append fresh (flattened (p .ended)) (flattened (p .ongoing)))
+          (g .1 ∙ ap (λ (s : State). s .lines ++ g .0) (blocks-run (p .ended) _ fresh refl (λ k. all-same laneCount k idleLane) (kept cs h .blocks))),
     )
 
 pub order : (cs : List Call) → Accepted fresh cs

@@ -1,42 +1,112 @@
--- A call is decided as one of its rows says, and as no other: the rows of refusal read both ways. Assumes nothing.
+-- A call is decided as its rows of refusal say, read both ways. Assumes nothing.
 use mathlib.Core.Path.{_≡_, refl, sym, ap, _∙_, subst}
-use mathlib.Core.Bool.{Bool, true, false, not, _&&_, _||_, false≢true}
-use mathlib.Core.Logic.{_↔_}
+use mathlib.Core.Bool.{Bool, true, false, not, _&&_, _||_, false≢true, and-eq-true-iff}
+use mathlib.Core.Logic.{_↔_, _⊎_, inl, inr, ⊎-elim, Iff·trans}
 use mathlib.Core.List.{List, [], _∷_}
-use Prim.Native.Nat.{ℕ, suc, _+_, _*_, _<_}
+use Prim.Native.Nat.{ℕ, _+_, _*_, _≤_, _<_}
 use native.Mathlib.Omega.{arith}
 use lib.ListN.{length}
 use lib.Dec.{ltb, leb, eqb}
-use borrow.Author.Tests.{lt-ltb, le-ltb, le-leb, lt-leb}
+use borrow.Author.Tests.{ltb-true, lt-ltb, le-ltb}
+use Rattle.zvt_rules.specs.declared.Fault.{Fault}
 use Rattle.zvt_rules.specs.declared.Status.{Status}
 use Rattle.zvt_rules.specs.declared.ToldCode.{ToldCode}
 use Rattle.zvt_rules.specs.declared.ToldCode.the-variants.{Missing, Code}
 use Rattle.zvt_rules.specs.Reading.{Reading, got, refused, pick, among}
 use Rattle.zvt_rules.specs.Message.{Heading, wholeHeader, Body, bytes, listed, Message, layoutOf, bodyOf, messageOf, readOf}
-use Rattle.zvt_rules.proofs.Readings.{got-same, then-got}
-use Rattle.zvt_rules.proofs.Tests.{pick-test, pick-same, pick-under, leb-test, eqb-test, and-test, or-test, between, case, no-for}
+use Rattle.zvt_rules.proofs.Readings.{got-same, got-not-refused, then-got}
+use Rattle.zvt_rules.proofs.Tests.{by-test, true-false, pick-test, pick-same, pick-under, leb-test, eqb-test, and-test, or-test, between, no-for}
+use Rattle.desk_rules.specs.declared.Kind.{Kind}
+use Rattle.desk_rules.specs.declared.Kind.the-variants.{Sale, Refund, Reversal}
 use Rattle.desk_rules.specs.declared.Phase.{Phase}
 use Rattle.desk_rules.specs.declared.Phase.the-variants.{Idle, Waiting, Running}
 use Rattle.desk_rules.specs.declared.Lane.{Lane}
+use Rattle.desk_rules.specs.declared.Line.{Line}
 use Rattle.desk_rules.specs.declared.Moved.{Moved}
 use Rattle.desk_rules.specs.declared.Opening.{Opening}
 use Rattle.desk_rules.specs.declared.Opening.the-variants.{Sale as sale, Refund as refund, Reversal as reversal}
-use Rattle.desk_rules.specs.declared.Reference.{Reference}
-use Rattle.desk_rules.specs.declared.Reference.the-variants.{Nothing, Sold}
 use Rattle.desk_rules.specs.Numbers.{laneCount, bookLines, mostAsked, mostReceipt, mostPassword}
 use Rattle.desk_rules.specs.Kinds.{isReversal, booked, isIdle}
-use Rattle.desk_rules.specs.Openings.{kindOf, withinLimits, refersTo, lastLine, stands, missingNo, commandSize}
+use Rattle.desk_rules.specs.Lanes.{placeTaken}
+use Rattle.desk_rules.specs.Openings.{kindOf, withinLimits, refersTo, lastLine, sold, stands, missingNo, commandSize}
 use Rattle.desk_rules.specs.Course.{runningPairs, pairIs, heardWaiting, completedBy, settledAs, abortedBy, reportedBy, movedBy, afterBody, heardRunning, heardBy, afterHeader, heard, lostBy, answered, openedBy, Call, opening, message, lost, laneOf, needsPlace, moves, writes}
-use Rattle.desk_rules.specs.Desk.{State, laneAt, load, Decision, refuse, accept, unlessRefused, decide}
-use Rattle.desk_rules.specs.Table.{phaseAt, Within, Stands, Lacks, no-sale, Ready, OneOf, Allowed, EmptyAbort, OpeningRow, no-lane, not-idle, outside, missing, full, tight, opened, HearingRow, is-idle, bad-header, not-allowed, bad-body, no-code, heard-waiting, heard-running, LosingRow, ended, Row}
+use Rattle.desk_rules.specs.Desk.{State, laneAt, placesTaken, load, Decision, refuse, accept, unlessRefused, decide}
+use Rattle.desk_rules.specs.declared.Reference.the-variants.{Sold}
+use Rattle.desk_rules.specs.believed.LastSale.{Named}
+use Rattle.desk_rules.specs.believed.Due.{Reads}
+use Rattle.desk_rules.specs.believed.Table.{Given, gives, refuses, phaseAt, openIn, openPayments, Within, Stands, needs, openingRows, OneOf, whileRunning, Allowed, hearingRows, losingRows, Row}
 use Rattle.desk_rules.proofs.Commands.{command-size}
-use Rattle.desk_rules.proofs.LastSale.{last-sale}
+use Rattle.desk_rules.proofs.NamedSale.{named-is, named-there}
+use Rattle.desk_rules.proofs.Calls.{plain-read}
+
+-- ---- rows, one by one
+
+-- a decision is the one that rows give, and no other is
+unfoldable Agrees : Decision → List (ℕ → Type 0) → Type 0
+Agrees x rows = (d : Decision) → (x ≡ d) ↔ Given rows d
+
+none-left : Agrees accept []
+unfolding Agrees Given
+none-left d = (λ e. sym e, λ e. sym e)
+
+-- a row that gives one number is the decision
+row-gives : (Gives : ℕ → Type 0) (rows : List (ℕ → Type 0)) (n : ℕ) → Gives n → ((m : ℕ) → Gives m → n ≡ m) → Agrees (refuse n) (Gives ∷ rows)
+unfolding Agrees Given
+row-gives Gives rows n g one d = (
+  λ e. inl (n, g, sym e),
+  ⊎-elim (λ k. ap refuse (one (k .0) (k .1)) ∙ sym (k .2)) (λ k. absurd (k .0 n g)),
+)
+
+-- one that gives none leaves it to those behind
+row-silent : (Gives : ℕ → Type 0) (rows : List (ℕ → Type 0)) (x : Decision) → ((n : ℕ) → Gives n → ⊥) → Agrees x rows → Agrees x (Gives ∷ rows)
+unfolding Agrees Given
+row-silent Gives rows x none a d = (
+  λ e. inr (none, a d .0 e),
+  ⊎-elim (λ k. absurd (none (k .0) (k .1))) (λ k. a d .1 (k .1)),
+)
+
+-- a row by a test: where it holds, or where it fails
+row-if : {P : Type 0} {t : Bool} (number : ℕ) (rows : List (ℕ → Type 0)) (x : Decision) → ((t ≡ true) ↔ P) → ((P → ⊥) → Agrees x rows)
+    → Agrees (pick t (refuse number) x) (gives number P ∷ rows)
+row-if {P} {t} number rows x test a = go t refl
+  where
+    go : (u : Bool) → t ≡ u → Agrees (pick u (refuse number) x) (gives number P ∷ rows)
+    go true e = row-gives (gives number P) rows number (test .0 e, refl) (λ m k. k .1)
+    go false e = let none : P → ⊥ = λ p. true-false (test .1 p) e in row-silent (gives number P) rows x (λ n k. none (k .0)) (a none)
+
+row-unless : {P Q : Type 0} {t : Bool} (number : ℕ) (rows : List (ℕ → Type 0)) (x : Decision) → ((t ≡ true) ↔ P) → ((P → ⊥) ↔ Q)
+    → (P → Agrees x rows) → Agrees (pick t x (refuse number)) (gives number Q ∷ rows)
+row-unless {P} {Q} {t} number rows x test not a = go t refl
+  where
+    go : (u : Bool) → t ≡ u → Agrees (pick u x (refuse number)) (gives number Q ∷ rows)
+    go true e = let p = test .0 e in row-silent (gives number Q) rows x (λ n k. not .1 (k .0) p) (a p)
+    go false e = row-gives (gives number Q) rows number (not .0 (λ p. true-false (test .1 p) e), refl) (λ m k. k .1)
+
+-- a row by a reading
+row-reading : {A : Type 0} (r : Reading A) (rows : List (ℕ → Type 0)) (say : Reading A → Decision)
+    → ((f : Fault) → say (refused f) ≡ refuse (f .number)) → ((a : A) → r ≡ got a → Agrees (say (got a)) rows)
+    → Agrees (say r) (refuses r ∷ rows)
+row-reading {A} r rows say stop on = go r refl
+  where
+    go : (x : Reading A) → r ≡ x → Agrees (say x) (refuses r ∷ rows)
+    go (refused f) e =
+        rw (stop f)
+        (row-gives (refuses r) rows (f .number) (f, e, refl) λ m k.
+        let same : f ≡ k .0 = cc (sym e ∙ k .1) in
+        ap (λ (g : Fault). g .number) same ∙ k .2)
+    go (got a) e = row-silent (refuses r) rows (say (got a)) (λ n k. got-not-refused (sym e ∙ k .1)) (on a e)
 
 -- ---- tests and what they say
-idle-test : (p : Phase) → (isIdle p ≡ true) ↔ (p ≡ Idle)
+pub idle-test : (p : Phase) → (isIdle p ≡ true) ↔ (p ≡ Idle)
 idle-test Idle = (λ e. refl, λ e. refl)
 idle-test Waiting = (λ e. absurd (false≢true e), λ e. cc)
 idle-test Running = (λ e. absurd (false≢true e), λ e. cc)
+
+ltb-test : (m n : ℕ) → (ltb m n ≡ true) ↔ (m < n)
+ltb-test m n = (ltb-true m n, lt-ltb m n)
+
+is-not : {P : Type 0} → (P → ⊥) ↔ (P → ⊥)
+is-not = (λ n. n, λ n. n)
 
 -- ---- opening
 
@@ -45,88 +115,61 @@ within-test (sale amount) = between amount mostAsked
 within-test (refund password amount) = and-test (leb-test password mostPassword) (between amount mostAsked)
 within-test (reversal password receipt) = and-test (leb-test password mostPassword) (between receipt mostReceipt)
 
+pub every-kind-booked : (k : Kind) → booked k ≡ true
+every-kind-booked Sale = refl
+every-kind-booked Refund = refl
+every-kind-booked Reversal = refl
+
+place-open : (p : Phase) (k : Kind) → pick (isIdle p) 0 (pick (booked k) 1 0) ≡ openIn p
+place-open Idle k = refl
+place-open Waiting k = rw (every-kind-booked k)
+place-open Running k = rw (every-kind-booked k)
+
+-- P3: "An open payment takes the place of the line that it will write."
+pub places-open : (ls : List Lane) → placesTaken ls ≡ openPayments ls
+unfolding placesTaken placeTaken openPayments
+places-open [] = refl
+places-open (l ∷ ls) = rw (place-open (l .phase) (l .kind), places-open ls)
+
+full-test : (s : State) (o : Opening) → (booked (kindOf o) && leb bookLines (load s) ≡ true) ↔ (64 ≤ length (s .lines) + openPayments (s .lanes))
+unfolding load
+full-test s o = rw (every-kind-booked (kindOf o), places-open (s .lanes)) (leb-test _ _)
+
+room-test : (o : Opening) (room : ℕ) → (ltb room (commandSize o) ≡ true) ↔ (room < needs o)
+room-test (sale amount) room = ltb-test _ _
+room-test (refund password amount) room = ltb-test _ _
+room-test (reversal password receipt) room = ltb-test _ _
+
 module _ (s : State) (i : ℕ) (o : Opening) (room : ℕ) where
-  -- the tests of an opening, one after the other; that of a reference stands aside
   few : Decision
   few = pick (booked (kindOf o) && leb bookLines (load s)) (refuse 18) (pick (ltb room (commandSize o)) (refuse 11) accept)
 
-  referred : Reference → Decision
-  referred r = pick (stands r (lastLine i r (s .lines))) few (refuse (missingNo r))
-
   decide-opening : decide s (opening i o) room
       ≡ pick (leb laneCount i) (refuse 12)
-      (pick (isIdle (phaseAt s i)) (pick (withinLimits o) (referred (refersTo o)) (refuse 16)) (refuse 13))
-  unfolding decide moves writes needsPlace laneOf openedBy referred few unlessRefused
+      (pick (isIdle (phaseAt s i))
+      (pick (withinLimits o) (pick (stands (refersTo o) (lastLine i (refersTo o) (s .lines))) few (refuse (missingNo (refersTo o)))) (refuse 16))
+      (refuse 13))
+  unfolding decide moves writes needsPlace laneOf openedBy few unlessRefused
   decide-opening = rw command-size (simp (pick-under (λ m. unlessRefused m few)))
 
-  stands-test : (r : Reference) → (stands r (lastLine i r (s .lines)) ≡ true) ↔ Stands i r (s .lines)
-  stands-test Nothing = (λ _. tt, λ _. refl)
-  stands-test (Sold receipt) = last-sale i receipt (s .lines)
+named-test : (i receipt : ℕ) (ls : List Line) → (sold (lastLine i (Sold receipt) ls) ≡ true) ↔ ((line : Line) × Named i receipt ls line)
+named-test i receipt ls = (λ e. (_, named-there i receipt ls e), λ k. let n = named-is i receipt ls (k .0) (k .1) in rw (n .0) (n .1))
 
-  stands-says : (r : Reference) → Stands i r (s .lines) → referred r ≡ few
-  unfolding referred
-  stands-says r h = rw (stands-test r .1 h)
+stands-agrees : (i : ℕ) (ls : List Line) (o : Opening) (rows : List (ℕ → Type 0)) (x : Decision) → Agrees x rows
+    → Agrees (pick (stands (refersTo o) (lastLine i (refersTo o) ls)) x (refuse (missingNo (refersTo o)))) (gives 17 (Stands i ls o → ⊥) ∷ rows)
+stands-agrees i ls (sale amount) rows x a = row-silent _ rows x (λ n k. k .0 tt) a
+stands-agrees i ls (refund password amount) rows x a = row-silent _ rows x (λ n k. k .0 tt) a
+stands-agrees i ls (reversal password receipt) rows x a = row-unless 17 rows x (named-test i receipt ls) is-not (λ _. a)
 
-  missing-says : {r : Reference} {number : ℕ} → Lacks i (s .lines) r number → referred r ≡ refuse number
-  unfolding referred
-  missing-says (no-sale receipt v) = rw (no-for (last-sale i receipt (s .lines)) v)
-
-  from-idle : i < laneCount → phaseAt s i ≡ Idle → Within o → decide s (opening i o) room ≡ referred (refersTo o)
-  from-idle l d w = decide-opening ∙ rw (lt-leb laneCount i l, idle-test (phaseAt s i) .1 d, within-test o .1 w)
-
-  room-left : Ready s i o → booked (kindOf o) && leb bookLines (load s) ≡ false
-  room-left y = go (booked (kindOf o)) (y .placed)
-    where
-      go : (b : Bool) → (b ≡ true → load s < bookLines) → b && leb bookLines (load s) ≡ false
-      go true h = lt-leb bookLines (load s) (h refl)
-      go false h = refl
-
-  ready-says : Ready s i o → decide s (opening i o) room ≡ pick (ltb room (commandSize o)) (refuse 11) accept
-  unfolding few
-  ready-says y = from-idle (y .lane) (y .idle) (y .within) ∙ stands-says (refersTo o) (y .stands) ∙ rw (room-left y)
-
-  opening-given : {d : Decision} → OpeningRow s i o room d → decide s (opening i o) room ≡ d
-  unfolding referred few unlessRefused
-  opening-given (no-lane k) = decide-opening ∙ rw (le-leb laneCount i k)
-  opening-given (not-idle l n) = decide-opening ∙ rw (lt-leb laneCount i l, no-for (idle-test (phaseAt s i)) n)
-  opening-given (outside l d w) = decide-opening ∙ rw (lt-leb laneCount i l, idle-test (phaseAt s i) .1 d, no-for (within-test o) w)
-  opening-given (missing l d w number v) = from-idle l d w ∙ missing-says v
-  opening-given (full l d w v b f) = from-idle l d w ∙ stands-says (refersTo o) v ∙ rw (b, le-leb bookLines (load s) f)
-  opening-given (tight y r) = ready-says y ∙ rw (lt-ltb room (commandSize o) r)
-  opening-given (opened y r) = ready-says y ∙ rw (le-ltb room (commandSize o) r)
-
-  put-opening : {d : Decision} → OpeningRow s i o room d → OpeningRow s i o room (decide s (opening i o) room)
-  put-opening r = rw (opening-given r) r
-
-  ready-found : Ready s i o → OpeningRow s i o room (decide s (opening i o) room)
-  ready-found y = case (leb-test (suc room) (commandSize o)) (λ r. put-opening (tight y r)) (λ r. put-opening (opened y (omega arith)))
-
-  stands-found : i < laneCount → phaseAt s i ≡ Idle → Within o → Stands i (refersTo o) (s .lines) → OpeningRow s i o room (decide s (opening i o) room)
-  stands-found l d w v = go (booked (kindOf o)) refl
-    where
-      ready : (booked (kindOf o) ≡ true → load s < bookLines) → Ready s i o
-      ready p = record { lane = l; idle = d; within = w; stands = v; placed = p }
-
-      go : (b : Bool) → booked (kindOf o) ≡ b → OpeningRow s i o room (decide s (opening i o) room)
-      go true b = case (leb-test bookLines (load s)) (λ f. put-opening (full l d w v b f)) (λ f. ready-found (ready (λ _. omega arith)))
-      go false b = ready-found (ready (λ e. absurd (false≢true (sym b ∙ e))))
-
-  what-misses : (r : Reference) → (Stands i r (s .lines) → ⊥) → (number : ℕ) × Lacks i (s .lines) r number
-  what-misses Nothing v = absurd (v tt)
-  what-misses (Sold receipt) v = (17, no-sale receipt v)
-
-  within-found : i < laneCount → phaseAt s i ≡ Idle → Within o → OpeningRow s i o room (decide s (opening i o) room)
-  within-found l d w =
-      case (stands-test (refersTo o)) (stands-found l d w)
-      (λ v. let m = what-misses (refersTo o) v in put-opening (missing l d w (m .0) (m .1)))
-
-  opening-found : OpeningRow s i o room (decide s (opening i o) room)
-  opening-found =
-      case (leb-test laneCount i) (λ k. put-opening (no-lane k)) λ k.
-      let l : i < laneCount = omega arith in
-      case (idle-test (phaseAt s i))
-      (λ d. case (within-test o) (within-found l d) (λ w. put-opening (outside l d w)))
-      (λ n. put-opening (not-idle l n))
+opening-agrees : (s : State) (i : ℕ) (o : Opening) (room : ℕ) → Agrees (decide s (opening i o) room) (openingRows s i o room)
+unfolding few
+opening-agrees s i o room =
+    rw (decide-opening s i o room)
+    (row-if 12 _ _ (leb-test 8 i) λ _.
+    row-unless 13 _ _ (idle-test (phaseAt s i)) is-not λ _.
+    row-unless 16 _ _ (within-test o) is-not λ _.
+    stands-agrees i (s .lines) o _ _
+    (row-if 18 _ _ (full-test s o) λ _. row-if 11 _ _ (room-test o room) λ _. none-left))
 
 -- ---- a message from the terminal
 
@@ -134,6 +177,23 @@ among-test : (ks : List ℕ) (x : ℕ) → (among ks x ≡ true) ↔ OneOf ks x
 unfolding among
 among-test [] x = (λ e. false≢true e, λ e. absurd e)
 among-test (k ∷ ks) x = or-test (eqb-test k x) (among-test ks x)
+
+-- all of a list are in another
+unfoldable allIn : List ℕ → List ℕ → Bool
+allIn [] js = true
+allIn (k ∷ ks) js = among js k && allIn ks js
+
+included : (ks js : List ℕ) (x : ℕ) → allIn ks js ≡ true → OneOf ks x → OneOf js x
+unfolding allIn
+included [] js x t o = absurd o
+included (k ∷ ks) js x t o =
+    let h = and-eq-true-iff (among js k) (allIn ks js) .0 t in
+    ⊎-elim (λ e. subst (OneOf js) e (among-test js k .0 (h .0))) (included ks js x (h .1)) o
+
+-- the six pairs, in whatever order
+pub pairs-test : (pair : ℕ) → (among runningPairs pair ≡ true) ↔ OneOf whileRunning pair
+unfolding allIn among
+pairs-test pair = Iff·trans (among-test runningPairs pair) (included runningPairs whileRunning pair refl, included whileRunning runningPairs pair refl)
 
 -- the tests of a pair in a phase that is not idle
 unfoldable allowedBy : Phase → Heading → Bool
@@ -146,7 +206,7 @@ unfolding allowedBy
 allowed-test Idle h = (λ e. false≢true e, λ e. absurd e)
 allowed-test Waiting h =
     and-test (eqb-test (h .size) 0) (or-test (and-test (eqb-test (h .class) 0x80) (eqb-test (h .instruction) 0x00)) (eqb-test (h .class) 0x84))
-allowed-test Running h = among-test _ _
+allowed-test Running h = pairs-test _
 
 waiting-says : (l : Lane) (h : Heading) (x : Decision) → unlessRefused (heardWaiting l h) x ≡ pick (allowedBy Waiting h) x (refuse 15)
 unfolding unlessRefused heardWaiting allowedBy
@@ -202,7 +262,7 @@ emptyAbort m = pairIs (m .class) (m .instruction) 0x06 0x1E && isEmpty (m .body)
 pair-test : (class instruction c i : ℕ) → (pairIs class instruction c i ≡ true) ↔ ((class ≡ c) × (instruction ≡ i))
 pair-test class instruction c i = and-test (eqb-test class c) (eqb-test instruction i)
 
-abort-test : (m : Message) → (emptyAbort m ≡ true) ↔ EmptyAbort m
+abort-test : (m : Message) → (emptyAbort m ≡ true) ↔ (((m .class ≡ 0x06) × (m .instruction ≡ 0x1E)) × (m .body ≡ bytes []))
 abort-test m = and-test (pair-test (m .class) (m .instruction) 0x06 0x1E) (empty-test (m .body))
 
 aborted-says : (x : Decision) (y : Body) (t : List ℕ) → y ≡ bytes t → unlessRefused (abortedBy y) x ≡ pick (isEmpty y) (refuse 1) x
@@ -230,119 +290,127 @@ moved-says b l m x e =
     aborted-says x (m .body) (t .0) (t .1) ∙ rw a)
     (λ a. pick-test P (pairIs class instruction 0x04 0x0F) (λ r. reported-goes l _ _ x ∙ rw a) (λ r. rw a)))
 
-busy : {p q : Phase} → p ≡ q → isIdle q ≡ false → p ≡ Idle → ⊥
-busy e f d = false≢true (sym f ∙ idle-test _ .1 (sym e ∙ d))
+-- bytes that are read as m are an abort without a code, by what m is
+abort-reads : (b : List ℕ) (m : Message) → readOf b ≡ got m → (emptyAbort m ≡ true) ↔ Reads b 0x06 0x1E (bytes [])
+abort-reads b m r = (
+  λ t. let k = abort-test m .0 t in record { long = m .long; whole = r ∙ rw (k .0 .0, k .0 .1, k .1) },
+  λ k.
+      let e = got-same (sym r ∙ k .whole) in
+      abort-test m .1 ((ap (λ (x : Message). x .class) e, ap (λ (x : Message). x .instruction) e), ap (λ (x : Message). x .body) e),
+)
 
-module _ (s : State) (i : ℕ) (b : List ℕ) (room : ℕ) where
-  -- what is decided where the lane does not refuse
-  said : Phase → Decision
-  said p = pick (ltb room (length (answered p))) (refuse 11) accept
+-- what is decided where the lane does not refuse
+replied : Phase → ℕ → Decision
+replied p room = pick (ltb room (length (answered p))) (refuse 11) accept
 
-  -- and where its phase allows the pair
+module _ (p : Phase) (l : Lane) (b : List ℕ) (room : ℕ) where
+  -- the rows behind the header's
+  bodyRows : List (ℕ → Type 0)
+  bodyRows = refuses (readOf b) ∷ gives 1 (Reads b 0x06 0x1E (bytes [])) ∷ gives 11 ((p ≡ Running) × (room < 3)) ∷ []
+
   further : Phase → Decision
   further Idle = accept
   further Waiting = accept
-  further Running = unlessRefused (afterBody (laneAt (s .lanes) i) (readOf b)) (said Running)
+  further Running = unlessRefused (afterBody l (readOf b)) (replied Running room)
 
-  -- the decision as far as the rows before say nothing
-  from-lane : i < laneCount → decide s (message i b) room ≡ unlessRefused (heard (laneAt (s .lanes) i) b) (said (phaseAt s i))
-  unfolding decide moves writes needsPlace laneOf said
-  from-lane l = rw (lt-leb laneCount i l)
+  allowed-says : (h : Heading) → (p ≡ Idle → ⊥) → unlessRefused (heardBy p l b h) (replied p room) ≡ pick (allowedBy p h) (further p) (refuse 15)
+  unfolding unlessRefused heardBy heardRunning allowedBy replied answered further
+  allowed-says h n = go p n
+    where
+      go : (q : Phase) → (q ≡ Idle → ⊥) → unlessRefused (heardBy q l b h) (replied q room) ≡ pick (allowedBy q h) (further q) (refuse 15)
+      go Idle n = absurd (n refl)
+      go Waiting n = waiting-says l h _ ∙ rw (le-ltb room 0 (omega arith))
+      go Running n = pick-under (λ m. unlessRefused m (replied Running room)) (allowedBy Running h) _ _
 
-  from-header : i < laneCount → (phaseAt s i ≡ Idle → ⊥)
-      → decide s (message i b) room ≡ unlessRefused (afterHeader (laneAt (s .lanes) i) b (wholeHeader b)) (said (phaseAt s i))
-  unfolding heard
-  from-header l n = from-lane l ∙ rw (no-for (idle-test (phaseAt s i)) n)
+  running-agrees : p ≡ Running → Agrees (further Running) bodyRows
+  unfolding further bodyRows afterBody unlessRefused replied answered
+  running-agrees e =
+      row-reading (readOf b) _ (λ r. unlessRefused (afterBody l r) (replied Running room)) (λ f. refl) λ m r.
+      rw (moved-says b l m (replied Running room) r)
+      (row-if 1 _ _ (abort-reads b m r) λ _. row-if 11 _ _ (λ t. (e, ltb-test room 3 .0 t), λ k. ltb-test room 3 .1 (k .1)) λ _. none-left)
 
-  allowed-says : (p : Phase) (h : Heading) → (p ≡ Idle → ⊥)
-      → unlessRefused (heardBy p (laneAt (s .lanes) i) b h) (said p) ≡ pick (allowedBy p h) (further p) (refuse 15)
-  unfolding unlessRefused heardBy heardRunning allowedBy said answered further
-  allowed-says Idle h n = absurd (n refl)
-  allowed-says Waiting h n = waiting-says _ h _ ∙ rw (le-ltb room 0 (omega arith))
-  allowed-says Running h n = pick-under (λ m. unlessRefused m (said Running)) (allowedBy Running h) _ _
+  -- what a waiting lane allows is read: its body is plain
+  waiting-agrees : (h : Heading) → p ≡ Waiting → wholeHeader b ≡ got h → Allowed Waiting h → Agrees accept bodyRows
+  unfolding bodyRows
+  waiting-agrees h e w a =
+      let r = plain-read b h w (either (a .1)) in
+      row-silent _ _ _ (λ n k. got-not-refused (sym r ∙ k .1))
+      (row-silent _ _ _ (λ n k. not-6 (either (a .1)) (ap (λ (x : Message). x .class) (got-same (sym r ∙ k .0 .whole))))
+      (row-silent _ _ _ (λ n k. waiting-runs (sym e ∙ k .0 .0)) none-left))
+    where
+      either : ((h .class ≡ 0x80) × (h .instruction ≡ 0x00)) ⊎ (h .class ≡ 0x84) → 0x80 ≤ h .class
+      either (inl k) = omega (arith, k .0)
+      either (inr k) = omega arith
 
-  from-phase : (h : Heading) → i < laneCount → (phaseAt s i ≡ Idle → ⊥) → wholeHeader b ≡ got h
-      → decide s (message i b) room ≡ pick (allowedBy (phaseAt s i) h) (further (phaseAt s i)) (refuse 15)
-  unfolding afterHeader
-  from-phase h l n e = from-header l n ∙ rw e (allowed-says (phaseAt s i) h n)
+      not-6 : 0x80 ≤ h .class → h .class ≡ 0x06 → ⊥
+      not-6 l e = omega arith
 
-  from-allowed : (p : Phase) (h : Heading) → i < laneCount → phaseAt s i ≡ p → isIdle p ≡ false → wholeHeader b ≡ got h → Allowed p h
-      → decide s (message i b) room ≡ further p
-  from-allowed p h l q n e a = from-phase h l (busy q n) e ∙ rw (q, allowed-test p h .1 a)
+      waiting-runs : Waiting ≡ Running → ⊥
+      waiting-runs e = let z : _≡_ {A = ℕ} 0 1 = cc in omega arith
 
-  from-body : (h : Heading) (m : Message) → i < laneCount → phaseAt s i ≡ Running → wholeHeader b ≡ got h → Allowed Running h → readOf b ≡ got m
-      → decide s (message i b) room ≡ pick (emptyAbort m) (refuse 1) (pick (ltb room 3) (refuse 11) accept)
-  unfolding further afterBody said answered
-  from-body h m l q e a r = from-allowed Running h l q refl e a ∙ rw r (moved-says b _ m _ r)
+  allowed-agrees : (h : Heading) → wholeHeader b ≡ got h → (q : Phase) → p ≡ q → Allowed q h → Agrees (further q) bodyRows
+  unfolding further
+  allowed-agrees h w Idle e a = absurd a
+  allowed-agrees h w Waiting e a = waiting-agrees h e w a
+  allowed-agrees h w Running e a = running-agrees e
 
-  hearing-given : {d : Decision} → HearingRow s i b room d → decide s (message i b) room ≡ d
-  unfolding decide unlessRefused heard afterHeader further afterBody laneOf
-  hearing-given (no-lane k) = rw (le-leb laneCount i k)
-  hearing-given (is-idle l d) = from-lane l ∙ rw (idle-test (phaseAt s i) .1 d)
-  hearing-given (bad-header n f l k e q) = from-header l k ∙ rw e (ap refuse q)
-  hearing-given (not-allowed h l k e a) = from-phase h l k e ∙ rw (no-for (allowed-test (phaseAt s i) h) a)
-  hearing-given (bad-body n h f l p e a r q) = from-allowed Running h l p refl e a ∙ rw r (ap refuse q)
-  hearing-given (no-code h m l p e a r k) = from-body h m l p e a r ∙ rw (abort-test m .1 k)
-  hearing-given (tight h m l p e a r k t) = from-body h m l p e a r ∙ rw (no-for (abort-test m) k, lt-ltb room 3 t)
-  hearing-given (heard-waiting h l p e a) = from-allowed Waiting h l p refl e a
-  hearing-given (heard-running h m l p e a r k t) = from-body h m l p e a r ∙ rw (no-for (abort-test m) k, le-ltb room 3 t)
+  header-agrees : (h : Heading) → (p ≡ Idle → ⊥) → wholeHeader b ≡ got h
+      → Agrees (unlessRefused (heardBy p l b h) (replied p room)) (gives 15 ((h : Heading) × (wholeHeader b ≡ got h) × (Allowed p h → ⊥)) ∷ bodyRows)
+  header-agrees h n w =
+      rw (allowed-says h n)
+      (row-unless 15 bodyRows _ (allowed-test p h)
+      (λ k. (h, w, k), λ k a. k .2 (subst (Allowed p) (got-same (sym w ∙ k .1)) a))
+      (allowed-agrees h w p refl))
 
-  put : {d : Decision} → HearingRow s i b room d → HearingRow s i b room (decide s (message i b) room)
-  put r = rw (hearing-given r) r
-
-  body-found : (h : Heading) → i < laneCount → phaseAt s i ≡ Running → wholeHeader b ≡ got h → Allowed Running h
-      → (x : Reading Message) → readOf b ≡ x → HearingRow s i b room (decide s (message i b) room)
-  body-found h l p e a (refused f) r = put (bad-body (f .number) h f l p e a r refl)
-  body-found h l p e a (got m) r =
-      case (abort-test m) (λ k. put (no-code h m l p e a r k)) λ k.
-      case (leb-test (suc room) 3) (λ t. put (tight h m l p e a r k t)) (λ t. put (heard-running h m l p e a r k (omega arith)))
-
-  phase-found : (h : Heading) → i < laneCount → (phaseAt s i ≡ Idle → ⊥) → wholeHeader b ≡ got h
-      → (p : Phase) → phaseAt s i ≡ p → Allowed p h → HearingRow s i b room (decide s (message i b) room)
-  phase-found h l n e Idle q a = absurd (n q)
-  phase-found h l n e Waiting q a = put (heard-waiting h l q e a)
-  phase-found h l n e Running q a = body-found h l q e a (readOf b) refl
-
-  header-found : i < laneCount → (phaseAt s i ≡ Idle → ⊥) → (x : Reading Heading) → wholeHeader b ≡ x
-      → HearingRow s i b room (decide s (message i b) room)
-  header-found l n (refused f) e = put (bad-header (f .number) f l n e refl)
-  header-found l n (got h) e =
-      case (allowed-test (phaseAt s i) h) (phase-found h l n e (phaseAt s i) refl) (λ a. put (not-allowed h l n e a))
-
-  hearing-found : HearingRow s i b room (decide s (message i b) room)
-  hearing-found =
-      case (leb-test laneCount i) (λ k. put (no-lane k)) λ k.
-      let l : i < laneCount = omega arith in
-      case (idle-test (phaseAt s i)) (λ d. put (is-idle l d)) (λ n. header-found l n (wholeHeader b) refl)
+hearing-agrees : (s : State) (i : ℕ) (b : List ℕ) (room : ℕ) → Agrees (decide s (message i b) room) (hearingRows s i b room)
+unfolding decide moves writes needsPlace laneOf heard unlessRefused afterHeader replied bodyRows
+hearing-agrees s i b room =
+    let l = laneAt (s .lanes) i in
+    row-if 12 _ _ (leb-test 8 i) λ _.
+    rw (pick-under (λ m. unlessRefused m (replied (l .phase) room)) (isIdle (l .phase)))
+    (row-if 14 _ _ (idle-test (l .phase)) λ n.
+    row-reading (wholeHeader b) _ (λ r. unlessRefused (afterHeader l b r) (replied (l .phase) room)) (λ f. refl) λ h w.
+    header-agrees (l .phase) l b room h n w)
 
 -- ---- a lost link
-
-module _ (s : State) (i room : ℕ) where
-  losing-given : {d : Decision} → LosingRow s i room d → decide s (lost i) room ≡ d
-  unfolding decide unlessRefused moves lostBy writes needsPlace laneOf
-  losing-given (no-lane k) = rw (le-leb laneCount i k)
-  losing-given (is-idle l d) = rw (lt-leb laneCount i l, idle-test (phaseAt s i) .1 d)
-  losing-given (ended l n) = rw (lt-leb laneCount i l, no-for (idle-test (phaseAt s i)) n, le-ltb room 0 (omega arith))
-
-  losing-found : LosingRow s i room (decide s (lost i) room)
-  losing-found =
-      case (leb-test laneCount i) (λ k. put (no-lane k)) λ k.
-      let l : i < laneCount = omega arith in
-      case (idle-test (phaseAt s i)) (λ d. put (is-idle l d)) (λ n. put (ended l n))
-    where
-      put : {d : Decision} → LosingRow s i room d → LosingRow s i room (decide s (lost i) room)
-      put r = rw (losing-given r) r
+losing-agrees : (s : State) (i room : ℕ) → Agrees (decide s (lost i) room) (losingRows s i)
+unfolding decide moves writes needsPlace laneOf lostBy unlessRefused
+losing-agrees s i room =
+    let p = laneAt (s .lanes) i .phase in
+    row-if 12 _ _ (leb-test 8 i) λ _.
+    rw (pick-under (λ m. unlessRefused m (pick (ltb room 0) (refuse 11) accept)) (isIdle p), le-ltb room 0 (omega arith))
+    (row-if 14 _ _ (idle-test p) λ _. none-left)
 
 -- ---- R30: "one is given exactly where its row holds and none before it there does"
-given : (s : State) (c : Call) (room : ℕ) {d : Decision} → Row s c room d → decide s c room ≡ d
-given s (opening i o) room = opening-given s i o room
-given s (message i b) room = hearing-given s i b room
-given s (lost i) room = losing-given s i room
-
-found : (s : State) (c : Call) (room : ℕ) → Row s c room (decide s c room)
-found s (opening i o) room = opening-found s i o room
-found s (message i b) room = hearing-found s i b room
-found s (lost i) room = losing-found s i room
-
 pub table : (s : State) (c : Call) (room : ℕ) (d : Decision) → (decide s c room ≡ d) ↔ Row s c room d
-table s c room d = (λ e. rw e at (found s c room), given s c room)
+unfolding Agrees
+table s (opening i o) room = opening-agrees s i o room
+table s (message i b) room = hearing-agrees s i b room
+table s (lost i) room = losing-agrees s i room
+
+-- no two of its rows give a call an answer
+pub one-row : (s : State) (c : Call) (room : ℕ) (d e : Decision) → Row s c room d → Row s c room e → d ≡ e
+one-row s c room d e h k = sym (table s c room d .1 h) ∙ table s c room e .1 k
+
+-- ---- what is accepted
+
+pub past : (Gives : ℕ → Type 0) (rows : List (ℕ → Type 0)) → Given (Gives ∷ rows) accept → ((n : ℕ) → Gives n → ⊥) × Given rows accept
+unfolding Given
+past Gives rows = ⊎-elim (λ k. let z : _≡_ {A = ℕ} 0 1 = cc (k .2) in absurd (omega arith)) (λ k. k)
+
+was-got : {A : Type 0} (r : Reading A) → ((n : ℕ) → refuses r n → ⊥) → (a : A) × (r ≡ got a)
+was-got (got a) h = (a, refl)
+was-got (refused f) h = absurd (h (f .number) (f, refl, refl))
+
+-- an opening has its numbers within their limits
+pub accepted-within : (s : State) (i : ℕ) (o : Opening) (room : ℕ) → decide s (opening i o) room ≡ accept → withinLimits o ≡ true
+accepted-within s i o room e =
+    let row = past _ _ (past _ _ (past _ _ (table s (opening i o) room accept .0 e) .1) .1) .0 in
+    by-test (withinLimits o) (λ t. t) (λ f. absurd (row 16 ((λ w. true-false (within-test o .1 w) f), refl)))
+
+-- an accepted message has a header and reads as a message
+pub accepted-reads : (s : State) (i : ℕ) (b : List ℕ) (room : ℕ) → decide s (message i b) room ≡ accept
+    → ((h : Heading) × (wholeHeader b ≡ got h)) × ((m : Message) × (readOf b ≡ got m))
+accepted-reads s i b room e =
+    let header = past _ _ (past _ _ (past _ _ (table s (message i b) room accept .0 e) .1) .1) in
+    (was-got (wholeHeader b) (header .0), was-got (readOf b) (past _ _ (past _ _ (header .1) .1) .0))

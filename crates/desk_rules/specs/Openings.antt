@@ -7,7 +7,7 @@ use lib.Dec.{eqb}
 use Rattle.zvt_rules.specs.Reading.{pick}
 use Rattle.zvt_rules.specs.Fields.{Field, plain}
 use Rattle.zvt_rules.specs.Message.{Message, listed}
-use Rattle.zvt_rules.specs.Writing.{messageBytes}
+use Rattle.zvt_rules.specs.believed.Writing.{messageBytes}
 use Rattle.zvt_rules.specs.Digits.{digitBytesOf}
 use Rattle.desk_rules.specs.declared.Kind.{Kind}
 use Rattle.desk_rules.specs.declared.Kind.the-variants.{Sale, Refund, Reversal}
