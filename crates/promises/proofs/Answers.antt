@@ -3,135 +3,201 @@ use mathlib.Core.Path.{_≡_, refl, sym, ap, _∙_}
 use mathlib.Core.Bool.{Bool, true, false, _&&_, false≢true, and-eq-true-iff}
 use mathlib.Core.Logic.{_↔_, _⊎_, inl, inr, ⊎-elim}
 use mathlib.Core.List.{List, [], _∷_}
-use Prim.Native.Nat.{ℕ, zero, suc, _<_}
+use Prim.Native.Nat.{ℕ, zero, suc, _<_, _≤_}
 use native.Mathlib.Omega.{arith}
 use lib.ListN.{length, take, drop}
 use lib.Seq.{take-at, drop-at}
-use Rattle.zvt_rules.specs.declared.Fault.{Fault}
-use Rattle.zvt_rules.specs.declared.Refusal.{Refusal}
-use Rattle.zvt_rules.specs.Reading.{Reading, got, refused}
-use Rattle.zvt_rules.specs.Message.{wholeHeader, readOf, firstOf}
-use Rattle.zvt_rules.specs.declared.HeaderAnswer.the-variants.{Refused as header-refused}
-use Rattle.zvt_rules.specs.declared.ReadAnswer.the-variants.{Refused as read-refused}
-use Rattle.zvt_rules.specs.declared.FirstAnswer.the-variants.{Refused as first-refused}
-use Rattle.zvt_rules.specs.declared.ShortenAnswer.the-variants.{Written as short-written, Refused as short-refused}
-use Rattle.zvt_rules.specs.Answers.{refusalOf, asHeaderAnswer, headerAnswer, asReadAnswer, readAnswer, asFirstAnswer, firstAnswer, shortened, asShortenAnswer, shortenAnswer, shortenLeaves}
+use lib.Dec.{ltb}
+use borrow.Author.Tests.{le-ltb, ltb-false}
+use Rattle.zvt_rules.specs.declared.Header.{Header}
+use Rattle.zvt_rules.specs.declared.Outline.{Outline}
+use Rattle.zvt_rules.specs.Reading.{Reading, got, refused, andThen}
+use Rattle.zvt_rules.specs.Message.{Heading, wholeHeader, Message, readOf, firstOf}
+use Rattle.zvt_rules.specs.believed.Writing.{messageBytes}
+use Rattle.zvt_rules.specs.Shortest.{write, shorten}
+use Rattle.zvt_rules.specs.Answers.{refusalOf, headerIn, asHeaderAnswer, headerAnswer, outlineOf, asReadAnswer, readAnswer}
+use Rattle.zvt_rules.specs.Answers.{asFirstAnswer, firstAnswer, shortened, asShortenAnswer, shortenAnswer, shortenLeaves}
 use Rattle.zvt_rules.specs.Buffers.{writtenLeaves}
 use Rattle.zvt_rules.proofs.Tests.{pick-test}
+use Rattle.zvt_rules.proofs.Readings.{got-same, unless-got, unless-on, then-got, then-on}
 use Rattle.desk_rules.specs.declared.Phase.{Phase}
 use Rattle.desk_rules.specs.declared.Phase.the-variants.{Idle, Waiting, Running}
 use Rattle.desk_rules.specs.declared.Lane.{Lane}
 use Rattle.desk_rules.specs.declared.Desk.{Desk}
 use Rattle.desk_rules.specs.declared.Answer.{Answer}
-use Rattle.desk_rules.specs.declared.Reply.the-variants.{Written, Refused}
+use Rattle.desk_rules.specs.declared.Reply.the-variants.{Written}
 use Rattle.desk_rules.specs.Kinds.{isIdle}
 use Rattle.desk_rules.specs.Course.{Call, writes}
 use Rattle.desk_rules.specs.Desk.{laneAt, allIdle, Decision, refuse, accept, decide}
 use Rattle.desk_rules.specs.Memory.{freshDesk, view, laneFor, Valid, refusedAnswer, answerOf, leavesOf, closeAnswer}
 use Rattle.desk_rules.proofs.Memory.{refused-same, accepted-answer, refused-leaves, accepted-leaves}
-use Rattle.promises.specs.Answers.{numbered, Refuses, Takes, Open}
+use Rattle.promises.specs.Answers.{Said, no, yes, Takes, headerSays, readSays, firstSays, shortSays, answerSays, Open}
 use Rattle.promises.proofs.ReadTable.{No}
 
--- ---- a reading that is answered by a map of its own, which keeps refusals apart
-pub record Maps {A X : Type 0} (say : Reading A → X) (refuser : Refusal → X) : Type 0 where
-  pub kept : (f : Fault) → say (refused f) ≡ refuser (numbered (f .number))
-  pub apart : (a : A) (r : Refusal) → say (got a) ≡ refuser r → ⊥
-  pub one : (r r′ : Refusal) → refuser r ≡ refuser r′ → r ≡ r′
+-- ---- an answer is refused with one number, or says one value
+pub no-same : {A : Type 0} {m n : ℕ} → _≡_ {A = Said A} (no m) (no n) → m ≡ n
+no-same e = cc
 
-pub reading-no : {A X : Type 0} (say : Reading A → X) (refuser : Refusal → X) → Maps say refuser → (x : Reading A) (n : ℕ)
-    → (say x ≡ refuser (numbered n)) ↔ No x n
-reading-no {A} say refuser m x n = (to x refl, λ h. ap say (h .1) ∙ m .kept (h .0) ∙ ap (λ (k : ℕ). refuser (numbered k)) (h .2))
-  where
-    to : (y : Reading A) → x ≡ y → say x ≡ refuser (numbered n) → No x n
-    to (got a) e h = absurd (m .apart a _ (ap say (sym e) ∙ h))
-    to (refused f) e h = (f, e, ap (λ (r : Refusal). r .number) (m .one _ _ (sym (m .kept f) ∙ ap say (sym e) ∙ h)))
+pub yes-same : {A : Type 0} {a b : A} → _≡_ {A = Said A} (yes a) (yes b) → a ≡ b
+yes-same e = cc
 
-pub header-says : (s : List ℕ) (n : ℕ) → (headerAnswer s ≡ header-refused (numbered n)) ↔ No (wholeHeader s) n
-unfolding headerAnswer asHeaderAnswer refusalOf
-header-says s n =
-    reading-no asHeaderAnswer header-refused
-    (record { kept = λ f. refl; apart = λ a r e. (let z : _≡_ {A = ℕ} 0 1 = cc in omega arith); one = λ r r′ e. cc }) (wholeHeader s) n
+pub no-yes : {A : Type 0} {n : ℕ} {a : A} → _≡_ {A = Said A} (no n) (yes a) → ⊥
+no-yes e = let z : _≡_ {A = ℕ} 0 1 = cc in omega arith
 
-pub read-says : (s : List ℕ) (n : ℕ) → (readAnswer s ≡ read-refused (numbered n)) ↔ No (readOf s) n
-unfolding readAnswer asReadAnswer refusalOf
-read-says s n =
-    reading-no asReadAnswer read-refused
-    (record { kept = λ f. refl; apart = λ a r e. (let z : _≡_ {A = ℕ} 0 1 = cc in omega arith); one = λ r r′ e. cc }) (readOf s) n
+-- ---- a reading that is answered by a value of what is read, or by the number of its refusal
+unfoldable pub said : {A B : Type 0} → (A → B) → Reading A → Said B
+said value (got a) = yes (value a)
+said value (refused f) = no (f .number)
 
-pub first-says : (s : List ℕ) (n : ℕ) → (firstAnswer s ≡ first-refused (numbered n)) ↔ No (firstOf s) n
-unfolding firstAnswer asFirstAnswer refusalOf
-first-says s n =
-    reading-no asFirstAnswer first-refused
-    (record { kept = λ f. refl; apart = λ a r e. (let z : _≡_ {A = ℕ} 0 1 = cc in omega arith); one = λ r r′ e. cc }) (firstOf s) n
+module _ {A B : Type 0} {y : Said B} (value : A → B) (x : Reading A) (e : y ≡ said value x) where
+  pub said-no : (n : ℕ) → (y ≡ no n) ↔ No x n
+  unfolding said
+  said-no n = (λ h. to x refl (sym e ∙ h), λ h. e ∙ ap (said value) (h .1) ∙ ap no (h .2))
+    where
+      to : (z : Reading A) → x ≡ z → said value z ≡ no n → No x n
+      to (got a) q h = absurd (no-yes (sym h))
+      to (refused f) q h = (f, q, no-same h)
 
-pub short-says : (room : ℕ) (s : List ℕ) (n : ℕ) → (shortenAnswer room s ≡ short-refused (numbered n)) ↔ No (shortened room s) n
-unfolding shortenAnswer asShortenAnswer refusalOf
-short-says room s n =
-    reading-no asShortenAnswer short-refused
-    (record { kept = λ f. refl; apart = λ a r e. (let z : _≡_ {A = ℕ} 0 1 = cc in omega arith); one = λ r r′ e. cc }) (shortened room s) n
+  pub said-yes : (b : B) → (y ≡ yes b) ↔ ((a : A) × (x ≡ got a) × (value a ≡ b))
+  unfolding said
+  said-yes b = (λ h. to x refl (sym e ∙ h), λ h. e ∙ ap (said value) (h .1) ∙ ap yes (h .2))
+    where
+      to : (z : Reading A) → x ≡ z → said value z ≡ yes b → (a : A) × (x ≡ got a) × (value a ≡ b)
+      to (got a) q h = (a, q, yes-same h)
+      to (refused f) q h = absurd (no-yes h)
 
--- what a buffer that was lent holds at the end
-pub short-leaves : (s out : List ℕ) (n : ℕ) → shortenAnswer (length out) s ≡ short-refused (numbered n) → shortenLeaves s out ≡ out
-unfolding shortenLeaves writtenLeaves
-short-leaves s out n e = let h = short-says (length out) s n .0 e in rw (h .1)
+header-said : (x : Reading Heading) → headerSays (asHeaderAnswer x) ≡ said headerIn x
+unfolding asHeaderAnswer refusalOf said
+header-said (got h) = refl
+header-said (refused f) = refl
 
-pub short-beyond : (s out : List ℕ) (k : ℕ) → shortenAnswer (length out) s ≡ short-written k → drop k (shortenLeaves s out) ≡ drop k out
-unfolding shortenAnswer asShortenAnswer shortenLeaves writtenLeaves
-short-beyond s out k = go (shortened (length out) s)
-  where
-    go : (x : Reading (List ℕ)) → asShortenAnswer x ≡ short-written k → drop k (writtenLeaves x out) ≡ drop k out
-    go (got w) e = let q : length w ≡ k = cc in drop-at w (drop (length w) out) k q ∙ ap (λ (n : ℕ). drop n out) q
-    go (refused f) e = absurd (let z : _≡_ {A = ℕ} 0 1 = cc in omega arith)
+read-said : (x : Reading Message) → readSays (asReadAnswer x) ≡ said outlineOf x
+unfolding asReadAnswer refusalOf said
+read-said (got m) = refl
+read-said (refused f) = refl
+
+-- the message, and where its bytes end
+abbrev pub firstTold : Message → Outline × ℕ
+firstTold m = (outlineOf m, length (messageBytes m))
+
+first-said : (x : Reading Message) → firstSays (asFirstAnswer x) ≡ said firstTold x
+unfolding asFirstAnswer refusalOf said
+first-said (got m) = refl
+first-said (refused f) = refl
+
+short-said : (x : Reading (List ℕ)) → shortSays (asShortenAnswer x) ≡ said length x
+unfolding asShortenAnswer refusalOf said
+short-said (got w) = refl
+short-said (refused f) = refl
+
+pub header-says : (s : List ℕ) (n : ℕ) → (headerSays (headerAnswer s) ≡ no n) ↔ No (wholeHeader s) n
+unfolding headerAnswer
+header-says s = said-no headerIn (wholeHeader s) (header-said (wholeHeader s))
+
+pub read-says : (s : List ℕ) (n : ℕ) → (readSays (readAnswer s) ≡ no n) ↔ No (readOf s) n
+unfolding readAnswer
+read-says s = said-no outlineOf (readOf s) (read-said (readOf s))
+
+pub first-says : (s : List ℕ) (n : ℕ) → (firstSays (firstAnswer s) ≡ no n) ↔ No (firstOf s) n
+unfolding firstAnswer
+first-says s = said-no firstTold (firstOf s) (first-said (firstOf s))
+
+pub short-says : (room : ℕ) (s : List ℕ) (n : ℕ) → (shortSays (shortenAnswer room s) ≡ no n) ↔ No (shortened room s) n
+unfolding shortenAnswer
+short-says room s = said-no length (shortened room s) (short-said (shortened room s))
+
+pub header-gives : (s : List ℕ) (t : Header) → (headerSays (headerAnswer s) ≡ yes t) ↔ ((h : Heading) × (wholeHeader s ≡ got h) × (headerIn h ≡ t))
+unfolding headerAnswer
+header-gives s = said-yes headerIn (wholeHeader s) (header-said (wholeHeader s))
+
+pub read-gives : (s : List ℕ) (t : Outline) → (readSays (readAnswer s) ≡ yes t) ↔ ((m : Message) × (readOf s ≡ got m) × (outlineOf m ≡ t))
+unfolding readAnswer
+read-gives s = said-yes outlineOf (readOf s) (read-said (readOf s))
+
+pub first-gives : (s : List ℕ) (t : Outline × ℕ) → (firstSays (firstAnswer s) ≡ yes t) ↔ ((m : Message) × (firstOf s ≡ got m) × (firstTold m ≡ t))
+unfolding firstAnswer
+first-gives s = said-yes firstTold (firstOf s) (first-said (firstOf s))
+
+pub short-gives : (room : ℕ) (s : List ℕ) (k : ℕ)
+    → (shortSays (shortenAnswer room s) ≡ yes k) ↔ ((w : List ℕ) × (shortened room s ≡ got w) × (length w ≡ k))
+unfolding shortenAnswer
+short-gives room s = said-yes length (shortened room s) (short-said (shortened room s))
+
+-- what is shortened is the message written again, where it has room
+pub short-writes : (room : ℕ) (s w : List ℕ) → (shortened room s ≡ got w) ↔ ((m : Message) × (readOf s ≡ got m) × (write m ≡ w) × (length w ≤ room))
+unfolding shortened shorten
+short-writes room s w = (
+  λ e.
+      let k = then-got (andThen (readOf s) λ m. got (write m)) _ w e in
+      let m = then-got (readOf s) _ (k .0) (k .1) in
+      let u = unless-got (ltb room (length (k .0))) _ _ w (k .2) in
+      (m .0, m .1, got-same (m .2) ∙ got-same (u .1), rw (got-same (u .1)) at (ltb-false room (length (k .0)) (u .0))),
+  λ k. then-on _ w (then-on _ (k .0) (k .1) ∙ ap got (k .2)) ∙ unless-on _ _ (le-ltb room (length w) (k .3)),
+)
+
+-- ---- what a buffer that was lent holds at the end
+
+pub left-same : (x : Reading (List ℕ)) (out : List ℕ) (n : ℕ) → No x n → writtenLeaves x out ≡ out
+unfolding writtenLeaves
+left-same x out n h = rw (h .1)
+
+module _ (x : Reading (List ℕ)) (out w : List ℕ) (k : ℕ) (e : x ≡ got w) (size : length w ≡ k) where
+  pub left-first : take k (writtenLeaves x out) ≡ w
+  unfolding writtenLeaves
+  left-first = rw e (take-at w (drop (length w) out) k size)
+
+  pub left-beyond : drop k (writtenLeaves x out) ≡ drop k out
+  unfolding writtenLeaves
+  left-beyond = rw e (drop-at w (drop (length w) out) k size ∙ ap (λ (n : ℕ). drop n out) size)
+
+pub short-leaves : (s out : List ℕ) (n : ℕ) → shortSays (shortenAnswer (length out) s) ≡ no n → shortenLeaves s out ≡ out
+unfolding shortenLeaves
+short-leaves s out n e = left-same (shortened (length out) s) out n (short-says (length out) s n .0 e)
+
+pub short-beyond : (s out : List ℕ) (k : ℕ) → shortSays (shortenAnswer (length out) s) ≡ yes k → drop k (shortenLeaves s out) ≡ drop k out
+unfolding shortenLeaves
+short-beyond s out k e = let g = short-gives (length out) s k .0 e in left-beyond (shortened (length out) s) out (g .0) k (g .1) (g .2)
 
 -- ---- a call of the desk
 
--- a reply is one of the two, with one number
-pub apart : {k : ℕ} {r : Refusal} → Written k ≡ Refused r → ⊥
-apart e = let z : _≡_ {A = ℕ} 0 1 = cc in omega arith
-
-pub same-number : {m n : ℕ} → Refused (numbered m) ≡ Refused (numbered n) → m ≡ n
-same-number {m} {n} e = let q : numbered m ≡ numbered n = cc in ap (λ (r : Refusal). r .number) q
-
 module _ (d : Desk) (c : Call) (room : ℕ) where
-  pub decided-no : (n : ℕ) → Refuses (answerOf d c room) n ↔ (decide (view d) c room ≡ refuse n)
+  pub decided-no : (n : ℕ) → (answerSays (answerOf d c room) ≡ no n) ↔ (decide (view d) c room ≡ refuse n)
   unfolding refusedAnswer
   decided-no n = (to (decide (view d) c room) refl, λ e. rw (refused-same d c room n e))
     where
-      to : (x : Decision) → decide (view d) c room ≡ x → Refuses (answerOf d c room) n → decide (view d) c room ≡ refuse n
-      to (refuse k) e h = e ∙ ap refuse (same-number (rw (refused-same d c room k e) at h))
-      to accept e h = absurd (apart (rw (accepted-answer d c room e) at h))
+      to : (x : Decision) → decide (view d) c room ≡ x → answerSays (answerOf d c room) ≡ no n → decide (view d) c room ≡ refuse n
+      to (refuse k) e h = e ∙ ap refuse (no-same (rw (refused-same d c room k e) at h))
+      to accept e h = absurd (no-yes (sym (rw (accepted-answer d c room e) at h)))
 
-  pub decided-yes : Takes (answerOf d c room) ↔ (decide (view d) c room ≡ accept)
+  pub decided-yes : Takes (answerSays (answerOf d c room)) ↔ (decide (view d) c room ≡ accept)
   unfolding refusedAnswer
   decided-yes = (to (decide (view d) c room) refl, λ e. (length (writes (laneFor d c) c), rw (accepted-answer d c room e)))
     where
-      to : (x : Decision) → decide (view d) c room ≡ x → Takes (answerOf d c room) → decide (view d) c room ≡ accept
-      to (refuse k) e h = absurd (apart (sym (rw (refused-same d c room k e) at (h .1))))
+      to : (x : Decision) → decide (view d) c room ≡ x → Takes (answerSays (answerOf d c room)) → decide (view d) c room ≡ accept
+      to (refuse k) e h = absurd (no-yes (rw (refused-same d c room k e) at (h .1)))
       to accept e h = e
 
 module _ (d : Desk) (c : Call) (out : List ℕ) where
-  pub call-same : (n : ℕ) → Refuses (answerOf d c (length out)) n → (answerOf d c (length out) .desk ≡ d) × (leavesOf d c out ≡ out)
+  pub call-same : (n : ℕ) → answerSays (answerOf d c (length out)) ≡ no n → (answerOf d c (length out) .desk ≡ d) × (leavesOf d c out ≡ out)
   unfolding refusedAnswer
   call-same n h =
       let e = decided-no d c (length out) n .0 h in
       (ap (λ (a : Answer). a .desk) (refused-same d c (length out) n e), refused-leaves d c out n e)
 
-  module _ (k : ℕ) (h : answerOf d c (length out) .reply ≡ Written k) where
+  module _ (k : ℕ) (h : answerSays (answerOf d c (length out)) ≡ yes k) where
     taken : decide (view d) c (length out) ≡ accept
     taken = decided-yes d c (length out) .0 (k, h)
 
-    size : length (writes (laneFor d c) c) ≡ k
-    size =
-        let q : Written (length (writes (laneFor d c) c)) ≡ Written k = rw (accepted-answer d c (length out) taken) at h in
-        cc
+    pub call-size : length (writes (laneFor d c) c) ≡ k
+    call-size = yes-same (rw (accepted-answer d c (length out) taken) at h)
 
     pub call-wrote : take k (leavesOf d c out) ≡ writes (laneFor d c) c
-    call-wrote = let w = writes (laneFor d c) c in ap (take k) (accepted-leaves d c out taken) ∙ take-at w (drop (length w) out) k size
+    call-wrote = let w = writes (laneFor d c) c in ap (take k) (accepted-leaves d c out taken) ∙ take-at w (drop (length w) out) k call-size
 
     pub call-beyond : drop k (leavesOf d c out) ≡ drop k out
     call-beyond =
         let w = writes (laneFor d c) c in
-        ap (drop k) (accepted-leaves d c out taken) ∙ drop-at w (drop (length w) out) k size ∙ ap (λ (n : ℕ). drop n out) size
+        ap (drop k) (accepted-leaves d c out taken) ∙ drop-at w (drop (length w) out) k call-size ∙ ap (λ (n : ℕ). drop n out) call-size
 
 -- ---- closing
 
@@ -171,20 +237,19 @@ module _ (d : Desk) (v : Valid d) where
   unfolding Open view closeAnswer
   held o = pick-test (λ (a : Answer). a ≡ refusedAnswer d 19) (allIdle (d .lanes)) (λ e. absurd (o .2 (all-are (d .lanes) (o .0) e))) (λ _. refl)
 
-  pub closing-no : (n : ℕ) → Refuses (closeAnswer d) n ↔ (Open d × (19 ≡ n))
+  pub closing-no : (n : ℕ) → (answerSays (closeAnswer d) ≡ no n) ↔ (Open d × (19 ≡ n))
   unfolding refusedAnswer
   closing-no n = (
-    λ h. ⊎-elim (λ e. absurd (apart (rw (closed e) at h))) (λ o. (o, same-number (rw (held o) at h))) open-or-not,
-    λ k. rw (held (k .0)) (ap (λ (m : ℕ). Refused (numbered m)) (k .1)),
+    λ h. ⊎-elim (λ e. absurd (no-yes (sym (rw (closed e) at h)))) (λ o. (o, no-same (rw (held o) at h))) open-or-not,
+    λ k. rw (held (k .0)) (ap no (k .1)),
   )
 
-  pub closing-yes : (closeAnswer d ≡ record { reply = Written 0; desk = freshDesk }) ↔ (Open d → ⊥)
-  unfolding refusedAnswer
+  pub closing-yes : ((answerSays (closeAnswer d) ≡ yes 0) × (closeAnswer d .desk ≡ freshDesk)) ↔ (Open d → ⊥)
   closing-yes = (
-    λ e o. apart (ap (λ (a : Answer). a .reply) (sym e ∙ held o)),
-    λ n. ⊎-elim closed (λ o. absurd (n o)) open-or-not,
+    λ e o. no-yes (sym (closing-no 19 .1 (o, refl)) ∙ e .0),
+    λ n. ⊎-elim (λ e. rw (closed e) (refl, refl)) (λ o. absurd (n o)) open-or-not,
   )
 
-  pub closing-same : (n : ℕ) → Refuses (closeAnswer d) n → closeAnswer d .desk ≡ d
+  pub closing-same : (n : ℕ) → answerSays (closeAnswer d) ≡ no n → closeAnswer d .desk ≡ d
   unfolding refusedAnswer
   closing-same n h = ap (λ (a : Answer). a .desk) (held (closing-no n .0 h .0))

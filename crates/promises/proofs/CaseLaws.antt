@@ -1,13 +1,13 @@
 -- The cases that are marked to be proved, all of one table, by one computation. Assumes nothing.
 use mathlib.Core.Path.{_≡_, refl}
 use Rattle.zvt_rules.specs.Reading.{unless, andThen, among}
-use Rattle.zvt_rules.specs.Objects.{secondTag, tagSize, formSize, oneByteLen, twoByteLen, lenOf, headWith, headOf, insideOf, oneBy, runBy, runOf}
+use Rattle.zvt_rules.specs.Objects.{secondTag, tagSize, formSize, oneByteLen, twoByteLen, lenOf, headWith, headOf, runBy, oneBy, runOf}
 use Rattle.zvt_rules.specs.Objects.{countObj, countObjs}
 use Rattle.zvt_rules.specs.Fields.{formatOf, unknown, digitsOf, unlessUndecimal, digitsIn, fieldId, countField, countFields, valueOf}
 use Rattle.zvt_rules.specs.Fields.{plainOf, containerOf, fieldBy, fieldOf, listBy, listOf}
 use Rattle.zvt_rules.specs.Message.{longLength, lengthOf, headerWith, headerOf, layoutOf, bodyOf, messageOf, wholeHeader, readOf, countBody, countOf}
-use Rattle.zvt_rules.specs.Writing.{lenBytes, sized, objBytes, runBytes, lengthIn, fieldBytes, listBytes, bodyBytes, lengthBytes, messageBytes}
-use Rattle.zvt_rules.specs.Writing.{digitBytes}
+use Rattle.zvt_rules.specs.believed.Writing.{lenBytes, sized, objBytes, runBytes, lengthIn, fieldBytes, listBytes, bodyBytes, lengthBytes, messageBytes}
+use Rattle.zvt_rules.specs.believed.Writing.{digitBytes}
 use Rattle.zvt_rules.specs.Shortest.{formFor, isShortest, shortObj, shortRun, shortField, shortList, shortBody, shortMessage}
 use Rattle.zvt_rules.specs.Shortest.{isShortObj, isShortRun, isShortField, isShortList, isShortBody, isShort, write, shorten}
 use Rattle.zvt_rules.specs.Digits.{digitBytesOf, decimalFrom, numberOf}
@@ -26,12 +26,12 @@ use Rattle.desk_rules.specs.Memory.{view, endedDesk, movedDesk, refusedAnswer, 
 use Rattle.desk_rules.specs.Runs.{total}
 use Rattle.desk_rules.specs.Turnover.{netOf}
 use Rattle.promises.specs.Days.{buffer}
-use Rattle.promises.specs.Asking.{readSays, listSays, shortSays, callSays, status, output, unlessNo, afterDay, answerTo, computed, stated}
+use Rattle.promises.specs.Asking.{shown, listShown, status, output, afterDay, answerTo, computed, stated}
 use Rattle.promises.specs.Cases.{hex, plainBody, twoSales, twoLines, soldOnce, table}
 
 -- The definitions answer every row of the table as it stands there.
 pub cases : computed table ≡ stated table
-unfolding unless andThen among secondTag tagSize formSize oneByteLen twoByteLen lenOf headWith headOf insideOf oneBy runBy runOf countObj countObjs
+unfolding unless andThen among secondTag tagSize formSize oneByteLen twoByteLen lenOf headWith headOf runBy oneBy runOf countObj countObjs
     formatOf unknown digitsOf unlessUndecimal digitsIn fieldId countField countFields valueOf plainOf containerOf fieldBy fieldOf listBy listOf
     longLength lengthOf headerWith headerOf layoutOf bodyOf messageOf wholeHeader readOf countBody countOf
     lenBytes sized objBytes runBytes digitBytes lengthIn fieldBytes listBytes bodyBytes lengthBytes messageBytes
@@ -44,6 +44,6 @@ unfolding unless andThen among secondTag tagSize formSize oneByteLen twoByteLen 
     concerns lastFrom lastLine openedBy laneOf needsPlace moves answered writes
     placeTaken placesTaken load unlessRefused decide view endedDesk movedDesk refusedAnswer answerBy answerOf leavesBy leavesOf
     total netOf
-    readSays listSays shortSays callSays status output unlessNo afterDay answerTo computed stated buffer
+    shown listShown status output afterDay answerTo computed stated buffer
     hex plainBody twoSales twoLines soldOnce table
 cases = refl

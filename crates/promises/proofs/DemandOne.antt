@@ -3,88 +3,107 @@
 -- the buffers it was lent." The first sentence is each function's own theorem (Ends.antt); here is the second. Assumes nothing.
 use mathlib.Core.Path.{_≡_}
 use mathlib.Core.Logic.{_↔_, Iff·trans}
+use mathlib.Core.Option.{none, some}
 use mathlib.Core.List.{List}
-use Prim.Native.Nat.{ℕ}
+use Prim.Native.Nat.{ℕ, _≤_}
 use lib.ListN.{length, drop}
-use Rattle.zvt_rules.specs.declared.HeaderAnswer.the-variants.{Refused as header-refused}
-use Rattle.zvt_rules.specs.declared.ReadAnswer.the-variants.{Refused as read-refused}
-use Rattle.zvt_rules.specs.declared.FirstAnswer.the-variants.{Refused as first-refused}
-use Rattle.zvt_rules.specs.declared.ShortenAnswer.the-variants.{Written as short-written, Refused as short-refused}
 use Rattle.zvt_rules.specs.Answers.{headerAnswer, readAnswer, firstAnswer, shortenAnswer, shortenLeaves}
+use Rattle.zvt_rules.specs.believed.Grammar.{Bytes}
+use Rattle.zvt_rules.specs.believed.Rows.{WholeNo, ReadNo, FirstNo, ShortNo, Numbered}
+use Rattle.zvt_rules.proofs.RowMessages as rows
 use Rattle.desk_rules.specs.declared.Desk.{Desk}
-use Rattle.desk_rules.specs.declared.Reply.the-variants.{Written}
+use Rattle.desk_rules.specs.declared.Lane.{Lane}
+use Rattle.desk_rules.specs.declared.Line.{Line}
+use Rattle.desk_rules.specs.Numbers.{laneCount}
 use Rattle.desk_rules.specs.Course.{Call, NumbersFit}
 use Rattle.desk_rules.specs.Desk.{refuse, accept}
-use Rattle.desk_rules.specs.Table.{Row}
-use Rattle.desk_rules.specs.Memory.{freshDesk, view, Valid, answerOf, leavesOf, closeAnswer}
+use Rattle.desk_rules.specs.believed.Table.{Row}
+use Rattle.desk_rules.specs.Memory.{freshDesk, linesOfDesk, view, Valid, answerOf, leavesOf, closeAnswer, lineAnswer, laneAnswer}
 use Rattle.desk_rules.proofs.Rows.{table}
 use Rattle.desk_rules.proofs.Memory as memory
-use Rattle.promises.specs.ReadRows.{WholeNo, ReadNo, FirstNo, ShortNo}
-use Rattle.promises.specs.Answers.{numbered, Refuses, Takes, Open}
-use Rattle.promises.proofs.ReadTable.{whole-no, read-no, first-no, short-no}
+use Rattle.promises.specs.Answers.{no, yes, Takes, headerSays, readSays, firstSays, shortSays, answerSays, lineSays, laneSays, At, Open}
+use Rattle.promises.proofs.ReadTable.{by-rows}
 use Rattle.promises.proofs.Answers.{header-says, read-says, first-says, short-says, short-leaves, short-beyond}
 use Rattle.promises.proofs.Answers.{decided-no, decided-yes, call-same, call-beyond, closing-no, closing-yes, closing-same}
+use Rattle.promises.proofs.Asked.{lane-no, lane-yes, line-some, line-none}
 
--- ---- R37: reading and shortening
+-- ---- R37: reading and shortening. The rows (zvt_rules/specs/believed/Rows.antt) have a number and a place.
+module _ (s : List ℕ) (b : Bytes s) (n : ℕ) where
+  -- A header is refused with a number exactly where a row for headers (R39) has that number.
+  pub header-refused-exactly : (headerSays (headerAnswer s) ≡ no n) ↔ Numbered (WholeNo s) n
+  header-refused-exactly = Iff·trans (header-says s n) (by-rows _ (WholeNo s) (rows.whole-exactly s b) n)
 
--- A header is refused with a number exactly where the order for headers (R39) gives that number.
-pub header-refused-exactly : (s : List ℕ) (n : ℕ) → (headerAnswer s ≡ header-refused (numbered n)) ↔ WholeNo s n
-header-refused-exactly s n = Iff·trans (header-says s n) (whole-no s n)
+  -- Bytes are refused as a message exactly where a row for header or body (R39 to R44) has that number.
+  pub read-refused-exactly : (readSays (readAnswer s) ≡ no n) ↔ Numbered (ReadNo s) n
+  read-refused-exactly = Iff·trans (read-says s n) (by-rows _ (ReadNo s) (rows.read-no-exactly s b) n)
 
--- Bytes are refused as a message exactly where the order, header and then body, gives that number.
-pub read-refused-exactly : (s : List ℕ) (n : ℕ) → (readAnswer s ≡ read-refused (numbered n)) ↔ ReadNo s n
-read-refused-exactly s n = Iff·trans (read-says s n) (read-no s n)
+  -- The same where further messages may follow: then nothing is left over.
+  pub first-refused-exactly : (firstSays (firstAnswer s) ≡ no n) ↔ Numbered (FirstNo s) n
+  first-refused-exactly = Iff·trans (first-says s n) (by-rows _ (FirstNo s) (rows.first-no-exactly s b) n)
 
--- The same where further messages may follow: then nothing is left over.
-pub first-refused-exactly : (s : List ℕ) (n : ℕ) → (firstAnswer s ≡ first-refused (numbered n)) ↔ FirstNo s n
-first-refused-exactly s n = Iff·trans (first-says s n) (first-no s n)
-
--- Shortening is refused where reading is, and with 11 where the shortest message does not fit.
-pub shorten-refused-exactly : (room : ℕ) (s : List ℕ) (n : ℕ) → (shortenAnswer room s ≡ short-refused (numbered n)) ↔ ShortNo room s n
-shorten-refused-exactly room s n = Iff·trans (short-says room s n) (short-no room s n)
+  -- Shortening is refused where reading is, and with 11 where the shortest message does not fit.
+  pub shorten-refused-exactly : (room : ℕ) → (shortSays (shortenAnswer room s) ≡ no n) ↔ Numbered (ShortNo room s) n
+  shorten-refused-exactly room = Iff·trans (short-says room s n) (by-rows _ (ShortNo room s) (rows.short-no-exactly s b room) n)
 
 -- ---- R34, R35, R36: the calls of the desk
 
--- A call is refused with a number exactly where the row of that number holds (desk_rules/specs/Table.antt): of an opening, R34, "12, 13,
--- 16, 17, 18, 11"; of a message, R35, "12, 14, header, 15, body, 11"; of a lost link, R36, "12, 14".
-pub refused-exactly : (d : Desk) (c : Call) (room n : ℕ) → Refuses (answerOf d c room) n ↔ Row (view d) c room (refuse n)
+-- A call is refused with a number exactly where the row of that number holds (desk_rules/specs/believed/Table.antt): of an opening, R34,
+-- "12, 13, 16, 17, 18, 11"; of a message, R35, "12, 14, header, 15, body, 11"; of a lost link, R36, "12, 14".
+pub refused-exactly : (d : Desk) (c : Call) (room n : ℕ) → (answerSays (answerOf d c room) ≡ no n) ↔ Row (view d) c room (refuse n)
 refused-exactly d c room n = Iff·trans (decided-no d c room n) (table (view d) c room (refuse n))
 
 -- Else it is taken: a desk that refuses everything is no desk.
-pub taken-exactly : (d : Desk) (c : Call) (room : ℕ) → Takes (answerOf d c room) ↔ Row (view d) c room accept
+pub taken-exactly : (d : Desk) (c : Call) (room : ℕ) → Takes (answerSays (answerOf d c room)) ↔ Row (view d) c room accept
 taken-exactly d c room = Iff·trans (decided-yes d c room) (table (view d) c room accept)
 
 -- ---- R19: "a payment is open at closing"
 module _ (d : Desk) (v : Valid d) where
   -- The day is not closed over an open payment.
-  pub close-refused-exactly : (n : ℕ) → Refuses (closeAnswer d) n ↔ (Open d × (19 ≡ n))
+  pub close-refused-exactly : (n : ℕ) → (answerSays (closeAnswer d) ≡ no n) ↔ (Open d × (19 ≡ n))
   close-refused-exactly = closing-no d v
 
   -- Else it is closed, and the next day begins with a fresh desk.
-  pub closed-exactly : (closeAnswer d ≡ record { reply = Written 0; desk = freshDesk }) ↔ (Open d → ⊥)
+  pub closed-exactly : ((answerSays (closeAnswer d) ≡ yes 0) × (closeAnswer d .desk ≡ freshDesk)) ↔ (Open d → ⊥)
   closed-exactly = closing-yes d v
+
+-- ---- R36: "A question about a lane: 12."
+
+-- A lane is asked for in vain exactly where there is no such lane.
+pub lane-refused-exactly : (d : Desk) (i n : ℕ) → (laneSays (laneAnswer i (d .lanes)) ≡ no n) ↔ ((laneCount ≤ i) × (12 ≡ n))
+lane-refused-exactly = lane-no
+
+-- Else the answer is that lane.
+pub lane-exactly : (d : Desk) (i : ℕ) → Valid d → (l : Lane) → (laneSays (laneAnswer i (d .lanes)) ≡ yes l) ↔ At (d .lanes) i l
+lane-exactly = lane-yes
+
+-- A question about a line is not refused: it is answered by that line of the book, and by none exactly behind the last.
+pub line-exactly : (d : Desk) (k : ℕ) (l : Line) → (lineSays (lineAnswer k (linesOfDesk d)) ≡ yes (some l)) ↔ At (linesOfDesk d) k l
+line-exactly = line-some
+
+pub no-line-exactly : (d : Desk) (k : ℕ) → (lineSays (lineAnswer k (linesOfDesk d)) ≡ yes none) ↔ (length (linesOfDesk d) ≤ k)
+no-line-exactly = line-none
 
 -- ---- "and changes neither the desk nor a byte of the buffers it was lent"
 
 -- R32: "A refusal leaves the desk and all lent buffers as they were."
-pub refused-unchanged : (d : Desk) (c : Call) (out : List ℕ) (n : ℕ) → Refuses (answerOf d c (length out)) n
+pub refused-unchanged : (d : Desk) (c : Call) (out : List ℕ) (n : ℕ) → answerSays (answerOf d c (length out)) ≡ no n
     → (answerOf d c (length out) .desk ≡ d) × (leavesOf d c out ≡ out)
 refused-unchanged = call-same
 
 -- So does a refused closing.
-pub close-unchanged : (d : Desk) → Valid d → (n : ℕ) → Refuses (closeAnswer d) n → closeAnswer d .desk ≡ d
+pub close-unchanged : (d : Desk) → Valid d → (n : ℕ) → answerSays (closeAnswer d) ≡ no n → closeAnswer d .desk ≡ d
 close-unchanged = closing-same
 
 -- A refused shortening leaves the buffer as it was.
-pub shorten-unchanged : (s out : List ℕ) (n : ℕ) → shortenAnswer (length out) s ≡ short-refused (numbered n) → shortenLeaves s out ≡ out
+pub shorten-unchanged : (s out : List ℕ) (n : ℕ) → shortSays (shortenAnswer (length out) s) ≡ no n → shortenLeaves s out ≡ out
 shorten-unchanged = short-leaves
 
 -- R33: "Success leaves the bytes of a lent buffer behind those written as they were."
-pub beyond-unchanged : (d : Desk) (c : Call) (out : List ℕ) (k : ℕ) → answerOf d c (length out) .reply ≡ Written k
+pub beyond-unchanged : (d : Desk) (c : Call) (out : List ℕ) (k : ℕ) → answerSays (answerOf d c (length out)) ≡ yes k
     → drop k (leavesOf d c out) ≡ drop k out
 beyond-unchanged = call-beyond
 
-pub shorten-beyond-unchanged : (s out : List ℕ) (k : ℕ) → shortenAnswer (length out) s ≡ short-written k
+pub shorten-beyond-unchanged : (s out : List ℕ) (k : ℕ) → shortSays (shortenAnswer (length out) s) ≡ yes k
     → drop k (shortenLeaves s out) ≡ drop k out
 shorten-beyond-unchanged = short-beyond
 

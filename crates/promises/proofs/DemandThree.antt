@@ -3,45 +3,45 @@
 -- ended payments one after another in the order in which they ended, then the calls of each payment still open, lane by lane.
 -- Payments opened = book lines + open payments; net turnover = approved sales less approved reversals and refunds, judged from the
 -- terminals' messages by the rules and not from stored sums." A day is any list of calls that the desk accepted. Assumes nothing.
-use mathlib.Core.Path.{_≡_, refl, sym, ap, subst, _∙_}
+use mathlib.Core.Path.{_≡_, refl}
 use mathlib.Core.Bool.{true}
+use mathlib.Core.Logic.{_↔_}
 use mathlib.Core.List.{List, []}
-use Prim.Native.Nat.{ℕ, _+_}
+use Prim.Native.Nat.{ℕ, _+_, _<_}
 use lib.IntN.{pos, _-ℤ_}
-use lib.ListN.{length, getD}
+use lib.ListN.{length, getD, take}
 use Rattle.desk_rules.specs.declared.Opening.{Opening}
 use Rattle.desk_rules.specs.declared.Opening.the-variants.{Sale, Refund, Reversal}
+use Rattle.desk_rules.specs.declared.Lane.{Lane}
+use Rattle.desk_rules.specs.declared.Line.{Line}
 use Rattle.desk_rules.specs.Kinds.{booked}
+use Rattle.desk_rules.specs.Lanes.{blankLine}
 use Rattle.desk_rules.specs.Openings.{kindOf}
-use Rattle.desk_rules.specs.Desk.{State, fresh, placesTaken, run}
+use Rattle.desk_rules.specs.Desk.{State, laneAt, placesTaken}
 use Rattle.desk_rules.specs.Memory.{freshDesk, view}
-use Rattle.desk_rules.specs.Runs.{callsOf, ownOf, openings}
-use Rattle.desk_rules.specs.Payments.{paymentsOf, paying, oneByOne, linesOf, LaneSays}
-use Rattle.desk_rules.specs.Turnover.{gains, losses, netOf}
-use Rattle.desk_rules.proofs.Runs.{repliesTo}
+use Rattle.desk_rules.specs.Runs.{callsOf, openings}
+use Rattle.desk_rules.specs.Payments.{Payments, paymentsOf, oneByOne}
+use Rattle.desk_rules.specs.Turnover.{netOf}
+use Rattle.desk_rules.specs.believed.Due.{Due, LaneIs, Takings}
+use Rattle.desk_rules.specs.believed.Grouping.{Grouping}
 use Rattle.desk_rules.proofs.Runs as runs
 use Rattle.desk_rules.proofs.DayBook as book
 use Rattle.desk_rules.proofs.Order as law
+use Rattle.desk_rules.proofs.Grouping as grouping
 use Rattle.desk_rules.proofs.Net as net
-use Rattle.promises.specs.Days.{DeskTurn, callsIn, OfBytes, Taken, atEnd, linesIn, repliesAt, otherDay}
-use Rattle.promises.proofs.Turns.{calls-roomy, bytes-one-by-one, a-day, as-a-day, of-desk, replies-same}
+use Rattle.promises.specs.Days.{DeskTurn, callsIn, OfBytes, Taken, atEnd, linesIn, repliesAt, OtherDay}
+use Rattle.promises.proofs.Turns.{a-day, of-desk}
+use Rattle.promises.proofs.OtherDays.{another, as-other}
 
 module _ (day : List DeskTurn) (b : OfBytes (callsIn day)) (t : Taken freshDesk day) where
-  -- Terminals that talk at once do to the book and to each other what they would do one after another.
-  pub order : let other = otherDay day in
-      Taken freshDesk other × (view (atEnd other) ≡ view (atEnd day)) × ((k : ℕ) → repliesAt k other ≡ repliesAt k day)
-  order =
-      let calls = callsIn day in
-      let its = a-day day b t in
-      let o = law.order calls (its .accepted) in
-      let same = calls-roomy (oneByOne calls) in
-      let bytes = bytes-one-by-one calls b in
-      let taken = as-a-day (oneByOne calls) bytes (o .0) in
-      let g = a-day (otherDay day) (subst OfBytes (sym same) bytes) taken in (
-        taken,
-        g .leaves ∙ ap (run fresh) same ∙ o .1 ∙ sym (its .leaves),
-        λ k. replies-same k (otherDay day) g ∙ ap (repliesTo k fresh) same ∙ o .2 k ∙ sym (replies-same k day its),
-      )
+  -- Terminals that talk at once do to the book and to each other what they would do one after another, with the same buffers lent.
+  pub order : (other : List DeskTurn) → OtherDay day other
+      → Taken freshDesk other × (view (atEnd other) ≡ view (atEnd day)) × ((k : ℕ) → repliesAt k other ≡ repliesAt k day)
+  order = as-other day b t
+
+  -- There is such a run.
+  pub other-day : (other : List DeskTurn) × OtherDay day other
+  other-day = another day b t
 
   -- In it each lane's calls stand in their own order, all of them and no others.
   pub same-calls : (k : ℕ) → callsOf k (oneByOne (callsIn day)) ≡ callsOf k (callsIn day)
@@ -54,26 +54,45 @@ module _ (day : List DeskTurn) (b : OfBytes (callsIn day)) (t : Taken freshDesk 
       let its = a-day day b t in
       of-desk (λ (s : State). openings (callsIn day) ≡ length (s .lines) + placesTaken (s .lanes)) day its (runs.count (callsIn day) (its .accepted) .0)
 
-  -- Every line is what its own payment's messages say, in the order in which the payments ended.
-  pub every-line : linesIn day ≡ linesOf [] (paying (paymentsOf (callsIn day) .ended))
+  -- The payments of a day are the one grouping of its calls: each is of one lane and ends with the first call that ends it, they stand in
+  -- the order in which they ended, and the others are open.
+  pub one-grouping : let calls = callsIn day in Grouping calls (paymentsOf calls) × ((p : Payments) → Grouping calls p → p ≡ paymentsOf calls)
+  one-grouping = let accepted = a-day day b t .accepted in (grouping.grouped (callsIn day) accepted, grouping.grouped-once (callsIn day) accepted)
+
+  -- Line j is l exactly when l is due, by the rules, for the j-th payment that ended, after the lines before it; and there are as many
+  -- lines as payments that ended.
+  pub every-line : let ended = paymentsOf (callsIn day) .ended in (length ended ≡ length (linesIn day))
+      × ((j : ℕ) → j < length (linesIn day) → (l : Line) → (getD (linesIn day) j blankLine ≡ l) ↔ Due (take j (linesIn day)) (getD ended j []) l)
   unfolding view
   every-line =
       let its = a-day day b t in
-      of-desk (λ (s : State). s .lines ≡ linesOf [] (paying (paymentsOf (callsIn day) .ended))) day its (book.book (callsIn day) (its .accepted))
+      let ended = paymentsOf (callsIn day) .ended in
+      of-desk
+      (λ (s : State). (length ended ≡ length (s .lines))
+      × ((j : ℕ) → j < length (s .lines) → (l : Line) → (getD (s .lines) j blankLine ≡ l) ↔ Due (take j (s .lines)) (getD ended j []) l))
+      day its (book.lines-ended (callsIn day) (its .accepted), book.line-due (callsIn day) (its .accepted))
 
-  -- Every lane is what the messages of its open payment say.
-  pub every-lane : (k : ℕ) → LaneSays k (ownOf k (view (atEnd day))) (getD (paymentsOf (callsIn day) .ongoing) k [])
-  every-lane k =
+  -- Each lane is l exactly when the calls of its open payment say so: idle where there are none, waiting where only its opening came, else
+  -- running.
+  pub every-lane : (k : ℕ) (l : Lane) → (laneAt (atEnd day .lanes) k ≡ l) ↔ LaneIs k (linesIn day) (getD (paymentsOf (callsIn day) .ongoing) k []) l
+  unfolding view
+  every-lane =
       let its = a-day day b t in
-      of-desk (λ (s : State). LaneSays k (ownOf k s) (getD (paymentsOf (callsIn day) .ongoing) k [])) day its (book.lane-of-open (callsIn day) (its .accepted) k)
+      let ongoing = paymentsOf (callsIn day) .ongoing in
+      of-desk (λ (s : State). (k : ℕ) (l : Lane) → (laneAt (s .lanes) k ≡ l) ↔ LaneIs k (s .lines) (getD ongoing k []) l)
+      day its (book.lane-due (callsIn day) (its .accepted))
 
-  -- Net turnover is what the terminals' messages make of the ended payments: approved sales less approved reversals and refunds.
-  pub turnover : let lines = linesOf [] (paying (paymentsOf (callsIn day) .ended)) in netOf (linesIn day) ≡ pos (gains lines) -ℤ pos (losses lines)
+  -- The ended payments have takings: approved sales, and approved reversals and refunds, each by its own messages. Net turnover is the one
+  -- less the other.
+  pub turnover : let Made = Takings [] (paymentsOf (callsIn day) .ended) in
+      ((plus : ℕ) × (minus : ℕ) × Made plus minus) × ((plus minus : ℕ) → Made plus minus → netOf (linesIn day) ≡ pos plus -ℤ pos minus)
   unfolding view
   turnover =
       let its = a-day day b t in
-      let lines = linesOf [] (paying (paymentsOf (callsIn day) .ended)) in
-      of-desk (λ (s : State). netOf (s .lines) ≡ pos (gains lines) -ℤ pos (losses lines)) day its (net.turnover (callsIn day) (its .accepted))
+      let Made = Takings [] (paymentsOf (callsIn day) .ended) in
+      of-desk
+      (λ (s : State). ((plus : ℕ) × (minus : ℕ) × Made plus minus) × ((plus minus : ℕ) → Made plus minus → netOf (s .lines) ≡ pos plus -ℤ pos minus))
+      day its (net.turnover-there (callsIn day) (its .accepted), net.turnover-due (callsIn day) (its .accepted))
 
 -- A payment of every kind takes a place in the book, and so ends with a line.
 pub every-kind-booked : (o : Opening) → booked (kindOf o) ≡ true

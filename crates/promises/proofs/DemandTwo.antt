@@ -3,49 +3,63 @@
 -- shortest form." Assumes nothing.
 use mathlib.Core.Path.{_≡_, refl, sym, ap, _∙_}
 use mathlib.Core.Bool.{true, false}
-use mathlib.Core.Logic.{_↔_, _⊎_}
+use mathlib.Core.Logic.{_↔_, Iff·trans}
+use mathlib.Core.Option.{none, some}
 use mathlib.Core.List.{List, [], _++_}
-use Prim.Native.Nat.{ℕ, _≤_}
+use Prim.Native.Nat.{ℕ, _<_, _≤_}
 use native.Mathlib.Omega.{arith}
 use lib.ListN.{length, take}
-use Rattle.zvt_rules.specs.Reading.{Reading, got, refused, unless, andThen, among}
-use Rattle.zvt_rules.specs.Limits.{mostObjects}
+use Rattle.zvt_rules.specs.Reading.{Reading, got, refused, unless, andThen, part, among}
+use Rattle.zvt_rules.specs.Fields.{Field}
 use Rattle.zvt_rules.specs.Message.{bytes, Message, lengthOf, headerWith, headerOf, layoutOf, bodyOf, messageOf, wholeHeader, readOf, firstOf, countOf}
-use Rattle.zvt_rules.specs.Writing.{messageBytes}
-use Rattle.zvt_rules.specs.Shortest.{shortMessage, isShort, write, shorten, SameValues}
-use Rattle.zvt_rules.specs.Grammar.{Bytes, MessageOk}
-use Rattle.zvt_rules.specs.Values.{valueIn, statusFields}
+use Rattle.zvt_rules.specs.Shortest.{shortMessage, isShort, write, shorten}
+use Rattle.zvt_rules.specs.Values.{fieldValue, statusOf}
+use Rattle.zvt_rules.specs.declared.Header.{Header}
+use Rattle.zvt_rules.specs.declared.Outline.{Outline}
+use Rattle.zvt_rules.specs.declared.Listed.{Listed}
+use Rattle.zvt_rules.specs.Answers.{headerAnswer, outlineOf, readAnswer, firstAnswer, shortenAnswer, shortenLeaves}
+use Rattle.zvt_rules.specs.Listed.{fieldAnswer, namedAnswer, listPlace}
+use Rattle.zvt_rules.specs.Name.{own, between, nameAt, cardName, namePlace}
+use Rattle.zvt_rules.specs.believed.Writing.{messageBytes}
+use Rattle.zvt_rules.specs.believed.Grammar.{Bytes, MessageOk}
+use Rattle.zvt_rules.specs.believed.Shortest.{SameValues, Shortens}
+use Rattle.zvt_rules.specs.believed.Answers.{Framed, inBody, Reported, FirstReported, Over}
+use Rattle.zvt_rules.specs.believed.Values.{Is, TellsCode, TellsAmount, TellsReceipt}
+use Rattle.zvt_rules.specs.believed.Found.{Stands, ListStands}
+use Rattle.zvt_rules.specs.believed.Names.{UpToZero, Shown}
 use Rattle.zvt_rules.proofs.Readings.{got-same, then-on}
 use Rattle.zvt_rules.proofs.MessageBytes as reading
 use Rattle.zvt_rules.proofs.MessageShort as shortest
-use Rattle.zvt_rules.specs.declared.Outline.{Outline}
-use Rattle.zvt_rules.specs.declared.ReadAnswer.the-variants.{Accepted}
-use Rattle.zvt_rules.specs.Answers.{outlineOf, asReadAnswer, readAnswer}
-use Rattle.zvt_rules.specs.Name.{nameAt, cardName, namePlace}
+use Rattle.zvt_rules.proofs.AnswerLaws as reports
+use Rattle.zvt_rules.proofs.StatusLaws as status
+use Rattle.zvt_rules.proofs.Found as found
+use Rattle.zvt_rules.proofs.Names as names
 use Rattle.desk_rules.specs.declared.Desk.{Desk}
-use Rattle.desk_rules.specs.declared.Reply.the-variants.{Written}
 use Rattle.desk_rules.specs.declared.Opening.{Opening}
 use Rattle.desk_rules.specs.Openings.{withinLimits, commandBytes}
 use Rattle.desk_rules.specs.Course.{replyBytes, Call, writes}
-use Rattle.desk_rules.specs.Table.{Commands}
+use Rattle.desk_rules.specs.believed.Table.{Commands}
 use Rattle.desk_rules.specs.Memory.{laneFor, answerOf, leavesOf}
 use Rattle.desk_rules.proofs.Commands as commands
-use Rattle.promises.specs.Names.{shownName, InMessage}
-use Rattle.promises.proofs.Answers.{call-wrote}
-use Rattle.promises.proofs.NameTable.{shown, name-lies}
+use Rattle.promises.specs.Answers.{yes, headerSays, readSays, firstSays, shortSays, placeSays, fieldSays, codeSays, amountSays, receiptSays}
+use Rattle.promises.specs.Answers.{answerSays}
+use Rattle.promises.proofs.Answers.{read-gives, call-wrote, call-size}
+use Rattle.promises.proofs.Asked.{header-is, read-is, first-is, short-is, place-is, field-is, field-is-none, code-is, amount-is, receipt-is}
 
 -- ---- "read .. as PA00P015 13.11 lays them out"
 
--- Bytes are accepted exactly where they are those of a message within the limits, and what is answered is told of that message.
-pub read-exactly : (s : List ℕ) (t : Outline) → Bytes s
-    → (readAnswer s ≡ Accepted t) ↔ ((m : Message) × (messageBytes m ≡ s) × MessageOk m × (outlineOf m ≡ t))
-unfolding readAnswer asReadAnswer
-read-exactly s t b = (to (readOf s) refl, λ k. ap asReadAnswer (reading.read-exactly s (k .0) b .1 (k .1, k .2)) ∙ ap Accepted (k .3))
-  where
-    to : (x : Reading Message) → readOf s ≡ x → asReadAnswer x ≡ Accepted t
-        → (m : Message) × (messageBytes m ≡ s) × MessageOk m × (outlineOf m ≡ t)
-    to (got m) e h = let k = reading.read-exactly s m b .0 e in (m, k .0, k .1, cc)
-    to (refused f) e h = absurd (let z : _≡_ {A = ℕ} 0 1 = cc in omega arith)
+module _ (s : List ℕ) (b : Bytes s) where
+  -- Bytes are accepted exactly where they are those of a message within the limits, and what is answered is what M9 reports of it.
+  pub read-exactly : (t : Outline) → (readSays (readAnswer s) ≡ yes t) ↔ Reported s t
+  read-exactly t = Iff·trans (read-is (readAnswer s) t) (reports.read-exactly s t b)
+
+  -- So is a header: exactly where it frames the bytes, with the place and the length of its body.
+  pub header-exactly : (t : Header) → (headerSays (headerAnswer s) ≡ yes t) ↔ Framed s (t .class) (t .instruction) (t .start) (t .length)
+  header-exactly t = Iff·trans (header-is (headerAnswer s) t) (reports.header-exactly s t b)
+
+  -- So is the first of several messages, and the next begins behind its bytes.
+  pub first-exactly : (t : Outline) (next : ℕ) → (firstSays (firstAnswer s) ≡ yes (t, next)) ↔ FirstReported s t next
+  first-exactly t next = Iff·trans (first-is (firstAnswer s) t next) (reports.first-exactly s t next b)
 
 -- No two messages have the same bytes.
 pub one-reading : (m m′ : Message) → MessageOk m → MessageOk m′ → messageBytes m ≡ messageBytes m′ → m ≡ m′
@@ -55,13 +69,13 @@ one-reading m m′ ok ok′ e = got-same (sym (reading.read-complete m ok) ∙ a
 pub first-of-many : (m : Message) (rest : List ℕ) → MessageOk m → firstOf (messageBytes m ++ rest) ≡ got m
 first-of-many = reading.first-complete
 
--- The number of objects that the reader reports is the number that the definition counts, at most 64: O11, O10.
-pub objects-counted : (s : List ℕ) (t : Outline) → Bytes s → readAnswer s ≡ Accepted t
-    → (m : Message) × (readOf s ≡ got m) × (t .objects ≡ countOf m) × (countOf m ≤ mostObjects)
-unfolding outlineOf
+-- The number of objects that the reader reports is the number of objects in the message, inner ones counted, at most 64: O11, O10.
+pub objects-counted : (s : List ℕ) (t : Outline) → Bytes s → readSays (readAnswer s) ≡ yes t
+    → (m : Message) × Is s m × (t .objects ≡ length (inBody (m .body))) × (length (inBody (m .body)) ≤ 64)
 objects-counted s t b h =
-    let k = read-exactly s t b .0 h in
-    (k .0, reading.read-exactly s (k .0) b .1 (k .1, k .2), ap (λ (x : Outline). x .objects) (sym (k .3)), reading.count-limit (k .0) (k .2))
+    let k = read-exactly s b t .0 h in
+    let few = reading.count-limit (k .message) (k .accepted .1) in
+    (k .message, k .accepted, k .objects, omega (arith, reports.counted (k .message)))
 
 -- ---- "What we write reads back as the same values."
 
@@ -73,10 +87,19 @@ unfolding shorten
 shortened-reads-back s m b e =
     (then-on _ m e, shortest.write-reads m (reading.read-sound s m b e .1), shortest.same-values m, shortest.same-count m)
 
--- What a call of the desk writes is what the course says: a command, a reply, or nothing.
-pub written : (d : Desk) (c : Call) (out : List ℕ) (k : ℕ) → answerOf d c (length out) .reply ≡ Written k
-    → take k (leavesOf d c out) ≡ writes (laneFor d c) c
-written = call-wrote
+-- Shortening answers the size of the shortest writing of the same message, exactly where that has room,
+pub shortened-exactly : (s : List ℕ) (room k : ℕ) → Bytes s
+    → (shortSays (shortenAnswer room s) ≡ yes k) ↔ ((w : List ℕ) × Shortens s w × (length w ≤ room) × (length w ≡ k))
+shortened-exactly s room k b = Iff·trans (short-is (shortenAnswer room s) k) (reports.shorten-exactly room s b k)
+
+-- and leaves it in the buffer.
+pub shortened-written : (s out w : List ℕ) → Bytes s → Shortens s w → length w ≤ length out → Over w out (shortenLeaves s out)
+shortened-written s out w b = reports.shorten-writes s out b w
+
+-- What a call of the desk writes is what the course says, a command, a reply, or nothing; and the answer is its length.
+pub written : (d : Desk) (c : Call) (out : List ℕ) (k : ℕ) → answerSays (answerOf d c (length out)) ≡ yes k
+    → (take k (leavesOf d c out) ≡ writes (laneFor d c) c) × (length (writes (laneFor d c) c) ≡ k)
+written d c out k h = (call-wrote d c out k h, call-size d c out k h)
 
 -- A terminal reads the command of an opening as that opening: a sale of that amount, in euros; a refund of that amount, or the reversal
 -- of that receipt, with that password.
@@ -91,13 +114,12 @@ reply-reads-back = refl
 -- ---- ".. has the same bytes exactly when all its lengths were in shortest form"
 
 -- Shortening changes a message exactly where the reader says that it is not shortest.
-pub same-bytes-exactly : (s : List ℕ) (t : Outline) → Bytes s → readAnswer s ≡ Accepted t → (shorten s ≡ got s) ↔ (t .shortest ≡ true)
+pub same-bytes-exactly : (s : List ℕ) (t : Outline) → Bytes s → readSays (readAnswer s) ≡ yes t → (shorten s ≡ got s) ↔ (t .shortest ≡ true)
 unfolding outlineOf
 same-bytes-exactly s t b h =
-    let k = read-exactly s t b .0 h in
-    let m = k .0 in
-    let e : isShort m ≡ t .shortest = ap (λ (x : Outline). x .shortest) (k .3) in
-    rw (← e) (shortest.shorten-exactly s m b (reading.read-exactly s m b .1 (k .1, k .2)))
+    let k = read-gives s t .0 h in
+    let e : isShort (k .0) ≡ t .shortest = ap (λ (x : Outline). x .shortest) (k .2) in
+    rw (← e) (shortest.shorten-exactly s (k .0) b (k .1))
 
 -- Shortening twice changes nothing more.
 pub shortened-once : (s w : List ℕ) → Bytes s → shorten s ≡ got w → shorten w ≡ got w
@@ -107,14 +129,53 @@ shortened-once = shortest.shorten-twice
 pub never-longer : (m : Message) → MessageOk m → length (write m) ≤ length (messageBytes m)
 never-longer = shortest.never-longer
 
+-- ---- the fields of a message, and what a status information tells
+
+module _ (s : List ℕ) (b : Bytes s) where
+  -- Field number k, from 0, is answered with its id and where its value lies exactly where it stands in the message,
+  pub field-found : (k : ℕ) (l : Listed) → (fieldSays (fieldAnswer k s) ≡ yes (some l)) ↔ ((f : Field) × Stands s k f l)
+  field-found k l = Iff·trans (field-is (fieldAnswer k s) l) (found.field-exactly s b k l)
+
+  -- the field with an id likewise, and no id has two.
+  pub named-found : (id : ℕ) (l : Listed) → (fieldSays (namedAnswer id s) ≡ yes (some l)) ↔ ((k : ℕ) × (f : Field) × Stands s k f l × (l .id ≡ id))
+  named-found id l = Iff·trans (field-is (namedAnswer id s) l) (found.named-exactly s b id l)
+
+  -- None is answered where none stands, and only there.
+  pub none-found : (k : ℕ) → (fieldSays (fieldAnswer k s) ≡ yes none) ↔ ((f : Field) (l : Listed) → Stands s k f l → ⊥)
+  none-found k = Iff·trans (field-is-none (fieldAnswer k s)) (found.field-end s b k)
+
+  pub none-named : (id : ℕ)
+      → (fieldSays (namedAnswer id s) ≡ yes none) ↔ ((j : ℕ) (f : Field) (l : Listed) → Stands s j f l → l .id ≡ id → ⊥)
+  none-named id = Iff·trans (field-is-none (namedAnswer id s)) (found.named-end s b id)
+
+  -- The part of the message that is answered is the field's value, of field 06 too.
+  pub found-value : (k : ℕ) (f : Field) (l : Listed) → Stands s k f l → part (l .from) (l .to) s ≡ fieldValue f
+  found-value k f l st = found.found-part s b k f l st
+
+  -- The list itself is found where it stands.
+  pub list-found : (from to : ℕ) → (placeSays (listPlace s) ≡ yes (some (from, to))) ↔ ListStands s from to
+  list-found from to = Iff·trans (place-is (listPlace s) from to) (found.list-exactly s b from to)
+
+  -- P20: "code (27), amount (04) and receipt (87)": each is told exactly where a status information has that field.
+  pub code-exactly : (c : ℕ) → (codeSays (statusOf s .code) ≡ some c) ↔ TellsCode s c
+  code-exactly c = Iff·trans (code-is (statusOf s .code) c) (status.code-exactly s b c)
+
+  pub amount-exactly : (n : ℕ) → (amountSays (statusOf s .amount) ≡ some n) ↔ TellsAmount s n
+  amount-exactly n = Iff·trans (amount-is (statusOf s .amount) n) (status.amount-exactly s b n)
+
+  pub receipt-exactly : (n : ℕ) → (receiptSays (statusOf s .receipt) ≡ some n) ↔ TellsReceipt s n
+  receipt-exactly n = Iff·trans (receipt-is (statusOf s .receipt) n) (status.receipt-exactly s b n)
+
 -- ---- the card name
 
--- A receipt shows the name in field 8B of the status information, up to its first zero byte; where there is none, the till's own:
--- M13, M14.
-pub card-name : (s till : List ℕ) → Bytes s → cardName s till ≡ shownName (valueIn 0x8B (statusFields (readOf s))) till
-card-name = shown
+-- A receipt shows the name in field 8B of the status information, up to its first zero byte; where there is none, the till's own. It is
+-- a part of the one or of the other, and lies there: M13 to M15.
+pub card-name : (s till name : List ℕ) (p q r : ℕ × ℕ) → Bytes s
+    → Shown s p till q name r ↔ ((name ≡ cardName s till) × (r ≡ namePlace p q (nameAt s)))
+card-name s till name p q r b = names.shown-exactly s b till name p q r
 
--- M15: "What is handed back is a part of the message or of the own name, never a copy."
-pub no-copy : (s till : List ℕ) (p q : ℕ × ℕ) → Bytes s
-    → InMessage s (cardName s till) p (namePlace p q (nameAt s)) ⊎ ((cardName s till ≡ till) × (namePlace p q (nameAt s) ≡ q))
-no-copy = name-lies
+-- No empty name lies in a message: where field 8B has one, the answer is the till's own.
+pub no-empty-name : (s : List ℕ) → Bytes s
+    → ((a e : ℕ) → nameAt s ≡ between a e → a < e)
+    × ((k : ℕ) (f : Field) (l : Listed) → Stands s k f l → l .id ≡ 0x8B → UpToZero (fieldValue f) [] → nameAt s ≡ own)
+no-empty-name s b = (names.part-not-empty s b, names.empty-own s b)

@@ -1,19 +1,20 @@
--- The promises, in the order in which an auditor reads them: the cases; the three demands; the auditor's questions; the tape; and that
--- every public function ends and states one answer. Behind them the laws that they cite.
+-- The promises, in the order in which an auditor reads them: the cases; the three demands; the auditor's questions; the tape; the
+-- lister; and that every public function ends and states one answer. Behind them the laws that they cite.
 pub mod CaseLaws
 pub mod DemandOne
 pub mod DemandTwo
 pub mod DemandThree
 pub mod Questions
 pub mod TheTape
+pub mod TheLister
 pub mod Ends
 pub mod OneAnswer
 pub mod ReadTable
-pub mod TapeTable
 pub mod TapeAnswers
 pub mod Secrets
 pub mod Answers
-pub mod NameTable
+pub mod Asked
 pub mod Turns
+pub mod OtherDays
 pub mod Counted
 pub mod Openings

@@ -232,7 +232,7 @@ pub text-add-size-one : (κs : _) (a : _) → Only itself (λ e. now (e .1 .1 .0
 text-add-size-one κs a = only _ _ (λ r e h. (ap (λ (t : Text). t .at) h, ap (λ (t : Text). t .bytes) h))
 
 pub text-list-one : (κs : _) (a : _) → Only itself (λ e. now (e .1 .0)) (listing.list.Reads.Learnt κs a)
-text-list-one κs a = only _ _ (λ r e h. (ap (λ (t : Text). t .at) h, ap (λ (t : Text). t .bytes) h))
+text-list-one κs a = only _ _ (λ r e h. (ap (λ (t : Text). t .at) (h .0), ap (λ (t : Text). t .bytes) (h .0)))
 
 pub fill-one : (κs : _) (a : _) → Only nothing (λ e. now (e .0)) (buffers.fill.Reads.Learnt κs a)
 fill-one κs a = only _ _ (λ r e h. (refl, h))

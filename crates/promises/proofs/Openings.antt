@@ -12,8 +12,8 @@ use Rattle.zvt_rules.proofs.Tests.{pick-under}
 use Rattle.desk_rules.specs.Course.{Call, laneOf, opens}
 use Rattle.desk_rules.specs.Desk.{fresh, Accepted}
 use Rattle.desk_rules.specs.Runs.{having, callsOf}
-use Rattle.desk_rules.specs.Payments.{paymentsOf, flattened, NoneOpens, Begins}
-use Rattle.desk_rules.proofs.DayBook.{every-opening}
+use Rattle.desk_rules.specs.Payments.{paymentsOf, flattened}
+use Rattle.desk_rules.proofs.DayBook.{NoneOpens, Begins, ended-begin, ongoing-begin, payments-calls}
 use Rattle.promises.specs.Days.{openingsIn, firsts}
 
 -- ---- of calls in a row, and of a lane's calls
@@ -43,7 +43,7 @@ none-in (x ∷ xs) n = rw (n .0) (none-in xs (n .1))
 payment-first : (p : List Call) → Begins p → openingsIn p ≡ firsts (p ∷ [])
 unfolding Begins openingsIn firsts
 payment-first [] b = absurd b
-payment-first (o ∷ ds) b = rw (b .0, none-in ds (b .1))
+payment-first (o ∷ ds) b = rw (b .1, none-in ds (b .2))
 
 -- payments that begin so
 unfoldable All : List (List Call) → Type 0
@@ -65,18 +65,18 @@ joined-firsts ((o ∷ ds) ∷ ps) h =
 -- ---- one by one
 module _ (cs : List Call) (h : Accepted fresh cs) where
   begun : All (paymentsOf cs .ended)
-  begun = all-begin (paymentsOf cs .ended) (λ j l. every-opening cs h .ended j l .3)
+  begun = all-begin (paymentsOf cs .ended) (ended-begin cs h)
 
   open-first : (k : ℕ) → openingsIn (getD (paymentsOf cs .ongoing) k []) ≡ firsts (getD (paymentsOf cs .ongoing) k [] ∷ [])
   unfolding firsts openingsIn
-  open-first k = ⊎-elim (λ e. rw e) (payment-first _) (every-opening cs h .ongoing k)
+  open-first k = ⊎-elim (λ e. rw e) (payment-first _) (ongoing-begin cs h k)
 
   pub one-by-one : (k : ℕ) → callsOf k (openingsIn cs)
       ≡ callsOf k (firsts (paymentsOf cs .ended)) ++ firsts (getD (paymentsOf cs .ongoing) k [] ∷ [])
   one-by-one k =
       let p = paymentsOf cs in
       sym (openings-lane k cs)
-      ∙ ap openingsIn (every-opening cs h .calls k)
+      ∙ ap openingsIn (payments-calls cs h k)
       ∙ openings-append (callsOf k (flattened (p .ended))) (getD (p .ongoing) k [])
       ∙ ap₂ (λ (xs ys : List Call). xs ++ ys)
       (openings-lane k (flattened (p .ended)) ∙ ap (callsOf k) (joined-firsts (p .ended) begun)) (open-first k)

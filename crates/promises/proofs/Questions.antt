@@ -1,66 +1,46 @@
 -- The auditor's three questions, each with the theorem that answers it. A day is any list of calls that the desk accepted, from a fresh
 -- one on. Assumes nothing.
-use mathlib.Core.Path.{_≡_, refl, sym, ap, _∙_}
+use mathlib.Core.Path.{_≡_, refl, ap, _∙_}
+use mathlib.Core.Logic.{_↔_}
 use mathlib.Core.List.{List, [], _∷_, _++_}
 use Prim.Native.Nat.{ℕ, _<_}
-use native.Mathlib.Omega.{arith}
 use lib.ListN.{length, getD, take}
+use Rattle.desk_rules.specs.declared.Kind.{Kind}
 use Rattle.desk_rules.specs.declared.Outcome.the-variants.{Approved}
 use Rattle.desk_rules.specs.declared.Desk.{Desk}
-use Rattle.desk_rules.specs.declared.Line.{Line}
 use Rattle.desk_rules.specs.Lanes.{blankLine}
 use Rattle.desk_rules.specs.Course.{Call, laneOf}
 use Rattle.desk_rules.specs.Desk.{State, laneAt, Decision, refuse, accept, decide}
 use Rattle.desk_rules.specs.Memory.{freshDesk, linesOfDesk, view, Valid, refusedAnswer, answerOf}
 use Rattle.desk_rules.specs.Runs.{ofLane, callsOf}
-use Rattle.desk_rules.specs.Payments.{paymentsOf, WholePayment, paying, lineOf}
+use Rattle.desk_rules.specs.Payments.{paymentsOf}
+use Rattle.desk_rules.specs.believed.Due.{Due}
 use Rattle.desk_rules.proofs.Lanes.{isolation}
-use Rattle.desk_rules.proofs.DayBook.{lines-length, line-of}
-use Rattle.desk_rules.proofs.DayBook as book
 use Rattle.desk_rules.proofs.Memory.{refused-same, follows}
 use Rattle.promises.specs.Days.{DeskTurn, callsIn, OfBytes, Taken, linesIn, openingsIn, firsts}
 use Rattle.promises.specs.Counted.{Counted}
-use Rattle.promises.proofs.Turns.{a-day, of-desk}
+use Rattle.promises.proofs.Turns.{a-day}
 use Rattle.promises.proofs.Counted.{counted}
 use Rattle.promises.proofs.Openings.{one-by-one}
 use Rattle.promises.proofs.DemandThree.{every-line}
 
 module _ (day : List DeskTurn) (b : OfBytes (callsIn day)) (t : Taken freshDesk day) where
-  -- line j is judged by the calls of payment j
-  by-payment : (j : ℕ) → j < length (linesIn day) → let p = getD (paying (paymentsOf (callsIn day) .ended)) j [] in
-      getD (linesIn day) j blankLine ≡ lineOf (take j (linesIn day)) p
-  unfolding view
-  by-payment =
-      let its = a-day day b t in
-      of-desk
-      (λ (s : State). (j : ℕ) → j < length (s .lines) → let p = getD (paying (paymentsOf (callsIn day) .ended)) j [] in
-      getD (s .lines) j blankLine ≡ lineOf (take j (s .lines)) p) day its (line-of (callsIn day) (its .accepted))
-
-  -- "Which bytes from a terminal made you count this sale?" Line j is made by the calls of the j-th payment that ended, which are all of
-  -- one lane and begin with its opening; and if it is approved, by a report of code 00, the last that this payment had, and a completion.
-  pub which-bytes : (j : ℕ) → j < length (linesIn day) → let p = getD (paying (paymentsOf (callsIn day) .ended)) j [] in
+  -- "Which bytes from a terminal made you count this sale?" Line j is what is due for the j-th payment that ended: calls of one lane from
+  -- its opening to its end. It is an approved line of that kind with that settled amount exactly when a report of code 00, the last that
+  -- this payment had, and a completion say so.
+  pub which-bytes : (j : ℕ) → j < length (linesIn day) → let calls = getD (paymentsOf (callsIn day) .ended) j [] in
       let line = getD (linesIn day) j blankLine in
-      (line ≡ lineOf (take j (linesIn day)) p) × WholePayment p × (line .outcome ≡ Approved → Counted (take j (linesIn day)) p)
-  which-bytes j l =
-      let e = by-payment j l in
-      let few = ap length (every-line day b t) in
-      let all = lines-length [] (paying (paymentsOf (callsIn day) .ended)) in (
-        e,
-        book.every-opening (callsIn day) (a-day day b t .accepted) .booked j (omega (arith, l)),
-        λ a. counted (take j (linesIn day)) _ (ap (λ (x : Line). x .outcome) (sym e) ∙ a),
-      )
+      Due (take j (linesIn day)) calls line
+      × ((kind : Kind) (amount : ℕ)
+      → ((line .outcome ≡ Approved) × (line .kind ≡ kind) × (line .settled ≡ amount)) ↔ Counted (take j (linesIn day)) calls kind amount)
+  which-bytes j small = let d = every-line day b t .1 j small _ .0 refl in (d, counted d)
 
   -- "Can a payment begin and leave no line at all?" The openings of a lane are, one by one and in order, the first calls of its payments: of
-  -- those that ended and of the one that is still open. Those that ended and take a place in the book are as many as its lines, and that is
-  -- a payment of every kind (`every-kind-booked`).
+  -- those that ended and of the one that is still open. Those that ended are as many as the book's lines.
   pub no-payment-lost : let payments = paymentsOf (callsIn day) in
-      (length (paying (payments .ended)) ≡ length (linesIn day))
+      (length (payments .ended) ≡ length (linesIn day))
       × ((k : ℕ) → callsOf k (openingsIn (callsIn day)) ≡ callsOf k (firsts (payments .ended)) ++ firsts (getD (payments .ongoing) k [] ∷ []))
-  no-payment-lost =
-      let accepted = a-day day b t .accepted in
-      let few = ap length (every-line day b t) in
-      let all = lines-length [] (paying (paymentsOf (callsIn day) .ended)) in
-      (omega arith, one-by-one (callsIn day) accepted)
+  no-payment-lost = (every-line day b t .0, one-by-one (callsIn day) (a-day day b t .accepted))
 
 -- "If two terminals talk at once, can one customer's answer land on the other's line?" A call for one lane changes no other lane, and none
 -- of the lines of another lane.

@@ -10,11 +10,11 @@ use borrow.Author.Tests.{le-leb}
 use Rattle.zvt_rules.specs.Reading.{Reading, got, refused, pick}
 use Rattle.zvt_rules.specs.Fields.{Field, plain, container, fieldId}
 use Rattle.zvt_rules.specs.Message.{Body, bytes, listed, Message, readOf, headerSize}
-use Rattle.zvt_rules.specs.Writing.{fieldBytes}
-use Rattle.zvt_rules.specs.Grammar.{Bytes}
+use Rattle.zvt_rules.specs.believed.Writing.{fieldBytes, bodyBytes, lengthBytes, messageBytes}
+use Rattle.zvt_rules.specs.believed.Grammar.{Bytes}
 use Rattle.zvt_rules.specs.Values.{fieldValue, statusFields, statusOf, isStatus, statusIn, bodyFields}
 use Rattle.zvt_rules.proofs.Tests.{pick-test}
-use Rattle.zvt_rules.proofs.MessageBytes.{read-sound}
+use Rattle.zvt_rules.proofs.Readings.{got-same}
 use Rattle.zvt_rules.specs.Answers.{outlineOf, asReadAnswer, readAnswer}
 use Rattle.zvt_rules.specs.Listed.{listedAt, listedFrom, listedBody, listedMessage, nthListed, fieldAnswer}
 use Rattle.zvt_rules.specs.declared.Listed.{Listed}
@@ -23,20 +23,23 @@ use Rattle.desk_rules.specs.declared.Phase.the-variants.{Idle, Waiting, Running
 use Rattle.desk_rules.specs.declared.Lane.{Lane}
 use Rattle.desk_rules.specs.declared.Line.{Line}
 use Rattle.desk_rules.specs.declared.Opening.{Opening}
+use Rattle.desk_rules.specs.declared.Opening.the-variants.{Sale as sale, Refund as refund, Reversal as reversal}
 use Rattle.desk_rules.specs.declared.Reference.{Reference}
-use Rattle.desk_rules.specs.Numbers.{mostPassword}
 use Rattle.desk_rules.specs.Kinds.{booked}
 use Rattle.desk_rules.specs.Openings.{kindOf, refersTo, lastLine, commandOf, commandBytes, commandSize}
-use Rattle.desk_rules.specs.Course.{openedBy, Call, opening, message, lost, laneOf, needsPlace, moves, answered, writes, NumbersFit}
+use Rattle.desk_rules.specs.Course.{openedBy, heard, Call, opening, message, lost, laneOf, needsPlace, moves, replyBytes, answered, writes, NumbersFit}
 use Rattle.desk_rules.specs.Desk.{State, laneAt, Decision, refuse, accept, decide, step, Accepts, Accepted}
 use Rattle.desk_rules.specs.Memory.{linesOfDesk, view, answerBy}
 use Rattle.desk_rules.proofs.Commands.{command-size, command-reads}
 use Rattle.tape_rules.specs.declared.Taped.{Taped}
-use Rattle.tape_rules.specs.Records.{secret, maskField, maskList, maskBody, maskMessage, masked, HiddenBody, Hidden, Record, replyEntry, entriesBy, entriesOf}
+use Rattle.tape_rules.specs.Records.{secret, maskField, maskList, maskBody, maskMessage, masked, Record, replyEntry, entriesBy, entriesOf}
 use Rattle.tape_rules.specs.Recording.{callBytes, decideTaped, usedBy, tapedBy, tapedAnswer, tapeBy, tapedLeaves}
 use Rattle.tape_rules.specs.Taping.{TapeTurn, Day, afterTurn, tapedRun}
-use Rattle.tape_rules.proofs.Masks.{mask-same, mask-reads, mask-hides, masked-refused, alike-recorded, withoutPassword, command-masked, opening-masked}
-use Rattle.tape_rules.proofs.Unseen.{alike-heard, heard-reads}
+use Rattle.tape_rules.specs.believed.Masking.{RecordedAs}
+use Rattle.tape_rules.proofs.Masks.{mask-same, mask-reads, masked-got, masked-refused, masked-twice, withoutPassword, opening-masked}
+use Rattle.tape_rules.proofs.Places.{recorded-own, recorded-exactly}
+use Rattle.tape_rules.proofs.RecordLaws.{command-own}
+use Rattle.tape_rules.proofs.Unseen.{mask-heard, heard-reads}
 use Rattle.promises.specs.Days.{OfBytes}
 use Rattle.promises.specs.TapeDays.{Hiding, AlikeOpening, refunds, reversals, AlikeCall, unchanged, openings, messages, AlikeDays}
 use Rattle.promises.proofs.DemandTwo.{reply-reads-back}
@@ -105,21 +108,41 @@ unfolding Hiding
 hiding-append [] ts h k = k
 hiding-append (r ∷ rs) ts h k = (h .0, hiding-append rs ts (h .1) k)
 
-opening-hides : (o : Opening) → readOf (masked (commandBytes o)) ≡ got (maskMessage (commandOf o))
-opening-hides o = ap readOf (opening-masked o) ∙ command-reads (withoutPassword o) ∙ ap got (sym (command-masked o))
+-- what is recorded of an opening is a command with password 0, which is recorded as it is
+opening-hides : (o : Opening) → RecordedAs (masked (commandBytes o)) (masked (commandBytes o))
+opening-hides o =
+    let e = withoutPassword o in
+    rw (opening-masked o)
+    (recorded-own (commandBytes e) (command-own e) (commandBytes e) .1 ((commandOf e, command-reads e), opening-masked e ∙ ap commandBytes (twice o)))
+  where
+    twice : (o : Opening) → withoutPassword (withoutPassword o) ≡ withoutPassword o
+    twice (sale amount) = refl
+    twice (refund password amount) = refl
+    twice (reversal password receipt) = refl
+
+-- and so is what is recorded of a message
+masked-hides : (s : List ℕ) (m : Message) → Bytes s → readOf s ≡ got m → RecordedAs (masked s) (masked s)
+masked-hides s m b e =
+    let read = mask-reads s m b e in
+    recorded-own (masked s) (λ n f. ap messageBytes (got-same (sym f ∙ read)) ∙ sym (masked-got s m e)) (masked s) .1
+    ((maskMessage m, read), masked-twice s b)
 
 reply-hides : (i : ℕ) (p : Phase) → Hiding (replyEntry i (answered p))
-unfolding Hiding replyEntry answered Hidden HiddenBody
+unfolding Hiding replyEntry answered maskMessage maskBody messageBytes bodyBytes lengthBytes
 reply-hides i Idle = tt
 reply-hides i Waiting = tt
-reply-hides i Running = (inr (_, reply-reads-back, tt), tt)
+reply-hides i Running = (
+  inr (recorded-own replyBytes (λ n f. ap messageBytes (got-same (sym f ∙ reply-reads-back))) replyBytes .1
+      ((_, reply-reads-back), masked-got replyBytes _ reply-reads-back)),
+  tt,
+)
 
 call-hides : (s : State) (c : Call) → Accepts s c → NumbersFit c → Hiding (entriesBy (laneAt (s .lanes) (laneOf c)) c)
 unfolding Hiding entriesBy laneOf writes NumbersFit
-call-hides s (opening i o) a n = (inr (_, opening-hides o, mask-hides (commandOf o)), tt)
+call-hides s (opening i o) a n = (inr (opening-hides o), tt)
 call-hides s (message i b) a n =
     let k = heard-reads s i b a in
-    (inr (_, mask-reads b (k .0) n (k .1), mask-hides (k .0)), reply-hides i (laneAt (s .lanes) i .phase))
+    (inr (masked-hides b (k .0) n (k .1)), reply-hides i (laneAt (s .lanes) i .phase))
 call-hides s (lost i) a n = (inl refl, tt)
 
 pub run-hides : (s : State) (cs : List Call) → Accepted s cs → OfBytes cs → Hiding (entriesOf s cs)
@@ -140,8 +163,8 @@ record Agree (c e : Call) : Type 0 where
 -- two openings that differ in a password alone ask for the same, and are recorded as the same
 alike-opened : {o e : Opening} → AlikeOpening o e → (l : Lane) (line : Line) → openedBy l o line ≡ openedBy l e line
 unfolding openedBy
-alike-opened (refunds p q amount hp hq) l line = rw (le-leb p mostPassword hp, le-leb q mostPassword hq)
-alike-opened (reversals p q receipt hp hq) l line = rw (le-leb p mostPassword hp, le-leb q mostPassword hq)
+alike-opened (refunds p q amount hp hq) l line = rw (le-leb p 999_999 hp, le-leb q 999_999 hq)
+alike-opened (reversals p q receipt hp hq) l line = rw (le-leb p 999_999 hp, le-leb q 999_999 hq)
 
 alike-without : {o e : Opening} → AlikeOpening o e
     → (withoutPassword o ≡ withoutPassword e) × (refersTo o ≡ refersTo e) × (kindOf o ≡ kindOf e) × (commandSize o ≡ commandSize e)
@@ -160,13 +183,14 @@ agree (openings i o e a) =
       size = λ l. command-size o ∙ w .3 ∙ sym (command-size e);
       entries = λ l. rw (opening-masked o, opening-masked e, w .0);
     }
-agree (messages i s t m n b d e f a) =
+agree (messages i s t w b d r q) =
+    let same : masked s ≡ masked t = recorded-exactly s w b .0 r .1 ∙ sym (recorded-exactly t w d .0 q .1) in
     record {
       lane = refl;
       needs = refl;
-      move = λ l ls. alike-heard l s t m n (e, read-sound s m b e .0) (f, read-sound t n d f .0) a;
+      move = λ l ls. sym (mask-heard l s b) ∙ ap (heard l) same ∙ mask-heard l t d;
       size = λ l. refl;
-      entries = λ l. rw (alike-recorded s t m n e f a);
+      entries = λ l. rw same;
     }
 
 module _ (c e : Call) (a : Agree c e) where

@@ -1,26 +1,133 @@
--- What an answer of the desk says: refused with a number, or taken. Definitions only.
+-- What an answer says, for each enum that a public function answers with: a number of refusal (R1 to R21), or values. The promises are
+-- stated through it. Definitions only.
 use mathlib.Core.Path.{_≡_}
+use mathlib.Core.Option.{Option, none, some}
+use mathlib.Core.List.{List, _∷_, _++_}
 use Prim.Native.Nat.{ℕ, _<_}
-use Rattle.zvt_rules.specs.declared.Refusal.{Refusal}
+use lib.ListN.{length}
+use Rattle.zvt_rules.specs.declared.Header.{Header}
+use Rattle.zvt_rules.specs.declared.Outline.{Outline}
+use Rattle.zvt_rules.specs.declared.Listed.{Listed}
+use Rattle.zvt_rules.specs.declared.HeaderAnswer.{HeaderAnswer}
+use Rattle.zvt_rules.specs.declared.HeaderAnswer.the-variants.{Header as header-got, Refused as header-refused}
+use Rattle.zvt_rules.specs.declared.ReadAnswer.{ReadAnswer}
+use Rattle.zvt_rules.specs.declared.ReadAnswer.the-variants.{Accepted, Refused as read-refused}
+use Rattle.zvt_rules.specs.declared.FirstAnswer.{FirstAnswer}
+use Rattle.zvt_rules.specs.declared.FirstAnswer.the-variants.{Accepted as first-accepted, Refused as first-refused}
+use Rattle.zvt_rules.specs.declared.ShortenAnswer.{ShortenAnswer}
+use Rattle.zvt_rules.specs.declared.ShortenAnswer.the-variants.{Written as short-written, Refused as short-refused}
+use Rattle.zvt_rules.specs.declared.ListPlace.{ListPlace}
+use Rattle.zvt_rules.specs.declared.ListPlace.the-variants.{Nowhere, Between}
+use Rattle.zvt_rules.specs.declared.FieldAnswer.{FieldAnswer}
+use Rattle.zvt_rules.specs.declared.FieldAnswer.the-variants.{End as no-field, Field}
+use Rattle.zvt_rules.specs.declared.ToldCode.{ToldCode}
+use Rattle.zvt_rules.specs.declared.ToldCode.the-variants.{Missing as no-code, Code}
+use Rattle.zvt_rules.specs.declared.ToldAmount.{ToldAmount}
+use Rattle.zvt_rules.specs.declared.ToldAmount.the-variants.{Missing as no-amount, Amount}
+use Rattle.zvt_rules.specs.declared.ToldReceipt.{ToldReceipt}
+use Rattle.zvt_rules.specs.declared.ToldReceipt.the-variants.{Missing as no-receipt, Receipt}
 use Rattle.desk_rules.specs.declared.Phase.the-variants.{Idle}
+use Rattle.desk_rules.specs.declared.Lane.{Lane}
+use Rattle.desk_rules.specs.declared.Line.{Line}
 use Rattle.desk_rules.specs.declared.Desk.{Desk}
 use Rattle.desk_rules.specs.declared.Answer.{Answer}
+use Rattle.desk_rules.specs.declared.Reply.{Reply}
 use Rattle.desk_rules.specs.declared.Reply.the-variants.{Written, Refused}
+use Rattle.desk_rules.specs.declared.LineAnswer.{LineAnswer}
+use Rattle.desk_rules.specs.declared.LineAnswer.the-variants.{End as no-line, Line as line-got}
+use Rattle.desk_rules.specs.declared.LaneAnswer.{LaneAnswer}
+use Rattle.desk_rules.specs.declared.LaneAnswer.the-variants.{Refused as lane-refused, Lane as lane-got}
 use Rattle.desk_rules.specs.Numbers.{laneCount}
-use Rattle.desk_rules.specs.Table.{phaseAt}
+use Rattle.desk_rules.specs.believed.Table.{phaseAt}
 use Rattle.desk_rules.specs.Memory.{view}
+use Rattle.tape_rules.specs.declared.BlockAnswer.{BlockAnswer}
+use Rattle.tape_rules.specs.declared.BlockAnswer.the-variants.{Payload, Refused as block-refused}
+use Rattle.tape_rules.specs.declared.TapedAnswer.{TapedAnswer}
 
--- R31: "A refusal answers its number and nothing else."
-abbrev pub numbered : ℕ → Refusal
-numbered n = record { number = n }
+-- R31: "A refusal answers its number and nothing else.": refused with that number, or these values
+pub data Said (A : Type 0) : Type 0 where
+  no : ℕ → Said A
+  yes : A → Said A
 
--- a call is refused with that number
-abbrev pub Refuses : Answer → ℕ → Type 0
-Refuses a n = a .reply ≡ Refused (numbered n)
+-- it is not refused
+abbrev pub Takes : {A : Type 0} → Said A → Type 0
+Takes {A} x = (a : A) × (x ≡ yes a)
 
--- a call is taken: its answer says how many bytes were written
-abbrev pub Takes : Answer → Type 0
-Takes a = (k : ℕ) × (a .reply ≡ Written k)
+-- ---- the reader
+
+abbrev pub headerSays : HeaderAnswer → Said Header
+headerSays (header-got h) = yes h
+headerSays (header-refused r) = no (r .number)
+
+abbrev pub readSays : ReadAnswer → Said Outline
+readSays (Accepted m) = yes m
+readSays (read-refused r) = no (r .number)
+
+-- the first message, and where the next begins
+abbrev pub firstSays : FirstAnswer → Said (Outline × ℕ)
+firstSays (first-accepted m next) = yes (m, next)
+firstSays (first-refused r) = no (r .number)
+
+-- how many bytes were written
+abbrev pub shortSays : ShortenAnswer → Said ℕ
+shortSays (short-written k) = yes k
+shortSays (short-refused r) = no (r .number)
+
+-- where a list lies, from and to, and a field of it: what is not there is none, and not refused
+abbrev pub placeSays : ListPlace → Said (Option (ℕ × ℕ))
+placeSays Nowhere = yes none
+placeSays (Between from to) = yes (some (from, to))
+
+abbrev pub fieldSays : FieldAnswer → Said (Option Listed)
+fieldSays no-field = yes none
+fieldSays (Field l) = yes (some l)
+
+-- code, amount and receipt of a status information
+abbrev pub codeSays : ToldCode → Option ℕ
+codeSays no-code = none
+codeSays (Code c) = some c
+
+abbrev pub amountSays : ToldAmount → Option ℕ
+amountSays no-amount = none
+amountSays (Amount a) = some a
+
+abbrev pub receiptSays : ToldReceipt → Option ℕ
+receiptSays no-receipt = none
+receiptSays (Receipt k) = some k
+
+-- ---- the desk, and what is written to a tape or from one
+
+-- how many bytes were written
+abbrev pub replySays : Reply → Said ℕ
+replySays (Written k) = yes k
+replySays (Refused r) = no (r .number)
+
+abbrev pub answerSays : Answer → Said ℕ
+answerSays a = replySays (a .reply)
+
+abbrev pub tapedSays : TapedAnswer → Said ℕ
+tapedSays a = replySays (a .reply)
+
+-- a line asked for: behind the last there is none, which is not refused
+abbrev pub lineSays : LineAnswer → Said (Option Line)
+lineSays no-line = yes none
+lineSays (line-got l) = yes (some l)
+
+-- a lane asked for
+abbrev pub laneSays : LaneAnswer → Said Lane
+laneSays (lane-got l) = yes l
+laneSays (lane-refused r) = no (r .number)
+
+-- how many bytes of payload a block holds
+abbrev pub blockSays : BlockAnswer → Said ℕ
+blockSays (Payload k) = yes k
+blockSays (block-refused r) = no (r .number)
+
+-- ---- what the promises say of answers
+
+-- x stands at place k of a list, counted from 0
+abbrev pub At : {A : Type 0} → List A → ℕ → A → Type 0
+At {A} xs k x = (before : List A) × (after : List A) × (xs ≡ before ++ (x ∷ after)) × (length before ≡ k)
 
 -- R19: "a payment is open at closing". P2: "A payment is open while its lane is waiting or running."
 unfoldable pub Open : Desk → Type 0

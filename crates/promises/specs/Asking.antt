@@ -8,19 +8,15 @@ use Rattle.zvt_rules.specs.Reading.{Reading, got, refused}
 use Rattle.zvt_rules.specs.Fields.{Field}
 use Rattle.zvt_rules.specs.Message.{Message, readOf}
 use Rattle.zvt_rules.specs.Values.{bodyFields}
-use Rattle.zvt_rules.specs.declared.ReadAnswer.{ReadAnswer}
-use Rattle.zvt_rules.specs.declared.ReadAnswer.the-variants.{Accepted, Refused as read-refused}
-use Rattle.zvt_rules.specs.declared.ShortenAnswer.{ShortenAnswer}
-use Rattle.zvt_rules.specs.declared.ShortenAnswer.the-variants.{Written as short-written, Refused as short-refused}
+use Rattle.zvt_rules.specs.declared.Outline.{Outline}
 use Rattle.zvt_rules.specs.Answers.{readAnswer, shortenAnswer, shortenLeaves}
 use Rattle.zvt_rules.specs.Name.{cardName}
 use Rattle.desk_rules.specs.declared.Line.{Line}
 use Rattle.desk_rules.specs.declared.Desk.{Desk}
-use Rattle.desk_rules.specs.declared.Reply.{Reply}
-use Rattle.desk_rules.specs.declared.Reply.the-variants.{Written, Refused}
 use Rattle.desk_rules.specs.Course.{Call}
 use Rattle.desk_rules.specs.Memory.{freshDesk, linesOfDesk, answerOf, leavesOf}
 use Rattle.desk_rules.specs.Turnover.{netOf}
+use Rattle.promises.specs.Answers.{Said, no, yes, readSays, shortSays, answerSays}
 use Rattle.promises.specs.Days.{buffer}
 
 -- ---- a row: what is asked, and what the rules answer
@@ -48,22 +44,17 @@ pub data CaseRow : Type 0 where
 
 -- ---- what the definitions answer
 
-unfoldable pub readSays : ReadAnswer → CaseAnswer
-readSays (Accepted m) = accepted (m .class * 256 + m .instruction) (m .length) (m .shortest) (m .objects)
-readSays (read-refused r) = refusal (r .number)
+-- a refusal by its number, and values as a row states them
+unfoldable pub shown : {A : Type 0} → Said A → (A → CaseAnswer) → CaseAnswer
+shown (no n) f = refusal n
+shown (yes a) f = f a
 
-unfoldable pub listSays : Reading Message → CaseAnswer
-listSays (got m) = fields (bodyFields (m .body))
-listSays (refused f) = refusal (f .number)
+abbrev pub messageShown : Outline → CaseAnswer
+messageShown m = accepted (m .class * 256 + m .instruction) (m .length) (m .shortest) (m .objects)
 
--- so many bytes were written into the output, which is left so
-unfoldable pub shortSays : ShortenAnswer → List ℕ → CaseAnswer
-shortSays (short-written n) out = gives (take n out)
-shortSays (short-refused r) out = refusal (r .number)
-
-unfoldable pub callSays : Reply → List ℕ → CaseAnswer
-callSays (Written n) out = gives (take n out)
-callSays (Refused r) out = refusal (r .number)
+unfoldable pub listShown : Reading Message → CaseAnswer
+listShown (got m) = fields (bodyFields (m .body))
+listShown (refused f) = refusal (f .number)
 
 -- a list as the body of a status information; an output as long as the message
 unfoldable pub status : List ℕ → List ℕ
@@ -73,22 +64,19 @@ unfoldable pub output : List ℕ → List ℕ
 output s = replicate (length s) 0
 
 -- the calls of a day one after another, and then what is asked of the desk; the first refusal is the answer
-unfoldable pub unlessNo : Reply → CaseAnswer → CaseAnswer
-unlessNo (Written n) a = a
-unlessNo (Refused r) a = refusal (r .number)
-
 unfoldable pub afterDay : Desk → List Call → (Desk → CaseAnswer) → CaseAnswer
 afterDay d [] ask = ask d
 afterDay d (c ∷ cs) ask =
     let a = answerOf d c (length buffer) in
-    unlessNo (a .reply) (afterDay (a .desk) cs ask)
+    shown (answerSays a) λ k. afterDay (a .desk) cs ask
 
+-- bytes are those first in the output, as many as were written
 unfoldable pub answerTo : Question → CaseAnswer
-answerTo (read s) = readSays (readAnswer s)
-answerTo (list s) = listSays (readOf (status s))
+answerTo (read s) = shown (readSays (readAnswer s)) messageShown
+answerTo (list s) = listShown (readOf (status s))
 answerTo (name s) = gives (cardName (status s) [])
-answerTo (short s) = shortSays (shortenAnswer (length s) s) (shortenLeaves s (output s))
-answerTo (call cs c) = afterDay freshDesk cs λ d. callSays (answerOf d c (length buffer) .reply) (leavesOf d c buffer)
+answerTo (short s) = shown (shortSays (shortenAnswer (length s) s)) λ k. gives (take k (shortenLeaves s (output s)))
+answerTo (call cs c) = afterDay freshDesk cs λ d. shown (answerSays (answerOf d c (length buffer))) λ k. gives (take k (leavesOf d c buffer))
 answerTo (day cs) = afterDay freshDesk cs λ d. book (linesOfDesk d) (netOf (linesOfDesk d))
 
 -- the answers that the definitions give to a table's rows, and those that stand in them

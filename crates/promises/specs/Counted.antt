@@ -3,48 +3,35 @@
 use mathlib.Core.Path.{_≡_}
 use Prim.Native.Nat.{ℕ}
 use mathlib.Core.List.{List, [], _∷_, _++_}
-use Rattle.zvt_rules.specs.Reading.{got}
-use Rattle.zvt_rules.specs.Message.{Message, readOf}
-use Rattle.zvt_rules.specs.Values.{statusOf}
-use Rattle.zvt_rules.specs.declared.Status.{Status}
-use Rattle.zvt_rules.specs.declared.ToldCode.the-variants.{Code}
+use Rattle.zvt_rules.specs.Message.{Body}
+use Rattle.zvt_rules.specs.Values.{bodyFields}
+use Rattle.zvt_rules.specs.Digits.{numberOf}
+use Rattle.desk_rules.specs.declared.Kind.{Kind}
+use Rattle.desk_rules.specs.declared.Kind.the-variants.{Reversal}
 use Rattle.desk_rules.specs.declared.Line.{Line}
-use Rattle.desk_rules.specs.Course.{amountBy, Call, message}
-use Rattle.desk_rules.specs.Payments.{askOf, remembered, lineOf}
+use Rattle.desk_rules.specs.Course.{Call, message}
+use Rattle.desk_rules.specs.believed.LastSale.{Last}
+use Rattle.desk_rules.specs.believed.Due.{Reads, Report, Told, CodeIs, Open}
 
--- P22: "06 0F ends the payment.": the bytes of a completion
-pub record Completes (s : List ℕ) : Type 0 where
-  pub message : Message
-  pub reads : readOf s ≡ got message
-  pub class : message .class ≡ 0x06
-  pub instruction : message .instruction ≡ 0x0F
-
--- P20: "Without field 27 it changes nothing.": a call that reports no code, and calls of that kind
-abbrev pub Silent : Call → Type 0
-Silent c = (st : Status) → remembered st c ≡ st
-
-unfoldable pub AllSilent : List Call → Type 0
-AllSilent [] = Unit {0}
-AllSilent (c ∷ cs) = Silent c × AllSilent cs
-
--- P20: "becomes the remembered status, all of it": the last report of those calls
-pub record Reported (cs : List Call) : Type 0 where
-  pub before : List Call
+-- the calls of a payment of that kind, after those lines, that are counted for that amount
+pub record Counted (before : List Line) (calls : List Call) (kind : Kind) (amount : ℕ) : Type 0 where
   pub lane : ℕ
-  pub report : List ℕ
-  pub after : List Call
-  pub calls : cs ≡ before ++ (message lane report ∷ after)
-  pub silent : AllSilent after
-
--- P23: "a remembered code 00 means approved". P24: "field 04 of the remembered status or, where it has none, the amount asked". The calls
--- of a payment, after those lines, from its opening to its completion
-pub record Counted (ls : List Line) (p : List Call) : Type 0 where
-  pub opening : Call
-  pub reported : List Call
-  pub lane : ℕ
+  pub sofar : List Call
   pub completion : List ℕ
-  pub calls : p ≡ opening ∷ (reported ++ (message lane completion ∷ []))
-  pub completes : Completes completion
-  pub report : Reported reported
-  pub code : statusOf (report .report) .code ≡ Code 0
-  pub settled : lineOf ls p .settled ≡ amountBy (statusOf (report .report) .amount) (askOf ls opening .asked)
+  pub in-order : calls ≡ sofar ++ (message lane completion ∷ [])
+  -- P22: "06 0F ends the payment. Its own fields are read, but what they say plays no part."
+  pub body : Body
+  pub completes : Reads completion 0x06 0x0F body
+  -- P20: the last report of an open payment
+  pub asked : ℕ
+  pub named : ℕ
+  pub told : List (List ℕ)
+  pub reported : List ℕ
+  pub last : Last Report told reported
+  pub its : Open lane before sofar kind asked named told (bodyFields (last .holds .body))
+  -- P23: "At 06 0F a remembered code 00 means approved."
+  pub code : CodeIs (bodyFields (last .holds .body)) 0
+  -- P24: "The settled amount is field 04 of the remembered status or, where it has none, the amount asked."
+  pub settled : Told (bodyFields (last .holds .body)) 0x04 numberOf asked amount
+  -- P25: "A reversal that settles another amount than it asked for is unclear."
+  pub same : kind ≡ Reversal → amount ≡ asked

@@ -1,12 +1,11 @@
 -- A day at the desk: calls one after another, each with the buffer that it is lent, answered as the functions' contracts state.
 -- Definitions only.
+use mathlib.Core.Path.{_≡_}
 use Prim.Native.Nat.{ℕ}
 use mathlib.Core.List.{List, [], _∷_}
 use lib.ListN.{length, take, replicate}
 use Rattle.zvt_rules.specs.Reading.{pick}
 use Rattle.desk_rules.specs.declared.Desk.{Desk}
-use Rattle.desk_rules.specs.declared.Reply.{Reply}
-use Rattle.desk_rules.specs.declared.Reply.the-variants.{Written, Refused}
 use Rattle.desk_rules.specs.declared.Answer.{Answer}
 use Rattle.desk_rules.specs.declared.Line.{Line}
 use Rattle.desk_rules.specs.Openings.{mostCommand}
@@ -14,7 +13,7 @@ use Rattle.desk_rules.specs.Course.{Call, laneOf, opens, NumbersFit}
 use Rattle.desk_rules.specs.Memory.{freshDesk, linesOfDesk, answerOf, leavesOf}
 use Rattle.desk_rules.specs.Runs.{having, Exchange, replies}
 use Rattle.desk_rules.specs.Payments.{oneByOne}
-use Rattle.promises.specs.Answers.{Takes}
+use Rattle.promises.specs.Answers.{Said, no, yes, Takes, answerSays}
 
 -- a call, and what it is lent for its command or reply; a lost link needs none
 pub record DeskTurn : Type 0 where
@@ -25,13 +24,9 @@ unfoldable pub callsIn : List DeskTurn → List Call
 callsIn [] = []
 callsIn (t ∷ ts) = t .call ∷ callsIn ts
 
--- calls with room enough for every command and reply
+-- room enough for every command and reply
 unfoldable pub buffer : List ℕ
 buffer = replicate mostCommand 0
-
-unfoldable pub roomy : List Call → List DeskTurn
-roomy [] = []
-roomy (c ∷ cs) = record { call = c; out = buffer } ∷ roomy cs
 
 -- a terminal's messages are of bytes: what the functions' parameters are
 unfoldable pub OfBytes : List Call → Type 0
@@ -44,7 +39,7 @@ answerIn d t = answerOf d (t .call) (length (t .out))
 -- every call is taken
 unfoldable pub Taken : Desk → List DeskTurn → Type 0
 Taken d [] = Unit {0}
-Taken d (t ∷ ts) = Takes (answerIn d t) × Taken (answerIn d t .desk) ts
+Taken d (t ∷ ts) = Takes (answerSays (answerIn d t)) × Taken (answerIn d t .desk) ts
 
 -- the desk that is left
 unfoldable pub deskAfter : Desk → List DeskTurn → Desk
@@ -52,13 +47,13 @@ deskAfter d [] = d
 deskAfter d (t ∷ ts) = deskAfter (answerIn d t .desk) ts
 
 -- and the bytes that each call wrote
-unfoldable pub bytesBy : Reply → List ℕ → List ℕ
-bytesBy (Written k) out = take k out
-bytesBy (Refused r) out = []
+unfoldable pub bytesBy : Said ℕ → List ℕ → List ℕ
+bytesBy (yes k) out = take k out
+bytesBy (no n) out = []
 
 unfoldable pub writtenIn : Desk → List DeskTurn → List (List ℕ)
 writtenIn d [] = []
-writtenIn d (t ∷ ts) = bytesBy (answerIn d t .reply) (leavesOf d (t .call) (t .out)) ∷ writtenIn (answerIn d t .desk) ts
+writtenIn d (t ∷ ts) = bytesBy (answerSays (answerIn d t)) (leavesOf d (t .call) (t .out)) ∷ writtenIn (answerIn d t .desk) ts
 
 -- the openings among calls, and the first calls of payments
 unfoldable pub openingsIn : List Call → List Call
@@ -83,6 +78,12 @@ linesIn day = linesOfDesk (atEnd day)
 abbrev pub repliesAt : ℕ → List DeskTurn → List Exchange
 repliesAt k day = having (λ r. laneOf (r .call)) k (replies (callsIn day) (writtenIn freshDesk day))
 
--- the third demand: "another run from a fresh book, each payment's calls in their own order", with room enough
-abbrev pub otherDay : List DeskTurn → List DeskTurn
-otherDay day = roomy (oneByOne (callsIn day))
+-- the turns of lane k in their order
+abbrev pub turnsAt : ℕ → List DeskTurn → List DeskTurn
+turnsAt k day = having (λ t. laneOf (t .call)) k day
+
+-- the third demand: "another run from a fresh book, each payment's calls in their own order, first the ended payments one after another in
+-- the order in which they ended, then the calls of each payment still open, lane by lane": each call with what it was lent in this one
+pub record OtherDay (day other : List DeskTurn) : Type 0 where
+  pub calls : callsIn other ≡ oneByOne (callsIn day)
+  pub turns : (k : ℕ) → turnsAt k other ≡ turnsAt k day

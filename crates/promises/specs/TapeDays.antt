@@ -4,37 +4,34 @@ use mathlib.Core.Path.{_≡_}
 use mathlib.Core.Logic.{_⊎_}
 use Prim.Native.Nat.{ℕ, _≤_}
 use mathlib.Core.List.{List, [], _∷_}
-use Rattle.zvt_rules.specs.Reading.{got}
-use Rattle.zvt_rules.specs.Message.{Message, readOf}
-use Rattle.zvt_rules.specs.Grammar.{Bytes}
+use Rattle.zvt_rules.specs.believed.Grammar.{Bytes}
 use Rattle.desk_rules.specs.declared.Opening.{Opening}
 use Rattle.desk_rules.specs.declared.Opening.the-variants.{Refund as refund, Reversal as reversal}
-use Rattle.desk_rules.specs.Numbers.{mostPassword}
 use Rattle.desk_rules.specs.Course.{Call, opening, message}
-use Rattle.tape_rules.specs.Records.{Record, Alike, Hidden}
+use Rattle.tape_rules.specs.Records.{Record}
 use Rattle.tape_rules.specs.Taping.{TapeTurn}
+use Rattle.tape_rules.specs.believed.Masking.{RecordedAs}
 
 -- what the turns of a day call
 unfoldable pub callsPlayed : List TapeTurn → List Call
 callsPlayed [] = []
 callsPlayed (u ∷ us) = u .call ∷ callsPlayed us
 
--- records that hold no bytes, as of a lost link, or a message in which nothing is left that must not be on the tape
+-- records that hold no bytes, as of a lost link, or a message in which nothing is left to hide: it would be recorded as it is
 unfoldable pub Hiding : List Record → Type 0
 Hiding [] = Unit {0}
-Hiding (r ∷ rs) = ((r .content ≡ []) ⊎ ((m : Message) × (readOf (r .content) ≡ got m) × Hidden m)) × Hiding rs
+Hiding (r ∷ rs) = ((r .content ≡ []) ⊎ RecordedAs (r .content) (r .content)) × Hiding rs
 
 -- the same opening, but for the digits of its password. P6: "The password is 0 to 999,999."
 pub data AlikeOpening : Opening → Opening → Type 0 where
-  refunds : (p q amount : ℕ) → p ≤ mostPassword → q ≤ mostPassword → AlikeOpening (refund p amount) (refund q amount)
-  reversals : (p q receipt : ℕ) → p ≤ mostPassword → q ≤ mostPassword → AlikeOpening (reversal p receipt) (reversal q receipt)
+  refunds : (p q amount : ℕ) → p ≤ 999_999 → q ≤ 999_999 → AlikeOpening (refund p amount) (refund q amount)
+  reversals : (p q receipt : ℕ) → p ≤ 999_999 → q ≤ 999_999 → AlikeOpening (reversal p receipt) (reversal q receipt)
 
--- the same call, but for a password or for the bytes that are hidden in a message
+-- the same call, but for a password or for the bytes that are hidden in a message: one record is that of both
 pub data AlikeCall : Call → Call → Type 0 where
   unchanged : (c : Call) → AlikeCall c c
   openings : (i : ℕ) (o e : Opening) → AlikeOpening o e → AlikeCall (opening i o) (opening i e)
-  messages : (i : ℕ) (s t : List ℕ) (m n : Message) → Bytes s → Bytes t → readOf s ≡ got m → readOf t ≡ got n → Alike m n
-      → AlikeCall (message i s) (message i t)
+  messages : (i : ℕ) (s t w : List ℕ) → Bytes s → Bytes t → RecordedAs s w → RecordedAs t w → AlikeCall (message i s) (message i t)
 
 -- call by call, with the same room lent to what each writes
 unfoldable pub AlikeDays : List TapeTurn → List TapeTurn → Type 0
