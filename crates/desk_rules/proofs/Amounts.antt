@@ -29,7 +29,7 @@ use Rattle.desk_rules.specs.declared.Reference.{Reference}
 use Rattle.desk_rules.specs.Numbers.{mostAsked, amountOk, passwordOk}
 use Rattle.desk_rules.specs.Kinds.{isReversal, isIdle}
 use Rattle.desk_rules.specs.Lanes.{blankLine}
-use Rattle.desk_rules.specs.Openings.{withinLimits, refersTo, concerns, lastFrom, lastLine, stands, askedBy, openedLane}
+use Rattle.desk_rules.specs.Openings.{withinLimits, refersTo, concerns, lastFrom, lastLine, stands, askedBy}
 use Rattle.desk_rules.specs.Course.{runningPairs, pairIs, heardWaiting, amountBy, settledAs, completedBy, abortedBy, reportedBy, movedBy, afterBody, heardRunning, heardBy, afterHeader, heard, lostBy, openedBy, Call, opening, message, lost, NumbersFit, moves}
 use Rattle.desk_rules.specs.Memory.{toldSmall}
 

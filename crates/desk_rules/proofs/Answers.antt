@@ -339,7 +339,7 @@ module _ (d : Desk) (c : Call) (out : List ℕ) (v : Valid d) (n : NumbersFit c)
 -- ---- closing
 
 -- every lane is idle, or some is not
-idle-or-not : (ls : List Lane) → (allIdle ls ≡ true) ⊎ ((i : ℕ) × (i < length ls) × (laneAt ls i .phase ≡ Idle → ⊥))
+pub idle-or-not : (ls : List Lane) → (allIdle ls ≡ true) ⊎ ((i : ℕ) × (i < length ls) × (laneAt ls i .phase ≡ Idle → ⊥))
 unfolding allIdle
 idle-or-not [] = inl refl
 idle-or-not (l ∷ ls) = go (isIdle (l .phase)) refl (idle-or-not ls)
@@ -350,7 +350,8 @@ idle-or-not (l ∷ ls) = go (isIdle (l .phase)) refl (idle-or-not ls)
     go true e (inl r) = inl r
     go true e (inr r) = inr (suc (r .0), omega (arith, r .1), r .2)
 
-all-are : (ls : List Lane) (i : ℕ) → allIdle ls ≡ true → laneAt ls i .phase ≡ Idle
+-- and where every lane is, each is
+pub all-are : (ls : List Lane) (i : ℕ) → allIdle ls ≡ true → laneAt ls i .phase ≡ Idle
 unfolding allIdle
 all-are [] i e = refl
 all-are (l ∷ ls) zero e = idle-test (l .phase) .0 (and-eq-true-iff (isIdle (l .phase)) (allIdle ls) .0 e .0)

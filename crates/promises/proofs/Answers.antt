@@ -1,38 +1,39 @@
 -- What the answer of a function says of the reading or the decision behind it. Assumes nothing.
 use mathlib.Core.Path.{_≡_, refl, sym, ap, _∙_}
-use mathlib.Core.Bool.{Bool, true, false, _&&_, false≢true, and-eq-true-iff}
+use mathlib.Core.Bool.{true}
 use mathlib.Core.Logic.{_↔_, _⊎_, inl, inr, ⊎-elim}
-use mathlib.Core.List.{List, [], _∷_}
-use Prim.Native.Nat.{ℕ, zero, suc, _<_, _≤_}
+use mathlib.Core.List.{List}
+use Prim.Native.Nat.{ℕ}
 use native.Mathlib.Omega.{arith}
 use lib.ListN.{length, take, drop}
 use lib.Seq.{take-at, drop-at}
-use lib.Dec.{ltb}
-use borrow.Author.Tests.{le-ltb, ltb-false}
-use Rattle.zvt_rules.specs.declared.Header.{Header}
 use Rattle.zvt_rules.specs.declared.Outline.{Outline}
-use Rattle.zvt_rules.specs.Reading.{Reading, got, refused, andThen}
+use Rattle.zvt_rules.specs.Reading.{Reading, got, refused}
 use Rattle.zvt_rules.specs.Message.{Heading, wholeHeader, Message, readOf, firstOf}
 use Rattle.zvt_rules.specs.believed.Writing.{messageBytes}
-use Rattle.zvt_rules.specs.Shortest.{write, shorten}
 use Rattle.zvt_rules.specs.Answers.{refusalOf, headerIn, asHeaderAnswer, headerAnswer, outlineOf, asReadAnswer, readAnswer}
 use Rattle.zvt_rules.specs.Answers.{asFirstAnswer, firstAnswer, shortened, asShortenAnswer, shortenAnswer, shortenLeaves}
 use Rattle.zvt_rules.specs.Buffers.{writtenLeaves}
 use Rattle.zvt_rules.proofs.Tests.{pick-test}
-use Rattle.zvt_rules.proofs.Readings.{got-same, unless-got, unless-on, then-got, then-on}
-use Rattle.desk_rules.specs.declared.Phase.{Phase}
-use Rattle.desk_rules.specs.declared.Phase.the-variants.{Idle, Waiting, Running}
-use Rattle.desk_rules.specs.declared.Lane.{Lane}
 use Rattle.desk_rules.specs.declared.Desk.{Desk}
 use Rattle.desk_rules.specs.declared.Answer.{Answer}
 use Rattle.desk_rules.specs.declared.Reply.the-variants.{Written}
-use Rattle.desk_rules.specs.Kinds.{isIdle}
 use Rattle.desk_rules.specs.Course.{Call, writes}
-use Rattle.desk_rules.specs.Desk.{laneAt, allIdle, Decision, refuse, accept, decide}
+use Rattle.desk_rules.specs.Desk.{allIdle, Decision, refuse, accept, decide}
 use Rattle.desk_rules.specs.Memory.{freshDesk, view, laneFor, Valid, refusedAnswer, answerOf, leavesOf, closeAnswer}
 use Rattle.desk_rules.proofs.Memory.{refused-same, accepted-answer, refused-leaves, accepted-leaves}
 use Rattle.promises.specs.Answers.{Said, no, yes, Takes, headerSays, readSays, firstSays, shortSays, answerSays, Open}
-use Rattle.promises.proofs.ReadTable.{No}
+use Rattle.desk_rules.proofs.Answers.{idle-or-not, all-are}
+use Rattle.zvt_rules.specs.declared.Fault.{Fault}
+use Rattle.zvt_rules.specs.believed.Rows.{Numbered}
+
+-- ---- a reading is refused with a number
+abbrev pub No : {A : Type 0} → Reading A → ℕ → Type 0
+No x n = (f : Fault) × (x ≡ refused f) × (f .number ≡ n)
+
+-- it is that of a row, where rows say each refusal
+pub by-rows : {A : Type 0} (x : Reading A) (Row : Fault → Type 0) → ((r : Fault) → (x ≡ refused r) ↔ Row r) → (n : ℕ) → No x n ↔ Numbered Row n
+by-rows x Row e n = (λ h. (h .0, e (h .0) .0 (h .1), h .2), λ h. (h .0, e (h .0) .1 (h .1), h .2))
 
 -- ---- an answer is refused with one number, or says one value
 pub no-same : {A : Type 0} {m n : ℕ} → _≡_ {A = Said A} (no m) (no n) → m ≡ n
@@ -106,34 +107,14 @@ pub short-says : (room : ℕ) (s : List ℕ) (n : ℕ) → (shortSays (shortenAn
 unfolding shortenAnswer
 short-says room s = said-no length (shortened room s) (short-said (shortened room s))
 
-pub header-gives : (s : List ℕ) (t : Header) → (headerSays (headerAnswer s) ≡ yes t) ↔ ((h : Heading) × (wholeHeader s ≡ got h) × (headerIn h ≡ t))
-unfolding headerAnswer
-header-gives s = said-yes headerIn (wholeHeader s) (header-said (wholeHeader s))
-
 pub read-gives : (s : List ℕ) (t : Outline) → (readSays (readAnswer s) ≡ yes t) ↔ ((m : Message) × (readOf s ≡ got m) × (outlineOf m ≡ t))
 unfolding readAnswer
 read-gives s = said-yes outlineOf (readOf s) (read-said (readOf s))
-
-pub first-gives : (s : List ℕ) (t : Outline × ℕ) → (firstSays (firstAnswer s) ≡ yes t) ↔ ((m : Message) × (firstOf s ≡ got m) × (firstTold m ≡ t))
-unfolding firstAnswer
-first-gives s = said-yes firstTold (firstOf s) (first-said (firstOf s))
 
 pub short-gives : (room : ℕ) (s : List ℕ) (k : ℕ)
     → (shortSays (shortenAnswer room s) ≡ yes k) ↔ ((w : List ℕ) × (shortened room s ≡ got w) × (length w ≡ k))
 unfolding shortenAnswer
 short-gives room s = said-yes length (shortened room s) (short-said (shortened room s))
-
--- what is shortened is the message written again, where it has room
-pub short-writes : (room : ℕ) (s w : List ℕ) → (shortened room s ≡ got w) ↔ ((m : Message) × (readOf s ≡ got m) × (write m ≡ w) × (length w ≤ room))
-unfolding shortened shorten
-short-writes room s w = (
-  λ e.
-      let k = then-got (andThen (readOf s) λ m. got (write m)) _ w e in
-      let m = then-got (readOf s) _ (k .0) (k .1) in
-      let u = unless-got (ltb room (length (k .0))) _ _ w (k .2) in
-      (m .0, m .1, got-same (m .2) ∙ got-same (u .1), rw (got-same (u .1)) at (ltb-false room (length (k .0)) (u .0))),
-  λ k. then-on _ w (then-on _ (k .0) (k .1) ∙ ap got (k .2)) ∙ unless-on _ _ (le-ltb room (length w) (k .3)),
-)
 
 -- ---- what a buffer that was lent holds at the end
 
@@ -200,29 +181,6 @@ module _ (d : Desk) (c : Call) (out : List ℕ) where
         ap (drop k) (accepted-leaves d c out taken) ∙ drop-at w (drop (length w) out) k call-size ∙ ap (λ (n : ℕ). drop n out) call-size
 
 -- ---- closing
-
--- every lane is idle, or some is not
-idle-or-not : (ls : List Lane) → (allIdle ls ≡ true) ⊎ ((i : ℕ) × (i < length ls) × (laneAt ls i .phase ≡ Idle → ⊥))
-unfolding allIdle
-idle-or-not [] = inl refl
-idle-or-not (l ∷ ls) = go (isIdle (l .phase)) refl (idle-or-not ls)
-  where
-    go : (t : Bool) → isIdle (l .phase) ≡ t → (allIdle ls ≡ true) ⊎ ((i : ℕ) × (i < length ls) × (laneAt ls i .phase ≡ Idle → ⊥))
-        → (t && allIdle ls ≡ true) ⊎ ((i : ℕ) × (i < length (l ∷ ls)) × (laneAt (l ∷ ls) i .phase ≡ Idle → ⊥))
-    go false e r = inr (0, omega arith, λ q. false≢true (sym e ∙ ap isIdle q))
-    go true e (inl r) = inl r
-    go true e (inr r) = inr (suc (r .0), omega (arith, r .1), r .2)
-
-idle-same : (p : Phase) → isIdle p ≡ true → p ≡ Idle
-idle-same Idle e = refl
-idle-same Waiting e = absurd (false≢true e)
-idle-same Running e = absurd (false≢true e)
-
-all-are : (ls : List Lane) (i : ℕ) → allIdle ls ≡ true → laneAt ls i .phase ≡ Idle
-unfolding allIdle
-all-are [] i e = refl
-all-are (l ∷ ls) zero e = idle-same _ (and-eq-true-iff (isIdle (l .phase)) (allIdle ls) .0 e .0)
-all-are (l ∷ ls) (suc i) e = all-are ls i (and-eq-true-iff (isIdle (l .phase)) (allIdle ls) .0 e .1)
 
 module _ (d : Desk) (v : Valid d) where
   pub open-or-not : (allIdle (d .lanes) ≡ true) ⊎ Open d

@@ -14,7 +14,6 @@ use Rattle.zvt_rules.proofs.RowMessages as rows
 use Rattle.desk_rules.specs.declared.Desk.{Desk}
 use Rattle.desk_rules.specs.declared.Lane.{Lane}
 use Rattle.desk_rules.specs.declared.Line.{Line}
-use Rattle.desk_rules.specs.Numbers.{laneCount}
 use Rattle.desk_rules.specs.Course.{Call, NumbersFit}
 use Rattle.desk_rules.specs.Desk.{refuse, accept}
 use Rattle.desk_rules.specs.believed.Table.{Row}
@@ -22,8 +21,7 @@ use Rattle.desk_rules.specs.Memory.{freshDesk, linesOfDesk, view, Valid, answer
 use Rattle.desk_rules.proofs.Rows.{table}
 use Rattle.desk_rules.proofs.Memory as memory
 use Rattle.promises.specs.Answers.{no, yes, Takes, headerSays, readSays, firstSays, shortSays, answerSays, lineSays, laneSays, At, Open}
-use Rattle.promises.proofs.ReadTable.{by-rows}
-use Rattle.promises.proofs.Answers.{header-says, read-says, first-says, short-says, short-leaves, short-beyond}
+use Rattle.promises.proofs.Answers.{by-rows, header-says, read-says, first-says, short-says, short-leaves, short-beyond}
 use Rattle.promises.proofs.Answers.{decided-no, decided-yes, call-same, call-beyond, closing-no, closing-yes, closing-same}
 use Rattle.promises.proofs.Asked.{lane-no, lane-yes, line-some, line-none}
 
@@ -69,7 +67,7 @@ module _ (d : Desk) (v : Valid d) where
 -- ---- R36: "A question about a lane: 12."
 
 -- A lane is asked for in vain exactly where there is no such lane.
-pub lane-refused-exactly : (d : Desk) (i n : ℕ) → (laneSays (laneAnswer i (d .lanes)) ≡ no n) ↔ ((laneCount ≤ i) × (12 ≡ n))
+pub lane-refused-exactly : (d : Desk) (i n : ℕ) → (laneSays (laneAnswer i (d .lanes)) ≡ no n) ↔ ((8 ≤ i) × (12 ≡ n))
 lane-refused-exactly = lane-no
 
 -- Else the answer is that lane.

@@ -9,7 +9,7 @@ use mathlib.Core.List.{List, [], _++_}
 use Prim.Native.Nat.{ℕ, _<_, _≤_}
 use native.Mathlib.Omega.{arith}
 use lib.ListN.{length, take}
-use Rattle.zvt_rules.specs.Reading.{Reading, got, refused, unless, andThen, part, among}
+use Rattle.zvt_rules.specs.Reading.{got, unless, andThen, part, among}
 use Rattle.zvt_rules.specs.Fields.{Field}
 use Rattle.zvt_rules.specs.Message.{bytes, Message, lengthOf, headerWith, headerOf, layoutOf, bodyOf, messageOf, wholeHeader, readOf, firstOf, countOf}
 use Rattle.zvt_rules.specs.Shortest.{shortMessage, isShort, write, shorten}

@@ -9,7 +9,6 @@ pub mod TheTape
 pub mod TheLister
 pub mod Ends
 pub mod OneAnswer
-pub mod ReadTable
 pub mod TapeAnswers
 pub mod Secrets
 pub mod Answers

@@ -3,7 +3,6 @@ use mathlib.Core.Path.{_≡_, refl, sym, ap, _∙_}
 use mathlib.Core.Logic.{_↔_}
 use mathlib.Core.List.{List, [], _∷_, _++_}
 use Prim.Native.Nat.{ℕ, _+_}
-use native.Mathlib.Omega.{arith}
 use lib.ListN.{length, take, drop}
 use Rattle.zvt_rules.specs.Reading.{Reading, got, refused}
 use Rattle.desk_rules.specs.declared.Reply.{Reply}
@@ -26,9 +25,8 @@ use Rattle.tape_rules.proofs.Masks.{Each}
 use Rattle.tape_rules.proofs.Taping.{taped-taken, taped-refused, taped-accepted, TurnFits, tape-follows}
 use Rattle.promises.specs.Days.{OfBytes}
 use Rattle.promises.specs.TapeDays.{callsPlayed}
-use Rattle.promises.proofs.ReadTable.{No}
 use Rattle.promises.specs.Answers.{no, yes, replySays, tapedSays, blockSays, Open}
-use Rattle.promises.proofs.Answers.{no-same, no-yes, said, said-no, said-yes, left-same, left-first, left-beyond, closing-no, closing-yes, closing-same}
+use Rattle.promises.proofs.Answers.{No, no-same, no-yes, said, said-no, said-yes, left-same, left-first, left-beyond, closing-no, closing-yes, closing-same}
 
 -- ---- what is written into a buffer
 written-said : (x : Reading (List ℕ)) → replySays (writtenAnswer x) ≡ said length x
@@ -57,9 +55,6 @@ pub written-same : (x : Reading (List ℕ)) (out : List ℕ) (n : ℕ) → reply
 written-same x out n e = left-same x out n (written-says x n .0 e)
 
 module _ (x : Reading (List ℕ)) (out : List ℕ) (k : ℕ) (e : replySays (writtenAnswer x) ≡ yes k) where
-  pub written-bytes : (w : List ℕ) × (x ≡ got w) × (take k (writtenLeaves x out) ≡ w)
-  written-bytes = let h = written-size x k .0 e in (h .0, h .1, left-first x out (h .0) k (h .1) (h .2))
-
   pub written-beyond : drop k (writtenLeaves x out) ≡ drop k out
   written-beyond = let h = written-size x k .0 e in left-beyond x out (h .0) k (h .1) (h .2)
 

@@ -37,7 +37,6 @@ use Rattle.desk_rules.specs.declared.LineAnswer.{LineAnswer}
 use Rattle.desk_rules.specs.declared.LineAnswer.the-variants.{End as no-line, Line as line-got}
 use Rattle.desk_rules.specs.declared.LaneAnswer.{LaneAnswer}
 use Rattle.desk_rules.specs.declared.LaneAnswer.the-variants.{Refused as lane-refused, Lane as lane-got}
-use Rattle.desk_rules.specs.Numbers.{laneCount}
 use Rattle.desk_rules.specs.believed.Table.{phaseAt}
 use Rattle.desk_rules.specs.Memory.{view}
 use Rattle.tape_rules.specs.declared.BlockAnswer.{BlockAnswer}
@@ -131,4 +130,4 @@ At {A} xs k x = (before : List A) × (after : List A) × (xs ≡ before ++ (x �
 
 -- R19: "a payment is open at closing". P2: "A payment is open while its lane is waiting or running."
 unfoldable pub Open : Desk → Type 0
-Open d = (i : ℕ) × (i < laneCount) × (phaseAt (view d) i ≡ Idle → ⊥)
+Open d = (i : ℕ) × (i < 8) × (phaseAt (view d) i ≡ Idle → ⊥)

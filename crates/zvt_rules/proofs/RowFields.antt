@@ -18,7 +18,7 @@ use Rattle.zvt_rules.specs.Fields.{formatOf, unknown, lengthDigit, digit
 use Rattle.zvt_rules.specs.believed.Writing.{lenBytes, sized, digitBytes, lengthIn, fieldBytes}
 use Rattle.zvt_rules.specs.believed.Grammar.{Bytes, FormOk, Decimals, SizeOk, FieldOk}
 use Rattle.zvt_rules.specs.believed.Rows.{Cut, RunNo, New, LengthDigits, Undecimal, ListNo, noField, twice, short, noDigit, undecimal, sizedIn, inside, behind}
-use Rattle.zvt_rules.proofs.Tests.{by-test, pick-true, leb-test, leb-fails, eqb-test, and-test, nand-test, or-test, fails}
+use Rattle.zvt_rules.proofs.Tests.{by-test, pick-true, leb-test, leb-fails, and-test, nand-test, fails}
 use Rattle.zvt_rules.proofs.Readings.{unless-on, then-on, then-stop}
 use Rattle.zvt_rules.proofs.ObjectReading.{part-length}
 use Rattle.zvt_rules.proofs.Lengths.{lenBytes-size, len-sound, len-written}

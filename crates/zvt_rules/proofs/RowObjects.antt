@@ -11,7 +11,7 @@ use lib.Seq.{drop-append-seam, length-take-le}
 use lib.Dec.{ltb, leb, eqb}
 use borrow.Author.Tests.{lt-leb, le-leb, ne-eqb, lt-ltb, le-ltb, eq-eqb, eqb-true, eqb-false, ltb-true, ltb-false, leb-true, leb-false}
 use Rattle.zvt_rules.specs.declared.Fault.{Fault}
-use Rattle.zvt_rules.specs.Reading.{got, refused, no, pick, unless, andThen, part}
+use Rattle.zvt_rules.specs.Reading.{got, refused, no, unless, part}
 use Rattle.zvt_rules.specs.Objects.{longTag, topBit, nested, secondTag, tagSize, Form, bare, one, two, formSize, Len, oneByteLen, twoByteLen, lenOf}
 use Rattle.zvt_rules.specs.Objects.{from, to, headWith, headOf, Obj, runOf, oneOf, countObj}
 use Rattle.zvt_rules.specs.believed.Writing.{lenBytes, sized, objBytes}

@@ -4,7 +4,6 @@ use mathlib.Core.Bool.{Bool, true, false, _&&_}
 use mathlib.Core.List.{List, [], _∷_}
 use Prim.Native.Nat.{ℕ, _+_, _*_, _^_, _≤_}
 use lib.ListN.{length}
-use Rattle.zvt_rules.specs.Objects.{Form, bare, one, two}
 
 -- a byte by its eight bits
 abbrev pub bit : Bool → ℕ

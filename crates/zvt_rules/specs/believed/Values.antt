@@ -3,11 +3,10 @@ use mathlib.Core.Path.{_≡_}
 use mathlib.Core.Bool.{Bool}
 use mathlib.Core.List.{List, [], _∷_, _++_}
 use Prim.Native.Nat.{ℕ}
-use Rattle.zvt_rules.specs.Fields.{Field, plain, fieldId}
+use Rattle.zvt_rules.specs.Fields.{Field, plain}
 use Rattle.zvt_rules.specs.Message.{listed, Message}
 use Rattle.zvt_rules.specs.believed.Writing.{messageBytes}
 use Rattle.zvt_rules.specs.believed.Grammar.{MessageOk}
-use Rattle.zvt_rules.specs.Values.{fieldValue}
 use Rattle.zvt_rules.specs.believed.Digits.{Spells}
 
 -- x stands in a list
