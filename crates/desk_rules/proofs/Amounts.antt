@@ -30,8 +30,9 @@ use Rattle.desk_rules.specs.Numbers.{mostAsked, amountOk, passwordOk}
 use Rattle.desk_rules.specs.Kinds.{isReversal, isIdle}
 use Rattle.desk_rules.specs.Lanes.{blankLine}
 use Rattle.desk_rules.specs.Openings.{withinLimits, refersTo, concerns, lastFrom, lastLine, stands, askedBy}
-use Rattle.desk_rules.specs.Course.{runningPairs, pairIs, heardWaiting, amountBy, settledAs, completedBy, abortedBy, reportedBy, movedBy, afterBody, heardRunning, heardBy, afterHeader, heard, lostBy, openedBy, Call, opening, message, lost, NumbersFit, moves}
+use Rattle.desk_rules.specs.Course.{runningPairs, pairIs, heardWaiting, amountBy, settledAs, completedBy, abortedBy, reportedBy, movedBy, afterBody, heardRunning, heard, lostBy, openedBy, Call, opening, message, lost, NumbersFit, moves}
 use Rattle.desk_rules.specs.Memory.{toldSmall}
+use Rattle.desk_rules.proofs.Heard.{heard-cases}
 
 abbrev pub Small : ℕ → Type 0
 Small n = n ≤ mostAsked
@@ -90,26 +91,23 @@ module _ (l : Lane) (h : LaneFits l) where
         (λ _. reported-fits (statusIn (bodyFields (m .body))) _ (told-fits (valueIn 0x04 (bodyFields (m .body))) (told-twelve s m b e)))
         (λ _. tt)))
 
-    header-fits : (p : Phase) (x : Heading) → Fits (heardBy p l s x)
-    unfolding heardBy heardWaiting heardRunning
-    header-fits Idle x = tt
-    header-fits Waiting x =
+    waiting-fits : (x : Heading) → Fits (heardWaiting l x)
+    unfolding heardWaiting
+    waiting-fits x =
         pick-test Fits (eqb (x .size) 0)
         (λ _. pick-test Fits (pairIs (x .class) (x .instruction) 0x80 0x00) (λ _. h)
         (λ _. pick-test Fits (eqb (x .class) 0x84) (λ _. omega arith) (λ _. tt)))
         (λ _. tt)
-    header-fits Running x =
+
+    running-fits : (x : Heading) → Fits (heardRunning l s x)
+    unfolding heardRunning
+    running-fits x =
         pick-test Fits (among runningPairs (x .class * 256 + x .instruction))
         (λ _. read-fits (readOf s) refl)
         (λ _. tt)
 
     heard-fits : Fits (heard l s)
-    unfolding heard afterHeader
-    heard-fits = pick-test Fits (isIdle (l .phase)) (λ _. tt) (λ _. go (wholeHeader s))
-      where
-        go : (r : Reading Heading) → Fits (afterHeader l s r)
-        go (refused f) = tt
-        go (got x) = header-fits (l .phase) x
+    heard-fits = heard-cases Fits l s (λ r. tt) (λ x _ _. waiting-fits x) (λ x _ _. running-fits x)
 
 asked-fits : (o : Opening) (line : Line) → Small (line .settled) → withinLimits o ≡ true → Small (askedBy o line)
 asked-fits (sale amount) line h e = between amount mostAsked .0 e .1

@@ -38,12 +38,13 @@ use Rattle.desk_rules.specs.Numbers.{laneCount}
 use Rattle.desk_rules.specs.Kinds.{isIdle}
 use Rattle.desk_rules.specs.Lanes.{blankLine}
 use Rattle.desk_rules.specs.Openings.{withinLimits, refersTo, lastLine, stands, openedLane}
-use Rattle.desk_rules.specs.Course.{runningPairs, pairIs, heardWaiting, reportedBy, movedBy, afterBody, heardRunning, heardBy, afterHeader, heard, lostBy, answered, openedBy, Call, opening, message, lost, laneOf, NumbersFit, moves, writes}
+use Rattle.desk_rules.specs.Course.{runningPairs, pairIs, heardWaiting, reportedBy, movedBy, afterBody, heardRunning, lostBy, answered, openedBy, Call, opening, message, lost, laneOf, NumbersFit, moves, writes}
 use Rattle.desk_rules.specs.Memory.{freshDesk, view, linesOfDesk, Valid, refusedAnswer, answerOf, leavesOf, closeAnswer, lineAnswer, laneAnswer}
 use Rattle.desk_rules.specs.Desk.{State, laneAt, allIdle, Decision, refuse, accept, decide, laneAfter, linesFrom, step}
 use Rattle.desk_rules.specs.believed.Due.{Reads, by-84, by-061E, by-060F, by-loss}
 use Rattle.desk_rules.specs.believed.Table.{laneIn, phaseAt, idle, OneOf, whileRunning, Commands}
 use Rattle.desk_rules.specs.believed.Answers.{Writes, command, silent, reply, cut, running, Makes, opened, taken, waits, told, untold, ended, broken, Leaves, Answers, refusal, success, refusing, Closes, open-payment, closed, ShowsLane, no-lane, lane, ShowsLine, no-line, line}
+use Rattle.desk_rules.proofs.Heard.{heard-cases}
 use Rattle.desk_rules.proofs.Commands.{command-exactly}
 use Rattle.desk_rules.proofs.Due.{reads, status-is, status-there, asks-are, ask}
 use Rattle.desk_rules.proofs.Calls.{Passes, plain-read, both, Closing, completed-closes, aborted-closes}
@@ -187,34 +188,30 @@ module _ (s : State) (i : ℕ) (b : List ℕ) where
       (λ e. let p = both (m .class) (m .instruction) 0x04 0x0F e in by-report m (reads b m 0x04 0x0F r (p .0) (p .1)) on)
       (λ f3. stays _ _ _ (by-pair m n r o f1 f2 f3))))
 
-  by-header : Bytes b → (x : Reading Heading) → wholeHeader b ≡ x → Fits s (message i b) i (afterHeader (laneAt (s .lanes) i) b x)
-  unfolding afterHeader heardBy heardRunning afterBody
-  by-header n (refused f) w = refuses _ _ _ _
-  by-header n (got h) w = go (laneAt (s .lanes) i .phase) refl
+  by-running : Bytes b → (h : Heading) → wholeHeader b ≡ got h → laneAt (s .lanes) i .phase ≡ Running
+      → Fits s (message i b) i (heardRunning (laneAt (s .lanes) i) b h)
+  unfolding heardRunning afterBody
+  by-running n h w e =
+      pick-test (Fits s (message i b) i) (among runningPairs (h .class * 256 + h .instruction))
+      (λ t. body (readOf b) refl (pairs-test _ .0 t) e) (λ _. refuses _ _ _ _)
     where
       body : (x : Reading Message) → readOf b ≡ x → OneOf whileRunning (h .class * 256 + h .instruction)
           → laneAt (s .lanes) i .phase ≡ Running → Fits s (message i b) i (afterBody (laneAt (s .lanes) i) x)
       body (refused f) r o on = refuses _ _ _ _
       body (got m) r o on = let p = same-pair b h m w r in by-moved m n r (rw (p .0, p .1) o) on
 
-      go : (p : Phase) → laneAt (s .lanes) i .phase ≡ p → Fits s (message i b) i (heardBy p (laneAt (s .lanes) i) b h)
-      go Idle e = refuses _ _ _ _
-      go Waiting e = by-waiting h w
-      go Running e =
-          pick-test (Fits s (message i b) i) (among runningPairs (h .class * 256 + h .instruction))
-          (λ t. body (readOf b) refl (pairs-test _ .0 t) e) (λ _. refuses _ _ _ _)
-
 -- ---- what a call makes of its lane
 
 makes : (s : State) (c : Call) → NumbersFit c → Fits s c (laneOf c) (moves (laneAt (s .lanes) (laneOf c)) (s .lines) c)
-unfolding moves laneOf openedBy heard lostBy NumbersFit
+unfolding moves laneOf openedBy lostBy NumbersFit
 makes s (opening i o) n =
     let P = Fits s (opening i o) i in
     pick-test P (isIdle (laneAt (s .lanes) i .phase))
     (λ _. pick-test P (withinLimits o)
     (λ _. pick-test P (stands (refersTo o) (lastLine i (refersTo o) (s .lines))) (λ e. becomes _ _ _ _ (opened (ask i (s .lines) o e))) (λ _. refuses _ _ _ _)) (λ _. refuses _ _ _ _))
     (λ _. refuses _ _ _ _)
-makes s (message i b) n = pick-test (Fits s (message i b) i) (isIdle (laneAt (s .lanes) i .phase)) (λ _. refuses _ _ _ _) (λ _. by-header s i b n (wholeHeader b) refl)
+makes s (message i b) n =
+    heard-cases (Fits s (message i b) i) (laneAt (s .lanes) i) b (refuses _ _ _) (λ h w _. by-waiting s i b h w) (λ h w e. by-running s i b n h w e)
 makes s (lost i) n =
     pick-test (Fits s (lost i) i) (isIdle (laneAt (s .lanes) i .phase)) (λ _. refuses _ _ _ _) (λ _. ends _ _ _ (λ _. broken by-loss) (Ends Unclear 0 0) tt)
 

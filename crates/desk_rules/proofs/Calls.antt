@@ -26,8 +26,9 @@ use Rattle.desk_rules.specs.declared.Opening.{Opening}
 use Rattle.desk_rules.specs.Kinds.{isIdle}
 use Rattle.desk_rules.specs.Lanes.{runningLane, reportedLane}
 use Rattle.desk_rules.specs.Openings.{withinLimits, refersTo, stands, openedLane}
-use Rattle.desk_rules.specs.Course.{runningPairs, pairIs, heardWaiting, settledAs, completedBy, abortedBy, reportedBy, movedBy, afterBody, heardRunning, heardBy, afterHeader, heard, lostBy, openedBy, Call, opening, message, lost, opens, moves}
+use Rattle.desk_rules.specs.Course.{runningPairs, pairIs, heardWaiting, settledAs, completedBy, abortedBy, reportedBy, movedBy, afterBody, heardRunning, lostBy, openedBy, Call, opening, message, lost, opens, moves}
 use Rattle.desk_rules.specs.Payments.{endsBy, ends}
+use Rattle.desk_rules.proofs.Heard.{heard-cases}
 use Rattle.desk_rules.proofs.Judge.{orElse, remembered, verdictOf, verdict}
 
 -- not refused
@@ -202,21 +203,16 @@ module _ (l : Lane) (i : ℕ) (s : List ℕ) where
       go (refused f) e = refuses _
       go (got m) e = moved m e on
 
-  heard-goes : (r : Reading Heading) → wholeHeader s ≡ r → Goes (afterHeader l s r)
-  unfolding afterHeader heardBy
-  heard-goes (refused f) w = refuses _
-  heard-goes (got h) w = go (l .phase) refl
-    where
-      go : (p : Phase) → l .phase ≡ p → Goes (heardBy p l s h)
-      go Idle e = refuses _
-      go Waiting e = waiting h w
-      go Running e = running h e
+not-idle : {p q : Phase} → p ≡ q → isIdle q ≡ false → isIdle p ≡ false
+not-idle e n = rw e n
 
 pub later : (l : Lane) (ls : List Line) (c : Call) → opens c ≡ false → Passes (moves l ls c) → (isIdle (l .phase) ≡ false) × Later l c (moves l ls c)
-unfolding opens moves heard lostBy verdict Goes
+unfolding opens moves lostBy verdict Goes
 later l ls (opening i o) e = let z : _≡_ {A = ℕ} 0 1 = cc in absurd (omega arith)
-later l ls (message i s) e = pick-test (λ m. Passes m → (isIdle (l .phase) ≡ false) × Later l (message i s) m)
-    (isIdle (l .phase)) (λ _ h. absurd h) (λ o h. (o, heard-goes l i s (wholeHeader s) refl h))
+later l ls (message i s) e =
+    heard-cases (λ m. Passes m → (isIdle (l .phase) ≡ false) × Later l (message i s) m) l s (λ r h. absurd h)
+    (λ x w p h. (not-idle p refl, waiting l i s x w h))
+    (λ x w p h. (not-idle p refl, running l i s x p h))
 later l ls (lost i) e = pick-test (λ m. Passes m → (isIdle (l .phase) ≡ false) × Later l (lost i) m)
     (isIdle (l .phase)) (λ _ h. absurd h) (λ o _. (o, refl))
 
@@ -299,19 +295,9 @@ module _ (l : Lane) (s : List ℕ) where
       go (refused f) e t = refused-right _
       go (got m) e t = moved-ends m e (rw (of-header s h m (sym (then-on _ h w) ∙ e)) (ne-eqb (h .class) 0x84 (not-84 t)))
 
-  heard-ends : (r : Reading Heading) → wholeHeader s ≡ r → Right (afterHeader l s r)
-  unfolding afterHeader heardBy
-  heard-ends (refused f) w = refused-right _
-  heard-ends (got h) w = go (l .phase)
-    where
-      go : (p : Phase) → Right (heardBy p l s h)
-      go Idle = refused-right _
-      go Waiting = waiting-ends h w
-      go Running = running-ends h w
-
 pub ends-same : (l : Lane) (ls : List Line) (c : Call) → Passes (moves l ls c) → endsIn (moves l ls c) ≡ ends c
-unfolding moves ends endsIn heard lostBy Right
+unfolding moves ends endsIn lostBy Right
 ends-same l ls (opening i o) = λ h. rw (opened l o _ h .2)
-ends-same l ls (message i s) = pick-test (λ m. Passes m → endsIn m ≡ endsBy (readOf s))
-    (isIdle (l .phase)) (λ _ h. absurd h) (λ _. heard-ends l s (wholeHeader s) refl)
+ends-same l ls (message i s) =
+    heard-cases (Right l s) l s (refused-right l s) (λ h w _. waiting-ends l s h w) (λ h w _. running-ends l s h w)
 ends-same l ls (lost i) = pick-test (λ m. Passes m → endsIn m ≡ true) (isIdle (l .phase)) (λ _ h. absurd h) (λ _ _. refl)

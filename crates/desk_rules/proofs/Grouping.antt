@@ -250,20 +250,24 @@ module _ (cs : List Call) (h : Accepted fresh cs) where
   grouped =
       record {
         lanes = kept cs h .slots;
-        ended =
-            λ es t. subst (Closed (paymentsOf cs .ended)) (those-are Ending endNo 1 end-exactly t)
-            (closed cs no-payments [] (all-small fresh cs h) nothing-open none);
-        calls =
-            λ k all past a b.
-            sym (those-are (OfLane k) laneOf k (lane-exactly k) a)
-            ∙ kept cs h .calls k
-            ∙ ap (λ (xs : List Call). xs ++ getD (paymentsOf cs .ongoing) k []) (those-are (OfLane k) laneOf k (lane-exactly k) b);
+        ended = (
+          _,
+          those-there Ending endNo 1 end-exactly cs,
+          closed cs no-payments [] (all-small fresh cs h) nothing-open none,
+        );
+        calls = λ k. (
+          _,
+          those-there (OfLane k) laneOf k (lane-exactly k) (flattened (paymentsOf cs .ended)),
+          subst (Those (OfLane k) cs) (kept cs h .calls k) (those-there (OfLane k) laneOf k (lane-exactly k) cs),
+        );
       }
 
   pub grouped-once : (p : Payments) → Grouping cs p → p ≡ paymentsOf cs
   unfolding paymentsOf no-payments endings
   grouped-once p g =
       only cs no-payments (p .ended) (p .ongoing) (all-small fresh cs h) nothing-open (sym (g .lanes))
-      (g .ended _ (those-there Ending endNo 1 end-exactly cs))
+      (subst (Closed (p .ended)) (sym (those-are Ending endNo 1 end-exactly (g .ended .1))) (g .ended .2))
       (λ k. rw (all-same {A = List Call} laneCount k [])
-      (g .calls k _ _ (those-there (OfLane k) laneOf k (lane-exactly k) cs) (those-there (OfLane k) laneOf k (lane-exactly k) (flattened (p .ended)))))
+      (let (past, mine, all) = g .calls k in
+      those-are (OfLane k) laneOf k (lane-exactly k) all
+      ∙ ap (λ (xs : List Call). xs ++ getD (p .ongoing) k []) (sym (those-are (OfLane k) laneOf k (lane-exactly k) mine))))

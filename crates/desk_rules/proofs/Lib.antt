@@ -5,6 +5,7 @@ pub mod Judge
 pub mod LastSale
 pub mod NamedSale
 pub mod Rows
+pub mod Heard
 pub mod Calls
 pub mod Lanes
 pub mod Runs

@@ -29,7 +29,7 @@ use Rattle.desk_rules.specs.Numbers.{laneCount, bookLines, mostAsked, mo
 use Rattle.desk_rules.specs.Kinds.{isReversal, booked, isIdle}
 use Rattle.desk_rules.specs.Lanes.{placeTaken}
 use Rattle.desk_rules.specs.Openings.{kindOf, withinLimits, refersTo, lastLine, sold, stands, missingNo, commandSize}
-use Rattle.desk_rules.specs.Course.{runningPairs, pairIs, heardWaiting, completedBy, settledAs, abortedBy, reportedBy, movedBy, afterBody, heardRunning, heardBy, afterHeader, heard, lostBy, answered, openedBy, Call, opening, message, lost, laneOf, needsPlace, moves, writes}
+use Rattle.desk_rules.specs.Course.{noMove, runningPairs, pairIs, heardWaiting, completedBy, settledAs, abortedBy, reportedBy, movedBy, afterBody, heardRunning, heardBy, afterHeader, heard, lostBy, answered, openedBy, Call, opening, message, lost, laneOf, needsPlace, moves, writes}
 use Rattle.desk_rules.specs.Desk.{State, laneAt, placesTaken, load, Decision, refuse, accept, unlessRefused, decide}
 use Rattle.desk_rules.specs.declared.Reference.the-variants.{Sold}
 use Rattle.desk_rules.specs.believed.LastSale.{Named}
@@ -313,11 +313,17 @@ module _ (p : Phase) (l : Lane) (b : List ℕ) (room : ℕ) where
   further Waiting = accept
   further Running = unlessRefused (afterBody l (readOf b)) (replied Running room)
 
-  allowed-says : (h : Heading) → (p ≡ Idle → ⊥) → unlessRefused (heardBy p l b h) (replied p room) ≡ pick (allowedBy p h) (further p) (refuse 15)
-  unfolding unlessRefused heardBy heardRunning allowedBy replied answered further
+  -- what is made of a header, by the phase
+  hears : Phase → Heading → Moved
+  hears Idle h = noMove 14
+  hears Waiting h = heardWaiting l h
+  hears Running h = heardRunning l b h
+
+  allowed-says : (h : Heading) → (p ≡ Idle → ⊥) → unlessRefused (hears p h) (replied p room) ≡ pick (allowedBy p h) (further p) (refuse 15)
+  unfolding unlessRefused hears heardRunning allowedBy replied answered further
   allowed-says h n = go p n
     where
-      go : (q : Phase) → (q ≡ Idle → ⊥) → unlessRefused (heardBy q l b h) (replied q room) ≡ pick (allowedBy q h) (further q) (refuse 15)
+      go : (q : Phase) → (q ≡ Idle → ⊥) → unlessRefused (hears q h) (replied q room) ≡ pick (allowedBy q h) (further q) (refuse 15)
       go Idle n = absurd (n refl)
       go Waiting n = waiting-says l h _ ∙ rw (le-ltb room 0 (omega arith))
       go Running n = pick-under (λ m. unlessRefused m (replied Running room)) (allowedBy Running h) _ _
@@ -355,21 +361,28 @@ module _ (p : Phase) (l : Lane) (b : List ℕ) (room : ℕ) where
   allowed-agrees h w Running e a = running-agrees e
 
   header-agrees : (h : Heading) → (p ≡ Idle → ⊥) → wholeHeader b ≡ got h
-      → Agrees (unlessRefused (heardBy p l b h) (replied p room)) (gives 15 ((h : Heading) × (wholeHeader b ≡ got h) × (Allowed p h → ⊥)) ∷ bodyRows)
+      → Agrees (unlessRefused (hears p h) (replied p room)) (gives 15 ((h : Heading) × (wholeHeader b ≡ got h) × (Allowed p h → ⊥)) ∷ bodyRows)
   header-agrees h n w =
       rw (allowed-says h n)
       (row-unless 15 bodyRows _ (allowed-test p h)
       (λ k. (h, w, k), λ k a. k .2 (subst (Allowed p) (got-same (sym w ∙ k .1)) a))
       (allowed-agrees h w p refl))
 
+phase-first : (l : Lane) (b : List ℕ) (room : ℕ) (p : Phase)
+    → heardBy p l b ≡ pick (isIdle p) (noMove 14) (afterHeader (hears p l b room p) (wholeHeader b))
+unfolding heardBy hears
+phase-first l b room Idle = refl
+phase-first l b room Waiting = refl
+phase-first l b room Running = refl
+
 hearing-agrees : (s : State) (i : ℕ) (b : List ℕ) (room : ℕ) → Agrees (decide s (message i b) room) (hearingRows s i b room)
 unfolding decide moves writes needsPlace laneOf heard unlessRefused afterHeader replied bodyRows
 hearing-agrees s i b room =
     let l = laneAt (s .lanes) i in
     row-if 12 _ _ (leb-test 8 i) λ _.
-    rw (pick-under (λ m. unlessRefused m (replied (l .phase) room)) (isIdle (l .phase)))
+    rw (phase-first l b room (l .phase), pick-under (λ m. unlessRefused m (replied (l .phase) room)) (isIdle (l .phase)))
     (row-if 14 _ _ (idle-test (l .phase)) λ n.
-    row-reading (wholeHeader b) _ (λ r. unlessRefused (afterHeader l b r) (replied (l .phase) room)) (λ f. refl) λ h w.
+    row-reading (wholeHeader b) _ (λ r. unlessRefused (afterHeader (hears (l .phase) l b room (l .phase)) r) (replied (l .phase) room)) (λ f. refl) λ h w.
     header-agrees (l .phase) l b room h n w)
 
 -- ---- a lost link

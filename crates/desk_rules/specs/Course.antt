@@ -92,18 +92,18 @@ unfoldable pub heardRunning : Lane → List ℕ → Heading → Moved
 heardRunning l s h =
     pick (among runningPairs (h .class * 256 + h .instruction)) (afterBody l (readOf s)) (noMove 15)
 
-unfoldable pub heardBy : Phase → Lane → List ℕ → Heading → Moved
-heardBy Idle l s h = noMove 14
-heardBy Waiting l s h = heardWaiting l h
-heardBy Running l s h = heardRunning l s h
-
-unfoldable pub afterHeader : Lane → List ℕ → Reading Heading → Moved
-afterHeader l s (refused f) = noMove (f .number)
-afterHeader l s (got h) = heardBy (l .phase) l s h
+unfoldable pub afterHeader : (Heading → Moved) → Reading Heading → Moved
+afterHeader hears (refused f) = noMove (f .number)
+afterHeader hears (got h) = hears h
 
 -- R35: "14, header, 15, body"
+unfoldable pub heardBy : Phase → Lane → List ℕ → Moved
+heardBy Idle l s = noMove 14
+heardBy Waiting l s = afterHeader (heardWaiting l) (wholeHeader s)
+heardBy Running l s = afterHeader (heardRunning l s) (wholeHeader s)
+
 unfoldable pub heard : Lane → List ℕ → Moved
-heard l s = pick (isIdle (l .phase)) (noMove 14) (afterHeader l s (wholeHeader s))
+heard l s = heardBy (l .phase) l s
 
 -- P27: "Where the link is lost, a waiting or running lane ends its payment, unclear". P33: "The code of a lost link is 0."
 unfoldable pub lostBy : Lane → Moved

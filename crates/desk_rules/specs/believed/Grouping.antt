@@ -37,7 +37,6 @@ pub record Grouping (cs : List Call) (p : Payments) : Type 0 where
   -- P1: "There are eight lanes"
   pub lanes : length (p .ongoing) ≡ 8
   -- the ended payments, in the order in which they ended
-  pub ended : (ends : List Call) → Those Ending cs ends → Closed (p .ended) ends
+  pub ended : (ends : List Call) × Those Ending cs ends × Closed (p .ended) ends
   -- of each lane the calls of its ended payments, then those of its open one, are its calls in their order
-  pub calls : (k : ℕ) (all past : List Call) → Those (OfLane k) cs all → Those (OfLane k) (flattened (p .ended)) past
-      → all ≡ past ++ getD (p .ongoing) k []
+  pub calls : (k : ℕ) → (past : List Call) × Those (OfLane k) (flattened (p .ended)) past × Those (OfLane k) cs (past ++ getD (p .ongoing) k [])
