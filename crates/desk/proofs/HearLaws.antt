@@ -36,7 +36,7 @@ use Rattle.desk_rules.specs.declared.Moved.{Moved}
 use Rattle.desk_rules.specs.declared.Moved.the-variants.{Refused, Stays, Becomes}
 use Rattle.desk_rules.specs.Lanes.{reportedLane, toldReceipt, receiptBy}
 use Rattle.desk_rules.specs.Kinds.{isReversal, isIdle}
-use Rattle.desk_rules.specs.Course.{runningPairs, pairIs, completedBy, abortedBy, reportedBy, movedBy, afterBody, heardWaiting, heardRunning, heardBy, afterHeader, heard}
+use Rattle.desk_rules.specs.Course.{noMove, runningPairs, pairIs, completedBy, abortedBy, reportedBy, movedBy, afterBody, heardWaiting, heardRunning, heardBy, afterHeader, heard}
 use Rattle.desk_rules.proofs.Phase as phase
 use Rattle.desk.proofs.hear.Said as said
 use Rattle.desk.specs.Hear.{ReadIn, headerBy, saidBy, waitingMoved, runningMoved, abortedIn, reportedAs, movedFor, movedAs}
@@ -250,40 +250,61 @@ is-waiting Waiting h k = refl
 is-waiting Running h k = absurd (false≢true (at-key (λ t. not (eqb t 2)) (0 ∷ 1 ∷ []) refl _ k))
 
 module _ (l : Lane) (s : List ℕ) (g : Heading) where
-  by-running : l .phase ≡ Running → heardBy (l .phase) l s g ≡ runningMoved l (headerIn g) s
-  unfolding heardBy runningMoved heardRunning headerBy headerIn
-  by-running p = rw p
+  by-running : heardRunning l s g ≡ runningMoved l (headerIn g) s
+  unfolding runningMoved heardRunning headerBy headerIn
+  by-running = refl
 
-  by-waiting : l .phase ≡ Waiting → heardBy (l .phase) l s g ≡ waitingMoved l (headerIn g)
-  unfolding heardBy waitingMoved heardWaiting headerBy headerIn
-  by-waiting p = rw p
+  by-waiting : heardWaiting l g ≡ waitingMoved l (headerIn g)
+  unfolding waitingMoved heardWaiting headerBy headerIn
+  by-waiting = refl
 
-module _ (l : Lane) (s : List ℕ) (o : isIdle (l .phase) ≡ false) where
-  on-header : heard l s ≡ afterHeader l s (wholeHeader s)
-  unfolding heard
-  on-header = rw o
-
-  pub heard-refused : (r : Refusal) → headerAnswer s ≡ header-refused r → heard l s ≡ Refused r
+-- what is made of a header that was asked for
+module _ (hears : Heading → Moved) (s : List ℕ) where
+  unheard : (r : Refusal) → headerAnswer s ≡ header-refused r → afterHeader hears (wholeHeader s) ≡ Refused r
   unfolding headerAnswer asHeaderAnswer refusalOf afterHeader
-  heard-refused r e = on-header ∙ go (wholeHeader s) e
+  unheard r e = go (wholeHeader s) e
     where
-      go : (x : Reading Heading) → asHeaderAnswer x ≡ header-refused r → afterHeader l s x ≡ Refused r
+      go : (x : Reading Heading) → asHeaderAnswer x ≡ header-refused r → afterHeader hears x ≡ Refused r
       go (got g) f = absurd (let z : _≡_ {A = ℕ} 0 1 = cc in omega arith)
       go (refused f) g = cc
 
-  heard-header : (h : Header) → headerAnswer s ≡ header-got h → (g : Heading) × (heard l s ≡ heardBy (l .phase) l s g) × (headerIn g ≡ h)
+  hears-header : (h : Header) → headerAnswer s ≡ header-got h → (g : Heading) × (afterHeader hears (wholeHeader s) ≡ hears g) × (headerIn g ≡ h)
   unfolding headerAnswer asHeaderAnswer afterHeader
-  heard-header h e = go (wholeHeader s) refl e
+  hears-header h e = go (wholeHeader s) refl e
     where
       go : (x : Reading Heading) → wholeHeader s ≡ x → asHeaderAnswer x ≡ header-got h
-          → (g : Heading) × (heard l s ≡ heardBy (l .phase) l s g) × (headerIn g ≡ h)
-      go (got g) f a = (g, on-header ∙ ap (afterHeader l s) f, cc)
+          → (g : Heading) × (afterHeader hears (wholeHeader s) ≡ hears g) × (headerIn g ≡ h)
+      go (got g) f a = (g, ap (afterHeader hears) f, cc)
       go (refused r) f a = absurd (let z : _≡_ {A = ℕ} 0 1 = cc in omega arith)
 
+module _ (l : Lane) (s : List ℕ) (o : isIdle (l .phase) ≡ false) where
+  pub heard-refused : (r : Refusal) → headerAnswer s ≡ header-refused r → heard l s ≡ Refused r
+  unfolding heard heardBy
+  heard-refused r e = go (l .phase) o
+    where
+      go : (p : Phase) → isIdle p ≡ false → heardBy p l s ≡ Refused r
+      go Idle f = absurd (false≢true (sym f))
+      go Waiting f = unheard (heardWaiting l) s r e
+      go Running f = unheard (heardRunning l s) s r e
+
   pub heard-running : (h : Header) → headerAnswer s ≡ header-got h → l .phase ≡ Running → heard l s ≡ runningMoved l h s
-  heard-running h e p = let k = heard-header h e in k .1 ∙ by-running l s (k .0) p ∙ ap (λ x. runningMoved l x s) (k .2)
+  unfolding heard heardBy
+  heard-running h e p =
+      let k = hears-header (heardRunning l s) s h e in
+      ap (λ p. heardBy p l s) p ∙ k .1 ∙ by-running l s (k .0) ∙ ap (λ x. runningMoved l x s) (k .2)
 
   pub heard-waiting : (h : Header) → headerAnswer s ≡ header-got h → OneOf (0 ∷ 1 ∷ []) (tagOf phase.the-type (l .phase))
       → heard l s ≡ waitingMoved l h
+  unfolding heard heardBy
   heard-waiting h e w =
-      let k = heard-header h e in k .1 ∙ by-waiting l s (k .0) (is-waiting (l .phase) o w) ∙ ap (waitingMoved l) (k .2)
+      let k = hears-header (heardWaiting l) s h e in
+      ap (λ p. heardBy p l s) (is-waiting (l .phase) o w) ∙ k .1 ∙ by-waiting l s (k .0) ∙ ap (waitingMoved l) (k .2)
+
+pub heard-idle : (l : Lane) (s : List ℕ) → isIdle (l .phase) ≡ true → noMove 14 ≡ heard l s
+unfolding heard heardBy
+heard-idle l s = go (l .phase)
+  where
+    go : (p : Phase) → isIdle p ≡ true → noMove 14 ≡ heardBy p l s
+    go Idle e = refl
+    go Waiting e = absurd (false≢true e)
+    go Running e = absurd (false≢true e)

@@ -47,7 +47,7 @@ use Rattle.desk_rules.specs.believed.Answers.{Writes, command, silent, r
 use Rattle.desk_rules.proofs.Heard.{heard-cases}
 use Rattle.desk_rules.proofs.Commands.{command-exactly}
 use Rattle.desk_rules.proofs.Due.{reads, status-is, status-there, asks-are, ask}
-use Rattle.desk_rules.proofs.Calls.{Passes, plain-read, both, Closing, completed-closes, aborted-closes}
+use Rattle.desk_rules.proofs.Calls.{Passes, plain-read, empty-read, both, Closing, completed-closes, aborted-closes}
 use Rattle.desk_rules.proofs.Lanes.{told as tells, accepts-any}
 use Rattle.desk_rules.proofs.Memory.{refused-same, accepted-answer, follows, refused-leaves, accepted-leaves}
 use Rattle.desk_rules.proofs.Rows.{idle-test, every-kind-booked, pairs-test, table, past, accepted-within}
@@ -128,10 +128,10 @@ module _ (s : State) (i : ℕ) (b : List ℕ) where
   unfolding heardWaiting
   by-waiting h w =
       pick-test (Fits s (message i b) i) (eqb (h .size) 0)
-      (λ _. pick-test (Fits s (message i b) i) (pairIs (h .class) (h .instruction) 0x80 0x00)
+      (λ n. pick-test (Fits s (message i b) i) (pairIs (h .class) (h .instruction) 0x80 0x00)
       (λ e.
       let p = both (h .class) (h .instruction) 0x80 0x00 e in
-      becomes _ _ _ _ (taken (reads b _ 0x80 0x00 (plain-read b h w (omega (arith, p .0))) (p .0) (p .1))))
+      becomes _ _ _ _ (taken (reads b _ 0x80 0x00 (empty-read b h w (omega (arith, p .0)) (eqb-true (h .size) 0 n)) (p .0) (p .1))))
       (λ _. pick-test (Fits s (message i b) i) (eqb (h .class) 0x84)
       (λ e.
       let p = eqb-true (h .class) 0x84 e in

@@ -2,7 +2,7 @@
 use mathlib.Core.Path.{_≡_, refl, ap, ap₂, sym, _∙_}
 use mathlib.Core.Bool.{Bool, true, false, _&&_}
 use mathlib.Core.List.{List, [], _∷_}
-use Prim.Native.Nat.{ℕ, _+_, _*_, _≤_, _<_}
+use Prim.Native.Nat.{ℕ, _-_, _+_, _*_, _≤_, _<_}
 use native.Mathlib.Omega.{arith}
 use lib.Dec.{eqb}
 use borrow.Author.Tests.{eqb-true, ne-eqb}
@@ -17,7 +17,7 @@ use Rattle.zvt_rules.proofs.Readings.{then-on, then-got, got-same}
 use Rattle.zvt_rules.proofs.Tests.{pick-test}
 use Rattle.desk_rules.specs.declared.Outcome.the-variants.{Declined}
 use Rattle.desk_rules.specs.declared.Phase.{Phase}
-use Rattle.desk_rules.specs.declared.Phase.the-variants.{Idle, Waiting, Running}
+use Rattle.desk_rules.specs.declared.Phase.the-variants.{Running}
 use Rattle.desk_rules.specs.declared.Lane.{Lane}
 use Rattle.desk_rules.specs.declared.Line.{Line}
 use Rattle.desk_rules.specs.declared.Moved.{Moved}
@@ -102,6 +102,11 @@ unfolding readOf messageOf layoutOf bodyOf andThen
 plain-read s h w e =
     let pair = h .class * 256 + h .instruction in
     rw (w, andThen, above (0x0601 ∷ 0x040F ∷ 0x060F ∷ 0x06D3 ∷ []) pair (omega arith), above (0x0621 ∷ 0x0630 ∷ 0x0631 ∷ 0x0650 ∷ []) pair (omega arith))
+
+-- and as none where its header says so
+pub empty-read : (s : List ℕ) (h : Heading) → wholeHeader s ≡ got h → 0x80 ≤ h .class → h .size ≡ 0
+    → readOf s ≡ got (record { class = h .class; instruction = h .instruction; long = h .long; body = bytes [] })
+empty-read s h w e n = let none : start h + 0 - start h ≡ 0 = omega arith in plain-read s h w e ∙ rw (n, none)
 
 running-same : (l : Lane) → l .phase ≡ Running → l ≡ runningLane l
 running-same l e = ap (λ (p : Phase). record { phase = p; kind = l .kind; asked = l .asked; named = l .named; status = l .status }) e

@@ -6,7 +6,7 @@ use Prim.Native.Nat.{ℕ, _≤_, _<_}
 use lib.ListN.{length, drop, replicate}
 use Rattle.zvt_rules.specs.declared.Status.{Status}
 use Rattle.zvt_rules.specs.Reading.{got}
-use Rattle.zvt_rules.specs.Message.{Body, Message, readOf}
+use Rattle.zvt_rules.specs.Message.{Body, bytes, Message, readOf}
 use Rattle.zvt_rules.specs.Values.{missing, found, valueIn, bodyFields}
 use Rattle.zvt_rules.specs.believed.Grammar.{Bytes}
 use Rattle.desk_rules.specs.declared.Kind.{Kind}
@@ -55,7 +55,7 @@ pub data Makes (s : State) : Call → ℕ → Lane → List Line → Type 0 wher
   opened : {i : ℕ} {o : Opening} {kind : Kind} {asked named : ℕ} → Asks i (s .lines) o kind asked named
       → Makes s (opening i o) i (waiting kind asked named) []
   -- P15: "80 00 with an empty body makes the lane running."
-  taken : {i : ℕ} {b : List ℕ} {body : Body} → Reads b 0x80 0x00 body → Makes s (message i b) i (running (laneIn s i) (laneIn s i .status)) []
+  taken : {i : ℕ} {b : List ℕ} → Reads b 0x80 0x00 (bytes []) → Makes s (message i b) i (running (laneIn s i) (laneIn s i .status)) []
   -- P19: "04 FF, 06 D1 and 06 D3 change nothing."
   waits : {i : ℕ} {b : List ℕ} {body : Body} → Reads b 0x04 0xFF body ⊎ Reads b 0x06 0xD1 body ⊎ Reads b 0x06 0xD3 body
       → Makes s (message i b) i (laneIn s i) []

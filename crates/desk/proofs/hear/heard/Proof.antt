@@ -4,8 +4,7 @@ use Rattle.desk_rules.specs.Kinds.{isIdle}
 use mathlib.Core.Path.{_≡_, sym, _∙_}
 use Rattle.zvt_rules.specs.declared.HeaderAnswer.the-variants.{Header}
 use Rattle.zvt_rules.specs.Answers.{headerAnswer}
-use Rattle.desk_rules.specs.Course.{heard}
-use Rattle.desk.proofs.HearLaws.{heard-refused, heard-running, heard-waiting}
+use Rattle.desk.proofs.HearLaws.{heard-idle, heard-refused, heard-running, heard-waiting}
 use borrow.Author.Needs.{needs}
 use Rattle.desk.proofs.hear.heard.Statement.{statement}
 use Rattle.desk.proofs.hear.heard.Tie as tie
@@ -17,8 +16,7 @@ header-got : (c : tie.After-h) → headerAnswer (c .before .before .before .befo
 header-got c = sym (c .before .before .read-header .ensures) ∙ c .h .given .1
 
 returns : tie.Need-returns
-unfolding heard
-returns c = c .refused .ensures ∙ rw (sym (c .before .before .is-idle .ensures) ∙ c .before .if1 .taken)
+returns c = c .refused .ensures ∙ heard-idle _ _ (sym (c .before .before .is-idle .ensures) ∙ c .before .if1 .taken)
 
 returns-2 : tie.Need-returns-2
 returns-2 c =
