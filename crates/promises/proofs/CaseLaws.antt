@@ -6,12 +6,12 @@ use Rattle.zvt_rules.specs.Objects.{countObj, countObjs}
 use Rattle.zvt_rules.specs.Fields.{formatOf, unknown, digitsOf, unlessUndecimal, digitsIn, fieldId, countField, countFields, valueOf}
 use Rattle.zvt_rules.specs.Fields.{plainOf, containerOf, fieldBy, fieldOf, listBy, listOf}
 use Rattle.zvt_rules.specs.Message.{longLength, lengthOf, headerWith, headerOf, layoutOf, bodyOf, messageOf, wholeHeader, readOf, countBody, countOf}
-use Rattle.zvt_rules.specs.believed.Writing.{lenBytes, sized, objBytes, runBytes, lengthIn, fieldBytes, listBytes, bodyBytes, lengthBytes, messageBytes}
+use Rattle.zvt_rules.specs.believed.Writing.{lenBytes, sized, objBytes, runBytes, lengthIn, fieldBytes, listBytes, bodyBytes, lengthBytes, messageBytes, fieldValue}
 use Rattle.zvt_rules.specs.believed.Writing.{digitBytes}
 use Rattle.zvt_rules.specs.Shortest.{formFor, isShortest, shortObj, shortRun, shortField, shortList, shortBody, shortMessage}
 use Rattle.zvt_rules.specs.Shortest.{isShortObj, isShortRun, isShortField, isShortList, isShortBody, isShort, write, shorten}
 use Rattle.zvt_rules.specs.Digits.{digitBytesOf, decimalFrom, numberOf}
-use Rattle.zvt_rules.specs.Values.{fieldValue, valueIn, codeOf, amountOf, receiptOf, codeIn, amountIn, receiptIn, statusIn, bodyFields}
+use Rattle.zvt_rules.specs.Values.{valueIn, codeOf, amountOf, receiptOf, codeIn, amountIn, receiptIn, statusIn, bodyFields}
 use Rattle.zvt_rules.specs.Answers.{refusalOf, outlineOf, asReadAnswer, readAnswer, shortened, asShortenAnswer, shortenAnswer, shortenLeaves}
 use Rattle.zvt_rules.specs.Buffers.{writtenLeaves}
 use Rattle.zvt_rules.specs.Listed.{listedAt, listedFrom, listedBody, listedMessage, namedListed}

@@ -13,14 +13,14 @@ use Rattle.zvt_rules.specs.Reading.{got, unless, andThen, part, among}
 use Rattle.zvt_rules.specs.Fields.{Field}
 use Rattle.zvt_rules.specs.Message.{bytes, Message, lengthOf, headerWith, headerOf, layoutOf, bodyOf, messageOf, wholeHeader, readOf, firstOf, countOf}
 use Rattle.zvt_rules.specs.Shortest.{shortMessage, isShort, write, shorten}
-use Rattle.zvt_rules.specs.Values.{fieldValue, statusOf}
+use Rattle.zvt_rules.specs.Values.{statusOf}
 use Rattle.zvt_rules.specs.declared.Header.{Header}
 use Rattle.zvt_rules.specs.declared.Outline.{Outline}
 use Rattle.zvt_rules.specs.declared.Listed.{Listed}
 use Rattle.zvt_rules.specs.Answers.{headerAnswer, outlineOf, readAnswer, firstAnswer, shortenAnswer, shortenLeaves}
 use Rattle.zvt_rules.specs.Listed.{fieldAnswer, namedAnswer, listPlace}
 use Rattle.zvt_rules.specs.Name.{own, between, nameAt, cardName, namePlace}
-use Rattle.zvt_rules.specs.believed.Writing.{messageBytes}
+use Rattle.zvt_rules.specs.believed.Writing.{messageBytes, fieldValue}
 use Rattle.zvt_rules.specs.believed.Grammar.{Bytes, MessageOk}
 use Rattle.zvt_rules.specs.believed.Shortest.{SameValues, Shortens}
 use Rattle.zvt_rules.specs.believed.Answers.{Framed, inBody, Reported, FirstReported, Over}

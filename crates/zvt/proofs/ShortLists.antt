@@ -15,14 +15,13 @@ use Rattle.zvt_rules.specs.Reading.{got, unless, part, among}
 use Rattle.zvt_rules.specs.Limits.{mostObjects}
 use Rattle.zvt_rules.specs.Objects.{Form, formSize, Objs}
 use Rattle.zvt_rules.specs.Fields.{formatOf, digitsOf, Field, plain, container, fieldId, countFields, FieldRead, ListRead, fieldBy, fieldOf, listOf}
-use Rattle.zvt_rules.specs.believed.Writing.{sized, fieldBytes, listBytes}
+use Rattle.zvt_rules.specs.believed.Writing.{sized, fieldBytes, listBytes, fieldValue}
 use Rattle.zvt_rules.specs.Shortest.{shortField, shortList}
 use Rattle.zvt_rules.specs.believed.Grammar.{Bytes, ListOk}
 use Rattle.zvt_rules.proofs.Readings.{got-same, got-not-refused, then-got, then-on}
 use Rattle.zvt_rules.proofs.ObjectBytes.{bytes-drop, bytes-part, run-sound}
 use Rattle.zvt_rules.proofs.FieldReading.{plain-got, container-got, field-got, list-none, list-step}
 use Rattle.zvt_rules.proofs.FieldBytes.{FieldSound, field-sound, list-sound, list-complete}
-use Rattle.zvt_rules.specs.Values.{fieldValue}
 use Rattle.zvt.specs.declared.objects.Bounds.{Bounds}
 use Rattle.zvt.specs.declared.objects.BoundsRead.the-variants.{Bounds as bounds-read, Refused as bounds-refused}
 use Rattle.zvt.specs.ObjectSteps.{asBounds, boundsIn}

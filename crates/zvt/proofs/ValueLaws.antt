@@ -27,7 +27,8 @@ use Rattle.zvt_rules.specs.declared.FieldAnswer.{FieldAnswer}
 use Rattle.zvt_rules.specs.declared.FieldAnswer.the-variants.{Field as listed-field, End}
 use Rattle.zvt_rules.specs.Listed.{namedListed}
 use Rattle.zvt.specs.ListSteps.{listFields, fieldsBetween, listedIn, ListIn}
-use Rattle.zvt_rules.specs.Values.{fieldValue, Found, missing, found, valueIn}
+use Rattle.zvt_rules.specs.Values.{Found, missing, found, valueIn}
+use Rattle.zvt_rules.specs.believed.Writing.{fieldValue}
 use Rattle.zvt.specs.WritingSteps.{ListReads}
 use Rattle.zvt.proofs.ListedLaws.{no-fields, list-empty, first-in}
 

@@ -15,11 +15,11 @@ use Rattle.zvt_rules.specs.Message.{headerSize, layoutOf, Body, bytes, l
 use Rattle.zvt_rules.specs.believed.Writing.{lenBytes, bodyBytes, lengthBytes, messageBytes}
 use Rattle.zvt_rules.specs.Shortest.{formFor, isShortest, shortObj, shortRun, shortField, shortList, shortBody, shortMessage, isShort, write, shorten}
 use Rattle.zvt_rules.specs.believed.Grammar.{Bytes, FormOk, LengthOk, MessageOk}
-use Rattle.zvt_rules.specs.believed.Digits.{SaysBody}
+use Rattle.zvt_rules.specs.believed.Digits.{SaysBody, SaysLength}
 use Rattle.zvt_rules.specs.believed.Shortest.{formlessObj, formlessRun, formlessField, formlessBody, SameValues, Fewest, Shortens}
 use Rattle.zvt_rules.proofs.Readings.{got-same, then-got, then-on}
 use Rattle.zvt_rules.proofs.Tests.{by-test}
-use Rattle.zvt_rules.proofs.Spelling.{SaysLength, length-said, body-said}
+use Rattle.zvt_rules.proofs.Spelling.{length-said, body-said}
 use Rattle.zvt_rules.proofs.Lengths.{lenBytes-size, formFor-ok, form-shorter, form-kept, form-strict, formFor-shortest}
 use Rattle.zvt_rules.proofs.MessageBytes.{message-size, read-sound, read-complete}
 use Rattle.zvt_rules.proofs.MessageShort.{body-shorter, header-shorter, body-exactly, short-ok, same-values, never-longer, short-short, short-kept}

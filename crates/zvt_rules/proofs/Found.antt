@@ -16,9 +16,9 @@ use Rattle.zvt_rules.specs.declared.ListPlace.the-variants.{Between}
 use Rattle.zvt_rules.specs.Reading.{Reading, got, refused, part, among}
 use Rattle.zvt_rules.specs.Fields.{Field, plain, container, fieldId}
 use Rattle.zvt_rules.specs.Message.{headerSize, layoutOf, Body, bytes, listed, Message, readOf}
-use Rattle.zvt_rules.specs.believed.Writing.{sized, lenBytes, lengthIn, fieldBytes, listBytes, bodyBytes, lengthBytes, messageBytes}
+use Rattle.zvt_rules.specs.believed.Writing.{sized, lenBytes, lengthIn, fieldBytes, listBytes, bodyBytes, lengthBytes, messageBytes, fieldValue}
 use Rattle.zvt_rules.specs.believed.Grammar.{Bytes, ListOk, FieldsOk, LayoutOk, MessageOk}
-use Rattle.zvt_rules.specs.Values.{fieldValue, bodyFields}
+use Rattle.zvt_rules.specs.Values.{bodyFields}
 use Rattle.zvt_rules.specs.Listed.{listedAt, listedFrom, listedBody, listedMessage, nthListed, namedListed, fieldAnswer, namedAnswer, bodyPlace, messagePlace, listPlace}
 use Rattle.zvt_rules.specs.believed.Found.{Stands, ListStands}
 use Rattle.zvt_rules.specs.believed.Values.{Is}

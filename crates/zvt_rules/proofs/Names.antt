@@ -15,9 +15,9 @@ use Rattle.zvt_rules.specs.declared.FieldAnswer.the-variants.{Field as l
 use Rattle.zvt_rules.specs.Reading.{Reading, got, refused, part}
 use Rattle.zvt_rules.specs.Fields.{Field}
 use Rattle.zvt_rules.specs.Message.{Message, readOf}
-use Rattle.zvt_rules.specs.believed.Writing.{listBytes, bodyBytes, lengthBytes, messageBytes}
+use Rattle.zvt_rules.specs.believed.Writing.{listBytes, bodyBytes, lengthBytes, messageBytes, fieldValue}
 use Rattle.zvt_rules.specs.believed.Grammar.{Bytes}
-use Rattle.zvt_rules.specs.Values.{fieldValue, isStatus}
+use Rattle.zvt_rules.specs.Values.{isStatus}
 use Rattle.zvt_rules.specs.Listed.{listedMessage, namedListed, namedAnswer}
 use Rattle.zvt_rules.specs.Name.{upToZero, NameAt, own, between, sizedName, nameIn, nameOf, nameAt, nameBytes, cardName, namePlace}
 use Rattle.zvt_rules.specs.believed.Found.{Stands}

@@ -14,17 +14,11 @@ use Rattle.zvt_rules.specs.Fields.{digitsOf}
 use Rattle.zvt_rules.specs.believed.Writing.{lenBytes, digitBytes, lengthBytes}
 use Rattle.zvt_rules.specs.believed.Grammar.{FormOk, Decimals, LengthOk}
 use Rattle.zvt_rules.specs.Digits.{digitBytesOf, decimalFrom, numberOf}
-use Rattle.zvt_rules.specs.believed.Digits.{Halves, LengthDigit, Number, Spells, Says, SaysBody}
+use Rattle.zvt_rules.specs.believed.Digits.{Halves, LengthDigit, Number, Spells, Says, SaysLength, SaysBody}
 use Rattle.zvt_rules.proofs.BitLaws.{decimal-exactly}
 use Rattle.zvt_rules.proofs.FieldReading.{digits-in}
 use Rattle.zvt_rules.proofs.FieldBytes.{digitBytes-size, digits-written, digits-sound}
 use Rattle.zvt_rules.proofs.DigitLaws.{digits-size, number-back, digits-decimal}
-
--- O6: "A length is one byte 00 to 7F; or 81 and one byte; or 82 and two bytes, high byte first.": the bytes s say v
-unfoldable pub SaysLength : Form → List ℕ → ℕ → Type 0
-SaysLength bare s v = (s ≡ v ∷ []) × (v ≤ 0x7F)
-SaysLength one s v = (s ≡ 0x81 ∷ (v ∷ [])) × (v ≤ 0xFF)
-SaysLength two s v = (high : ℕ) × (low : ℕ) × (s ≡ 0x82 ∷ (high ∷ (low ∷ []))) × (high ≤ 0xFF) × (low ≤ 0xFF) × (v ≡ high * 256 + low)
 
 -- what stands before a place and behind it, of one number
 parted : (p d m e n : ℕ) → m < p → n < p → d * p + m ≡ e * p + n → (d ≡ e) × (m ≡ n)

@@ -17,15 +17,15 @@ use Rattle.zvt_rules.specs.Reading.{Reading, got, refused, among}
 use Rattle.zvt_rules.specs.Objects.{Form}
 use Rattle.zvt_rules.specs.Fields.{formatOf, holdsDigits, Field, plain, container, fieldId}
 use Rattle.zvt_rules.specs.Message.{layoutOf, Body, bytes, listed, Message, readOf}
-use Rattle.zvt_rules.specs.believed.Writing.{lenBytes, sized, runBytes, lengthIn, fieldBytes}
+use Rattle.zvt_rules.specs.believed.Writing.{lenBytes, sized, runBytes, lengthIn, fieldBytes, fieldValue}
 use Rattle.zvt_rules.specs.believed.Grammar.{Bytes, SizeOk, FieldOk, ListOk, FieldsOk, LayoutOk, MessageOk}
 use Rattle.zvt_rules.specs.Digits.{numberOf}
-use Rattle.zvt_rules.specs.Values.{fieldValue, isStatus, Found, missing, found, valueIn, codeOf, amountOf, receiptOf, codeIn, amountIn, receiptIn, statusIn, bodyFields, statusFields, statusOf}
-use Rattle.zvt_rules.specs.believed.Digits.{Spells, Says}
+use Rattle.zvt_rules.specs.Values.{isStatus, Found, missing, found, valueIn, codeOf, amountOf, receiptOf, codeIn, amountIn, receiptIn, statusIn, bodyFields, statusFields, statusOf}
+use Rattle.zvt_rules.specs.believed.Digits.{Spells, Says, SaysLength}
 use Rattle.zvt_rules.specs.believed.Values.{In, Tells, TellsCode, TellsAmount, TellsReceipt}
 use Rattle.zvt_rules.proofs.Tests.{pick-true, pick-false, pick-test, neither}
 use Rattle.zvt_rules.proofs.Lists.{in-none, in-first, in-more}
-use Rattle.zvt_rules.proofs.Spelling.{SaysLength, spells-exactly, digits-say, said-once, length-said}
+use Rattle.zvt_rules.proofs.Spelling.{spells-exactly, digits-say, said-once, length-said}
 use Rattle.zvt_rules.proofs.FieldBytes.{digitBytes-size}
 use Rattle.zvt_rules.proofs.MessageBytes.{read-sound, read-complete}
 

@@ -12,8 +12,9 @@ use Rattle.zvt_rules.specs.Reading.{got, among}
 use Rattle.zvt_rules.specs.Fields.{formatOf, Field, plain, container, fieldId}
 use Rattle.zvt_rules.specs.Message.{Body, bytes, listed, Message, readOf, layoutOf}
 use Rattle.zvt_rules.specs.believed.Grammar.{Bytes, SizeOk, FieldOk, ListOk, FieldsOk, LayoutOk, MessageOk}
-use Rattle.zvt_rules.specs.Values.{fieldValue, Found, missing, found, valueIn, bodyFields}
+use Rattle.zvt_rules.specs.Values.{Found, missing, found, valueIn, bodyFields}
 use Rattle.zvt_rules.specs.Digits.{numberOf}
+use Rattle.zvt_rules.specs.believed.Writing.{fieldValue}
 use Rattle.zvt_rules.proofs.Tests.{pick-test}
 use Rattle.zvt_rules.proofs.DigitLaws.{number-below}
 use Rattle.zvt_rules.proofs.MessageBytes.{read-sound}

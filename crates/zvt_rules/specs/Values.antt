@@ -15,12 +15,7 @@ use Rattle.zvt_rules.specs.declared.ToldReceipt.{ToldReceipt}
 use Rattle.zvt_rules.specs.declared.ToldReceipt.the-variants.{Missing as no-receipt, Receipt}
 use Rattle.zvt_rules.specs.declared.Status.{Status}
 use Rattle.zvt_rules.specs.Digits.{numberOf}
-use Rattle.zvt_rules.specs.believed.Writing.{runBytes}
-
--- the bytes of a field's value, without id and length; of a container the run of its objects
-unfoldable pub fieldValue : Field → List ℕ
-fieldValue (plain id value) = value
-fieldValue (container form os) = runBytes os
+use Rattle.zvt_rules.specs.believed.Writing.{fieldValue}
 
 -- M13: "a status information (04 0F)"
 abbrev pub isStatus : Message → Bool

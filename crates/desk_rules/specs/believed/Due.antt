@@ -74,8 +74,7 @@ pub data Ended (i : ℕ) (kind : Kind) (asked : ℕ) (status : List Field) : Cal
   -- P16: "84 xx .. ends the payment, declined, with code xx; 84 00 too." Another body than an empty one is refused (R15)
   not-taken : {s : List ℕ} {xx : ℕ} {body : Body} → Reads s 0x84 xx body → Ended i kind asked status (message i s) Declined 0 xx
   -- P21: "06 1E ends the payment, declined. The first byte of its body is the code, the others are not read"
-  aborted : {s : List ℕ} {b : ℕ} {rest : List ℕ} → Reads s 0x06 0x1E (bytes (b ∷ rest))
-      → Ended i kind asked status (message i s) Declined 0 b
+  aborted : {s : List ℕ} {b : ℕ} {rest : List ℕ} → Reads s 0x06 0x1E (bytes (b ∷ rest)) → Ended i kind asked status (message i s) Declined 0 b
   -- P27: "Where the link is lost, a waiting or running lane ends its payment, unclear". P33: "The code of a lost link is 0."
   cut : Ended i kind asked status (lost i) Unclear 0 0
   -- P23: "At 06 0F a remembered code 00 means approved." P24: "The settled amount is field 04 of the remembered status or, where it
@@ -103,8 +102,7 @@ pub data Ending : Call → Type 0 where
 -- told 0000 is none."
 pub data ReceiptIs (status : List Field) (named : ℕ) : Kind → ℕ → Type 0 where
   of-reversal : ReceiptIs status named Reversal named
-  of-another : {kind : Kind} {receipt : ℕ} → (kind ≡ Reversal → ⊥) → Told status 0x87 numberOf 0 receipt
-      → ReceiptIs status named kind receipt
+  of-another : {kind : Kind} {receipt : ℕ} → (kind ≡ Reversal → ⊥) → Told status 0x87 numberOf 0 receipt → ReceiptIs status named kind receipt
 
 -- ---- a payment
 

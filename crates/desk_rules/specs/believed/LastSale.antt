@@ -22,8 +22,7 @@ pub record Last {A : Type 0} (P : A → Type 0) (xs : List A) (x : A) : Type 0 w
 
 -- "the approved sale and reversal lines of its lane with that receipt"
 abbrev pub Concerned : ℕ → ℕ → Line → Type 0
-Concerned i receipt l =
-    (l .lane ≡ i) × ((l .receipt ≡ receipt) × ((l .outcome ≡ Approved) × ((l .kind ≡ Sale) ⊎ (l .kind ≡ Reversal))))
+Concerned i receipt l = (l .lane ≡ i) × ((l .receipt ≡ receipt) × ((l .outcome ≡ Approved) × ((l .kind ≡ Sale) ⊎ (l .kind ≡ Reversal))))
 
 -- "the last must be a sale": the sale that a reversal names
 pub record Named (i receipt : ℕ) (lines : List Line) (sold : Line) : Type 0 where

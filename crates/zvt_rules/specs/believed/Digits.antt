@@ -4,6 +4,7 @@ use mathlib.Core.Bool.{Bool, true, false, _&&_}
 use mathlib.Core.List.{List, [], _∷_}
 use Prim.Native.Nat.{ℕ, _+_, _*_, _^_, _≤_}
 use lib.ListN.{length}
+use Rattle.zvt_rules.specs.Objects.{Form, bare, one, two}
 
 -- a byte by its eight bits
 abbrev pub bit : Bool → ℕ
@@ -11,13 +12,11 @@ bit true = 1
 bit false = 0
 
 abbrev pub byteOf : Bool → Bool → Bool → Bool → Bool → Bool → Bool → Bool → ℕ
-byteOf b7 b6 b5 b4 b3 b2 b1 b0 =
-    bit b7 * 0x80 + bit b6 * 0x40 + bit b5 * 0x20 + bit b4 * 0x10 + bit b3 * 8 + bit b2 * 4 + bit b1 * 2 + bit b0
+byteOf b7 b6 b5 b4 b3 b2 b1 b0 = bit b7 * 0x80 + bit b6 * 0x40 + bit b5 * 0x20 + bit b4 * 0x10 + bit b3 * 8 + bit b2 * 4 + bit b1 * 2 + bit b0
 
 -- O3: "two bytes where the low five bits of its first byte are ones". O4: "its top bit". O5: "Bit 20 (hex)"
 unfoldable pub TagBits : ℕ → Bool → Bool → Bool → Type 0
-TagBits b long top run =
-    (b6 : Bool) × (b4 : Bool) × (b3 : Bool) × (b2 : Bool) × (b1 : Bool) × (b0 : Bool)
+TagBits b long top run = (b6 : Bool) × (b4 : Bool) × (b3 : Bool) × (b2 : Bool) × (b1 : Bool) × (b0 : Bool)
     × (b ≡ byteOf top b6 run b4 b3 b2 b1 b0) × (long ≡ (b4 && b3 && b2 && b1 && b0))
 
 -- F5: "a decimal digit in each half of each byte": the byte that says v
@@ -40,6 +39,12 @@ Spells = Number Halves 100
 -- F3: "F1 F6 says 16, and the length may be 0."
 abbrev pub Says : List ℕ → ℕ → Type 0
 Says = Number LengthDigit 10
+
+-- O6: "A length is one byte 00 to 7F; or 81 and one byte; or 82 and two bytes, high byte first.": the bytes s say v
+unfoldable pub SaysLength : Form → List ℕ → ℕ → Type 0
+SaysLength bare s v = (s ≡ v ∷ []) × (v ≤ 0x7F)
+SaysLength one s v = (s ≡ 0x81 ∷ (v ∷ [])) × (v ≤ 0xFF)
+SaysLength two s v = (high : ℕ) × (low : ℕ) × (s ≡ 0x82 ∷ (high ∷ (low ∷ []))) × (high ≤ 0xFF) × (low ≤ 0xFF) × (v ≡ high * 256 + low)
 
 -- M2: "A length byte 00 to FE is itself the length. After FF the next two bytes are the length, low byte first." M3: "at most 4,096"
 unfoldable pub SaysBody : Bool → List ℕ → ℕ → Type 0

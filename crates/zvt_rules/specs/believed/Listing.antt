@@ -31,25 +31,21 @@ Form m w = ((write m ≡ messageBytes m) × (w ≡ ascii "short")) ⊎ ((write m
 
 -- M17: "its number, from 1; the pair; the length of the body as sent; `short` .. else `long`; the ids .., none for a plain body"
 unfoldable pub Line : ℕ → Message → List ℕ → Type 0
-Line number m t =
-    (n : List ℕ) × (class : List ℕ) × (instruction : List ℕ) × (size : List ℕ) × (form : List ℕ) × (ids : List (List ℕ))
+Line number m t = (n : List ℕ) × (class : List ℕ) × (instruction : List ℕ) × (size : List ℕ) × (form : List ℕ) × (ids : List (List ℕ))
     × Decimal number n × Hex (m .class) class × Hex (m .instruction) instruction × Decimal (length (bodyBytes (m .body))) size
     × Form m form × Ids (bodyFields (m .body)) ids × (t ≡ words (n ∷ (class ++ instruction) ∷ size ∷ form ∷ ids) ++ ascii "\n")
 
 -- M18: "The last line is `end`, the number of messages listed, and `ok` or `refused` with a number: the listing ends at a refused
 -- message"; s is what follows those listed
 unfoldable pub Last : ℕ → List ℕ → List ℕ → Type 0
-Last count s t =
-    (n : List ℕ) × Decimal count n
-    × (((s ≡ []) × (t ≡ words (ascii "end" ∷ n ∷ ascii "ok" ∷ []) ++ ascii "\n"))
+Last count s t = (n : List ℕ) × Decimal count n × (((s ≡ []) × (t ≡ words (ascii "end" ∷ n ∷ ascii "ok" ∷ []) ++ ascii "\n"))
     ⊎ ((f : Fault) × (no : List ℕ) × (0 < length s) × (firstOf s ≡ refused f) × Decimal (f .number) no
     × (t ≡ words (ascii "end" ∷ n ∷ ascii "refused" ∷ no ∷ []) ++ ascii "\n")))
 
 -- M16: "messages .., each directly behind the one before". M17: "It prints a line for each". These messages, after count others
 unfoldable pub Lists : ℕ → List Message → List ℕ → List ℕ → Type 0
 Lists count [] s t = Last count s t
-Lists count (m ∷ ms) s t =
-    (rest : List ℕ) × (line : List ℕ) × (lines : List ℕ) × MessageOk m × (s ≡ messageBytes m ++ rest)
+Lists count (m ∷ ms) s t = (rest : List ℕ) × (line : List ℕ) × (lines : List ℕ) × MessageOk m × (s ≡ messageBytes m ++ rest)
     × Line (count + 1) m line × Lists (count + 1) ms rest lines × (t ≡ line ++ lines)
 
 -- M19: "More than 65,536 bytes of input give `end 0 refused 2` and nothing else."

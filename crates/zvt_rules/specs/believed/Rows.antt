@@ -126,8 +126,7 @@ pub data WholeNo : List ℕ → Fault → Type 0 where
 
 -- s begins with a message whose body is refused, and rest stands behind it
 unfoldable pub FramedNo : List ℕ → List ℕ → Fault → Type 0
-FramedNo s rest r =
-    (class : ℕ) × (instruction : ℕ) × (long : Bool) × (body : List ℕ) × (framed class instruction long body ++ rest ≡ s)
+FramedNo s rest r = (class : ℕ) × (instruction : ℕ) × (long : Bool) × (body : List ℕ) × (framed class instruction long body ++ rest ≡ s)
     × LengthOk long (length body) × BodyNo (layoutOf class instruction) (2 + length (lengthBytes long (length body))) body r
 
 -- R37: "Reading: header, body." M8: "Reading takes all the bytes as one message."

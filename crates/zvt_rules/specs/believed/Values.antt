@@ -19,9 +19,7 @@ Is s m = (messageBytes m ≡ s) × MessageOk m
 
 -- M13: "a status information (04 0F)": the bytes s are one, and that field stands in its list
 unfoldable pub Tells : List ℕ → ℕ → List ℕ → Type 0
-Tells s id value =
-    (long : Bool) × (fs : List Field)
-    × Is s (record { class = 0x04; instruction = 0x0F; long = long; body = listed [] fs })
+Tells s id value = (long : Bool) × (fs : List Field) × Is s (record { class = 0x04; instruction = 0x0F; long = long; body = listed [] fs })
     × In (plain id value) fs
 
 -- P20: "code (27), amount (04) and receipt (87)"

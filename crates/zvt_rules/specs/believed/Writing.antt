@@ -44,6 +44,11 @@ unfoldable pub fieldBytes : Field → List ℕ
 fieldBytes (plain id value) = id ∷ (lengthIn (formatOf id) (length value) ++ value)
 fieldBytes (container form os) = 0x06 ∷ sized form (runBytes os)
 
+-- F2: a field's value, without id and length; O1: that of field 06 is its run of objects
+unfoldable pub fieldValue : Field → List ℕ
+fieldValue (plain id value) = value
+fieldValue (container form os) = runBytes os
+
 unfoldable pub listBytes : List Field → List ℕ
 listBytes [] = []
 listBytes (f ∷ fs) = fieldBytes f ++ listBytes fs
