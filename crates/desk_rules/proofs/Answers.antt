@@ -17,6 +17,8 @@ use Rattle.zvt_rules.specs.Message.{Heading, wholeHeader, Message, readOf, mess
 use Rattle.zvt_rules.specs.Values.{Found, missing, found, valueIn, bodyFields, codeOf, codeIn, statusIn}
 use Rattle.zvt_rules.specs.believed.Writing.{messageBytes}
 use Rattle.zvt_rules.specs.believed.Grammar.{Bytes}
+use Rattle.zvt_rules.specs.believed.Values.{In}
+use Rattle.zvt_rules.proofs.Lists.{in-none, in-first}
 use Rattle.zvt_rules.proofs.Readings.{got-same, then-got, then-on}
 use Rattle.zvt_rules.proofs.Tests.{true-false, pick-test, case, eqb-test}
 use Rattle.zvt_rules.proofs.MessageBytes.{read-sound}
@@ -42,7 +44,7 @@ use Rattle.desk_rules.specs.Course.{runningPairs, pairIs, heardWaiting, 
 use Rattle.desk_rules.specs.Memory.{freshDesk, view, linesOfDesk, Valid, refusedAnswer, answerOf, leavesOf, closeAnswer, lineAnswer, laneAnswer}
 use Rattle.desk_rules.specs.Desk.{State, laneAt, allIdle, Decision, refuse, accept, decide, laneAfter, linesFrom, step}
 use Rattle.desk_rules.specs.believed.Due.{Reads, by-84, by-061E, by-060F, by-loss}
-use Rattle.desk_rules.specs.believed.Table.{laneIn, phaseAt, idle, OneOf, whileRunning, Commands}
+use Rattle.desk_rules.specs.believed.Table.{laneIn, phaseAt, idle, whileRunning, Commands}
 use Rattle.desk_rules.specs.believed.Answers.{Writes, command, silent, reply, cut, running, Makes, opened, taken, waits, told, untold, ended, broken, Leaves, Answers, refusal, success, refusing, Closes, open-payment, closed, ShowsLane, no-lane, lane, ShowsLine, no-line, line}
 use Rattle.desk_rules.proofs.Heard.{heard-cases}
 use Rattle.desk_rules.proofs.Commands.{command-exactly}
@@ -149,8 +151,11 @@ module _ (s : State) (i : ℕ) (b : List ℕ) where
       go missing e = stays _ _ _ (untold r e)
       go (found v) e = becomes _ _ _ _ (rw on (told r e (status-there (bodyFields (m .body)))))
 
+  one-of : {X : Type 0} {x k : ℕ} {ks : List ℕ} → (x ≡ k → X) → (In x ks → X) → In x (k ∷ ks) → X
+  one-of here later i = ⊎-elim here later (in-first i)
+
   -- of the six pairs, three change nothing
-  by-pair : (m : Message) → Bytes b → readOf b ≡ got m → OneOf whileRunning (m .class * 256 + m .instruction)
+  by-pair : (m : Message) → Bytes b → readOf b ≡ got m → In (m .class * 256 + m .instruction) whileRunning
       → pairIs (m .class) (m .instruction) 0x06 0x0F ≡ false → pairIs (m .class) (m .instruction) 0x06 0x1E ≡ false
       → pairIs (m .class) (m .instruction) 0x04 0x0F ≡ false → Makes s (message i b) i (laneIn s i) []
   by-pair m n r o f1 f2 f3 = go o
@@ -167,16 +172,15 @@ module _ (s : State) (i : ℕ) (b : List ℕ) where
       other : (c k : ℕ) → k < 256 → c * 256 + k ≡ m .class * 256 + m .instruction → pairIs (m .class) (m .instruction) c k ≡ false → ⊥
       other c k l e f = let p = is c k l e in true-false (and-eq-true-iff _ _ .1 (eq-eqb _ _ (p .0), eq-eqb _ _ (p .1))) f
 
-      go : OneOf whileRunning (m .class * 256 + m .instruction) → Makes s (message i b) i (laneIn s i) []
-      go (inl e) = waits (inl (paired 0x04 0xFF (omega arith) e))
-      go (inr (inl e)) = waits (inr (inl (paired 0x06 0xD1 (omega arith) e)))
-      go (inr (inr (inl e))) = waits (inr (inr (paired 0x06 0xD3 (omega arith) e)))
-      go (inr (inr (inr (inl e)))) = absurd (other 0x04 0x0F (omega arith) e f3)
-      go (inr (inr (inr (inr (inl e))))) = absurd (other 0x06 0x1E (omega arith) e f2)
-      go (inr (inr (inr (inr (inr (inl e)))))) = absurd (other 0x06 0x0F (omega arith) e f1)
-      go (inr (inr (inr (inr (inr (inr o)))))) = absurd o
+      go : In (m .class * 256 + m .instruction) whileRunning → Makes s (message i b) i (laneIn s i) []
+      go = one-of (λ e. waits (inl (paired 0x04 0xFF (omega arith) (sym e))))
+          (one-of (λ e. waits (inr (inl (paired 0x06 0xD1 (omega arith) (sym e)))))
+          (one-of (λ e. waits (inr (inr (paired 0x06 0xD3 (omega arith) (sym e)))))
+          (one-of (λ e. absurd (other 0x04 0x0F (omega arith) (sym e) f3))
+          (one-of (λ e. absurd (other 0x06 0x1E (omega arith) (sym e) f2))
+          (one-of (λ e. absurd (other 0x06 0x0F (omega arith) (sym e) f1)) in-none)))))
 
-  by-moved : (m : Message) → Bytes b → readOf b ≡ got m → OneOf whileRunning (m .class * 256 + m .instruction)
+  by-moved : (m : Message) → Bytes b → readOf b ≡ got m → In (m .class * 256 + m .instruction) whileRunning
       → laneAt (s .lanes) i .phase ≡ Running → Fits s (message i b) i (movedBy (laneAt (s .lanes) i) m)
   unfolding movedBy
   by-moved m n r o on =
@@ -195,7 +199,7 @@ module _ (s : State) (i : ℕ) (b : List ℕ) where
       pick-test (Fits s (message i b) i) (among runningPairs (h .class * 256 + h .instruction))
       (λ t. body (readOf b) refl (pairs-test _ .0 t) e) (λ _. refuses _ _ _ _)
     where
-      body : (x : Reading Message) → readOf b ≡ x → OneOf whileRunning (h .class * 256 + h .instruction)
+      body : (x : Reading Message) → readOf b ≡ x → In (h .class * 256 + h .instruction) whileRunning
           → laneAt (s .lanes) i .phase ≡ Running → Fits s (message i b) i (afterBody (laneAt (s .lanes) i) x)
       body (refused f) r o on = refuses _ _ _ _
       body (got m) r o on = let p = same-pair b h m w r in by-moved m n r (rw (p .0, p .1) o) on

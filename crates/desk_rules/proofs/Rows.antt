@@ -15,6 +15,8 @@ use Rattle.zvt_rules.specs.declared.ToldCode.the-variants.{Missing, Code}
 use Rattle.zvt_rules.specs.Reading.{Reading, got, refused, pick, among}
 use Rattle.zvt_rules.specs.Message.{Heading, wholeHeader, Body, bytes, listed, Message, layoutOf, bodyOf, messageOf, readOf}
 use Rattle.zvt_rules.proofs.Readings.{got-same, got-not-refused, then-got}
+use Rattle.zvt_rules.specs.believed.Values.{In}
+use Rattle.zvt_rules.proofs.Lists.{in-none, in-first, among-exactly}
 use Rattle.zvt_rules.proofs.Tests.{by-test, true-false, pick-test, pick-same, pick-under, leb-test, eqb-test, and-test, or-test, between, no-for}
 use Rattle.desk_rules.specs.declared.Kind.{Kind}
 use Rattle.desk_rules.specs.declared.Kind.the-variants.{Sale, Refund, Reversal}
@@ -34,7 +36,7 @@ use Rattle.desk_rules.specs.Desk.{State, laneAt, placesTaken, load, Deci
 use Rattle.desk_rules.specs.declared.Reference.the-variants.{Sold}
 use Rattle.desk_rules.specs.believed.LastSale.{Named}
 use Rattle.desk_rules.specs.believed.Due.{Reads}
-use Rattle.desk_rules.specs.believed.Table.{Given, gives, refuses, phaseAt, openIn, openPayments, Within, Stands, needs, openingRows, OneOf, whileRunning, Allowed, hearingRows, losingRows, Row}
+use Rattle.desk_rules.specs.believed.Table.{Given, gives, refuses, phaseAt, openIn, openPayments, Within, Stands, needs, openingRows, whileRunning, Allowed, hearingRows, losingRows, Row}
 use Rattle.desk_rules.proofs.Commands.{command-size}
 use Rattle.desk_rules.proofs.NamedSale.{named-is, named-there}
 use Rattle.desk_rules.proofs.Calls.{plain-read}
@@ -173,27 +175,22 @@ opening-agrees s i o room =
 
 -- ---- a message from the terminal
 
-among-test : (ks : List ℕ) (x : ℕ) → (among ks x ≡ true) ↔ OneOf ks x
-unfolding among
-among-test [] x = (λ e. false≢true e, λ e. absurd e)
-among-test (k ∷ ks) x = or-test (eqb-test k x) (among-test ks x)
-
 -- all of a list are in another
 unfoldable allIn : List ℕ → List ℕ → Bool
 allIn [] js = true
 allIn (k ∷ ks) js = among js k && allIn ks js
 
-included : (ks js : List ℕ) (x : ℕ) → allIn ks js ≡ true → OneOf ks x → OneOf js x
+included : (ks js : List ℕ) (x : ℕ) → allIn ks js ≡ true → In x ks → In x js
 unfolding allIn
-included [] js x t o = absurd o
+included [] js x t o = in-none o
 included (k ∷ ks) js x t o =
     let h = and-eq-true-iff (among js k) (allIn ks js) .0 t in
-    ⊎-elim (λ e. subst (OneOf js) e (among-test js k .0 (h .0))) (included ks js x (h .1)) o
+    ⊎-elim (λ e. rw e (among-exactly js k .0 (h .0))) (included ks js x (h .1)) (in-first o)
 
 -- the six pairs, in whatever order
-pub pairs-test : (pair : ℕ) → (among runningPairs pair ≡ true) ↔ OneOf whileRunning pair
+pub pairs-test : (pair : ℕ) → (among runningPairs pair ≡ true) ↔ In pair whileRunning
 unfolding allIn among
-pairs-test pair = Iff·trans (among-test runningPairs pair) (included runningPairs whileRunning pair refl, included whileRunning runningPairs pair refl)
+pairs-test pair = Iff·trans (among-exactly runningPairs pair) (included runningPairs whileRunning pair refl, included whileRunning runningPairs pair refl)
 
 -- the tests of a pair in a phase that is not idle
 unfoldable allowedBy : Phase → Heading → Bool

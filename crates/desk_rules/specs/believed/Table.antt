@@ -15,6 +15,7 @@ use Rattle.zvt_rules.specs.Reading.{Reading, got, refused}
 use Rattle.zvt_rules.specs.Fields.{Field, plain}
 use Rattle.zvt_rules.specs.Message.{Heading, wholeHeader, bytes, listed, Message, readOf}
 use Rattle.zvt_rules.specs.Digits.{numberOf}
+use Rattle.zvt_rules.specs.believed.Values.{In}
 use Rattle.desk_rules.specs.declared.Kind.the-variants.{Sale}
 use Rattle.desk_rules.specs.declared.Phase.{Phase}
 use Rattle.desk_rules.specs.declared.Phase.the-variants.{Idle, Waiting, Running}
@@ -98,11 +99,6 @@ openingRows s i o room =
 
 -- ---- a message from the terminal
 
--- a number is one of them
-abbrev pub OneOf : List ℕ → ℕ → Type 0
-OneOf [] x = ⊥
-OneOf (k ∷ ks) x = (k ≡ x) ⊎ OneOf ks x
-
 -- P19: "04 FF, 06 D1 and 06 D3"; P20: 04 0F; P21: 06 1E; P22: 06 0F
 abbrev pub whileRunning : List ℕ
 whileRunning = 0x04FF ∷ 0x06D1 ∷ 0x06D3 ∷ 0x040F ∷ 0x061E ∷ 0x060F ∷ []
@@ -111,7 +107,7 @@ whileRunning = 0x04FF ∷ 0x06D1 ∷ 0x06D3 ∷ 0x040F ∷ 0x061E ∷ 0x060F ∷
 abbrev pub Allowed : Phase → Heading → Type 0
 Allowed Idle h = ⊥
 Allowed Waiting h = (h .size ≡ 0) × (((h .class ≡ 0x80) × (h .instruction ≡ 0x00)) ⊎ (h .class ≡ 0x84))
-Allowed Running h = OneOf whileRunning (h .class * 256 + h .instruction)
+Allowed Running h = In (h .class * 256 + h .instruction) whileRunning
 
 -- R35: "12, 14, header, 15, body, 11. The 1 of P21 belongs to the body." P21: "06 1E .. an empty body is refused (1)". R38: "a reply 3"
 abbrev pub hearingRows : State → ℕ → List ℕ → ℕ → List (ℕ → Type 0)
