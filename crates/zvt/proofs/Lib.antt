@@ -19,3 +19,4 @@ pub mod ListedLaws
 pub mod PlaceLaws
 pub mod ValueLaws
 pub mod NameLaws
+pub mod ToldLaws

@@ -30,7 +30,7 @@ use Rattle.zvt_rules.specs.declared.ListPlace.{ListPlace}
 use Rattle.zvt_rules.specs.declared.ListPlace.the-variants.{Nowhere, Between}
 use Rattle.zvt_rules.specs.Answers.{outlineOf, asReadAnswer, readAnswer}
 use Rattle.zvt_rules.specs.Listed.{listedFrom, listedBody, listedMessage, namedListed, bodyPlace, messagePlace, listPlace}
-use Rattle.zvt.specs.ListSteps.{listFields, fieldsBetween, listedIn, ListIn, placeOfStatus, statusPlace}
+use Rattle.zvt.specs.ListSteps.{listFields, fieldsBetween, listedIn, ListIn, Was, placeOfStatus, statusPlace}
 use Rattle.zvt_rules.specs.Values.{isStatus, bodyFields, statusFields}
 use Rattle.zvt_rules.specs.Name.{own, NameAt, nameIn, nameOf, nameAt}
 use Rattle.zvt.specs.WritingSteps.{ListReads}
@@ -38,7 +38,7 @@ use Rattle.zvt.proofs.ListedLaws.{list-empty}
 
 -- ---- the list of a message that is read
 -- it stands behind header and password
-behind : (long : Bool) (c i v : ℕ) (w : List ℕ) (k : ℕ) → drop (headerSize long + k) (c ∷ (i ∷ (lengthBytes long v ++ w))) ≡ drop k w
+pub behind : (long : Bool) (c i v : ℕ) (w : List ℕ) (k : ℕ) → drop (headerSize long + k) (c ∷ (i ∷ (lengthBytes long v ++ w))) ≡ drop k w
 unfolding lengthBytes
 behind false c i v w k = sym (drop-drop k 3 (c ∷ (i ∷ (v ∷ w))))
 behind true c i v w k = sym (drop-drop k 5 _)
@@ -133,10 +133,6 @@ module _ (s : List ℕ) (r : Refusal) (e : readAnswer s ≡ Refused r) where
   pub no-status : Nowhere ≡ statusPlace s
   unfolding statusPlace placeOfStatus
   no-status = rw (not-accepted s r e .1)
-
--- bytes that were read as that message
-abbrev pub Was : List ℕ → Outline → Type 0
-Was s x = Bytes s × (readAnswer s ≡ Accepted x)
 
 module _ (s : List ℕ) (x : Outline) (w : Was s x) where
   pub start-small : x .start ≤ 5

@@ -6,3 +6,4 @@ pub mod BodySteps
 pub mod WritingSteps
 pub mod ListSteps
 pub mod NumberSteps
+pub mod ToldSteps

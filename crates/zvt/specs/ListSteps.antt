@@ -6,6 +6,8 @@ use lib.ListN.{length}
 use Rattle.zvt_rules.specs.declared.Listed.{Listed}
 use Rattle.zvt_rules.specs.declared.FieldAnswer.{FieldAnswer}
 use Rattle.zvt_rules.specs.declared.FieldAnswer.the-variants.{Field as listed-field, End}
+use Rattle.zvt_rules.specs.declared.Outline.{Outline}
+use Rattle.zvt_rules.specs.declared.ReadAnswer.the-variants.{Accepted}
 use Rattle.zvt_rules.specs.declared.ListPlace.{ListPlace}
 use Rattle.zvt_rules.specs.declared.ListPlace.the-variants.{Nowhere}
 use Rattle.zvt_rules.specs.Reading.{Reading, got, refused, pick, part}
@@ -13,6 +15,8 @@ use Rattle.zvt_rules.specs.Limits.{mostBody}
 use Rattle.zvt_rules.specs.Fields.{Field, ListRead, listOf}
 use Rattle.zvt_rules.specs.Message.{Message, readOf}
 use Rattle.zvt_rules.specs.Values.{isStatus}
+use Rattle.zvt_rules.specs.believed.Grammar.{Bytes}
+use Rattle.zvt_rules.specs.Answers.{readAnswer}
 use Rattle.zvt_rules.specs.Listed.{listedFrom, messagePlace}
 use Rattle.zvt.specs.WritingSteps.{ListReads}
 
@@ -42,6 +46,10 @@ pub record FieldHere (at e : ℕ) (s : List ℕ) (l : Listed) : Type 0 where
 pub data StandsAt (at e : ℕ) (s : List ℕ) : FieldAnswer → Type 0 where
   field : {l : Listed} → FieldHere at e s l → StandsAt at e s (listed-field l)
   none : listedIn at e s ≡ [] → StandsAt at e s End
+
+-- bytes that were read as that message
+abbrev pub Was : List ℕ → Outline → Type 0
+Was s m = Bytes s × (readAnswer s ≡ Accepted m)
 
 -- where the list of a status information lies
 unfoldable pub placeOfStatus : Reading Message → ListPlace

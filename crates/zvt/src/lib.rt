@@ -8,6 +8,7 @@ mod headers;
 mod list;
 mod name;
 mod objects;
+mod told;
 mod values;
 mod writing;
 
@@ -16,19 +17,19 @@ use objects::PartRead;
 use zvt_rules::FieldAnswer;
 use zvt_rules::FirstAnswer;
 use zvt_rules::HeaderAnswer;
+use zvt_rules::HearAnswer;
+use zvt_rules::Heard;
 use zvt_rules::Layout;
 use zvt_rules::ListPlace;
 use zvt_rules::ReadAnswer;
 use zvt_rules::Refusal;
 use zvt_rules::ShortenAnswer;
 use zvt_rules::Status;
-use zvt_rules::ToldAmount;
-use zvt_rules::ToldCode;
-use zvt_rules::ToldReceipt;
 ghost use mathlib.Core.Path.{_≡_};
 ghost use lib.ListN.{length};
 ghost use Rattle.zvt_rules.specs.Answers.{headerAnswer, readAnswer, firstAnswer, shortenAnswer, shortenLeaves};
 ghost use Rattle.zvt_rules.specs.Digits.{digitBytesOf};
+ghost use Rattle.zvt_rules.specs.Heard.{hearAnswer};
 ghost use Rattle.zvt_rules.specs.Listed.{fieldAnswer, namedAnswer, listPlace};
 ghost use Rattle.zvt_rules.specs.Name.{nameAt, cardName, namePlace};
 ghost use Rattle.zvt_rules.specs.Values.{statusOf};
@@ -131,17 +132,21 @@ pub fn field_named(s: &[u8], id: u8) -> FieldAnswer
 pub fn read_status(s: &[u8]) -> Status
     ensures { λ r. ⌜ r ≡ statusOf (now (s .entry)) ⌝ }
 {
-    match list::status_place(s) {
-        ListPlace::Nowhere => Status {
-            code: ToldCode::Missing,
-            amount: ToldAmount::Missing,
-            receipt: ToldReceipt::Missing,
-        },
-        ListPlace::Between(from, end) => Status {
-            code: values::code_in(s, from, end),
-            amount: values::amount_in(s, from, end),
-            receipt: values::receipt_in(s, from, end),
-        },
+    told::status_at(s, list::status_place(s))
+}
+
+// What a desk asks of the message that s is: its header, and what the body behind it tells.
+pub fn hear(s: &[u8]) -> HearAnswer
+    ensures { λ r. ⌜ r ≡ hearAnswer (now (s .entry)) ⌝ }
+{
+    match headers::whole_header(s) {
+        HeaderRead::Refused(f) => HearAnswer::Refused(Refusal { number: f.number }),
+        HeaderRead::Header(h) => HearAnswer::Heard(Heard {
+            class: h.class,
+            instruction: h.instruction,
+            length: h.length,
+            told: told::told_behind(s, h),
+        }),
     }
 }
 

@@ -5,9 +5,10 @@ use crate::objects::BoundsRead;
 use zvt_rules::FieldAnswer;
 use zvt_rules::ListPlace;
 use zvt_rules::Listed;
+use zvt_rules::Outline;
 use zvt_rules::ReadAnswer;
 ghost use mathlib.Core.Path.{_≡_};
-ghost use Rattle.zvt.specs.ListSteps.{ListIn, StandsAt, statusPlace, listedIn};
+ghost use Rattle.zvt.specs.ListSteps.{ListIn, StandsAt, Was, statusPlace, listedIn};
 ghost use Rattle.zvt_rules.specs.Message.{readOf};
 ghost use Rattle.zvt_rules.specs.Listed.{listedMessage, nthListed, namedListed};
 
@@ -33,16 +34,22 @@ pub(crate) fn status_place(s: &[u8]) -> ListPlace
 {
     match crate::read(s) {
         ReadAnswer::Refused(_) => ListPlace::Nowhere,
-        ReadAnswer::Accepted(m) => {
-            if m.class != 0x04 {
-                return ListPlace::Nowhere;
-            }
-            if m.instruction != 0x0F {
-                return ListPlace::Nowhere;
-            }
-            ListPlace::Between(m.start, s.len())
-        }
+        ReadAnswer::Accepted(m) => status_list(s, m),
     }
+}
+
+// The same of a message that was read.
+pub(crate) fn status_list(s: &[u8], m: Outline) -> ListPlace
+    requires { ⌜ Was (now s) m ⌝ }
+    ensures { λ r. ⌜ r ≡ statusPlace (now (s .entry)) ⌝ }
+{
+    if m.class != 0x04 {
+        return ListPlace::Nowhere;
+    }
+    if m.instruction != 0x0F {
+        return ListPlace::Nowhere;
+    }
+    ListPlace::Between(m.start, s.len())
 }
 
 // The field at place at of a list that goes up to end.

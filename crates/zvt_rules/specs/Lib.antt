@@ -10,6 +10,7 @@ pub mod Shortest
 pub mod Digits
 pub mod Values
 pub mod Answers
+pub mod Heard
 pub mod Listed
 pub mod Name
 pub mod Text

@@ -124,3 +124,27 @@ pub enum ListPlace {
     Nowhere,
     Between(usize, usize),
 }
+
+// What a message tells a desk: the first byte of a plain body, and what a status information tells.
+pub struct ToldBody {
+    pub first: ToldCode,
+    pub status: Status,
+}
+
+pub enum ToldAnswer {
+    Told(ToldBody),
+    Refused(Refusal),
+}
+
+// A header, and what the body behind it tells.
+pub struct Heard {
+    pub class: u8,
+    pub instruction: u8,
+    pub length: usize,
+    pub told: ToldAnswer,
+}
+
+pub enum HearAnswer {
+    Heard(Heard),
+    Refused(Refusal),
+}

@@ -2,8 +2,9 @@
 use mathlib.Core.Path.{sym, _∙_}
 use native.Mathlib.Omega.{arith}
 use borrow.Author.Needs.{needs}
+use Rattle.zvt.specs.ListSteps.{Was}
 use Rattle.zvt.proofs.Slices.{bytes-known}
-use Rattle.zvt.proofs.PlaceLaws.{Was, placeBy, no-place, start-small, place-is}
+use Rattle.zvt.proofs.PlaceLaws.{placeBy, no-place, start-small, place-is}
 use Rattle.zvt.proofs.list_place.Statement.{statement}
 use Rattle.zvt.proofs.list_place.Tie as tie
 
