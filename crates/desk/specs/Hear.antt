@@ -1,33 +1,25 @@
 -- Steps of the code: what the steps of hearing a message answer. Definitions only.
-use mathlib.Core.Path.{_≡_}
 use Prim.Native.Nat.{ℕ, _+_, _*_}
 use mathlib.Core.Bool.{false}
 use mathlib.Core.List.{List}
-use lib.ListN.{getD}
 use lib.Dec.{eqb}
 use Rattle.zvt_rules.specs.Reading.{pick, among}
 use Rattle.zvt_rules.specs.Buffers.{front}
 use Rattle.zvt_rules.specs.Message.{Heading}
-use Rattle.zvt_rules.specs.Values.{statusOf}
 use Rattle.zvt_rules.specs.declared.Status.{Status}
-use Rattle.zvt_rules.specs.Answers.{readAnswer}
-use Rattle.zvt_rules.specs.declared.Header.{Header}
-use Rattle.zvt_rules.specs.declared.Outline.{Outline}
-use Rattle.zvt_rules.specs.declared.ReadAnswer.the-variants.{Accepted}
+use Rattle.zvt_rules.specs.declared.ToldBody.{ToldBody}
+use Rattle.zvt_rules.specs.declared.ToldAnswer.{ToldAnswer}
+use Rattle.zvt_rules.specs.declared.ToldAnswer.the-variants.{Told, Refused as body-refused}
+use Rattle.zvt_rules.specs.declared.Heard.{Heard}
 use Rattle.desk_rules.specs.declared.Lane.{Lane}
 use Rattle.desk_rules.specs.declared.Moved.{Moved}
-use Rattle.desk_rules.specs.declared.Moved.the-variants.{Stays, Ends}
-use Rattle.desk_rules.specs.declared.Outcome.the-variants.{Declined}
+use Rattle.desk_rules.specs.declared.Moved.the-variants.{Refused, Stays}
 use Rattle.desk.specs.declared.hear.Said.{Said}
 use Rattle.desk.specs.declared.hear.Said.the-variants.{Completion, Abort, Report, Passing, NotAllowed}
-use Rattle.desk_rules.specs.Course.{noMove, replyBytes, runningPairs, heardWaiting, heardRunning, completedBy, reportedBy}
-
--- the bytes were read as that message
-unfoldable pub ReadIn : Outline → List ℕ → Type 0
-ReadIn m s = readAnswer s ≡ Accepted m
+use Rattle.desk_rules.specs.Course.{noMove, replyBytes, runningPairs, heardWaiting, completedBy, abortedBy, reportedBy}
 
 -- a header by its pair and its body's length
-unfoldable pub headerBy : Header → Heading
+unfoldable pub headerBy : Heard → Heading
 headerBy h = record { class = h .class; instruction = h .instruction; long = false; size = h .length }
 
 -- what a pair says to a running lane
@@ -37,27 +29,33 @@ saidBy pair =
     (pick (eqb pair 0x060F) Completion (pick (eqb pair 0x061E) Abort (pick (eqb pair 0x040F) Report Passing)))
     NotAllowed
 
-unfoldable pub waitingMoved : Lane → Header → Moved
+unfoldable pub waitingMoved : Lane → Heard → Moved
 waitingMoved l h = heardWaiting l (headerBy h)
-
-unfoldable pub runningMoved : Lane → Header → List ℕ → Moved
-runningMoved l h s = heardRunning l s (headerBy h)
-
-unfoldable pub abortedIn : Outline → List ℕ → Moved
-abortedIn m s = pick (eqb (m .length) 0) (noMove 1) (Ends Declined 0 (getD s (m .start) 0))
 
 unfoldable pub reportedAs : Lane → Status → Moved
 reportedAs l status = reportedBy l status (status .code)
 
-unfoldable pub movedFor : Said → Lane → Outline → List ℕ → Moved
-movedFor Completion l m s = completedBy l (l .status .code)
-movedFor Abort l m s = abortedIn m s
-movedFor Report l m s = reportedAs l (statusOf s)
-movedFor Passing l m s = Stays
-movedFor NotAllowed l m s = Stays
+unfoldable pub movedFor : Said → Lane → ToldBody → Moved
+movedFor Completion l t = completedBy l (l .status .code)
+movedFor Abort l t = abortedBy (t .first)
+movedFor Report l t = reportedAs l (t .status)
+movedFor Passing l t = Stays
+movedFor NotAllowed l t = noMove 15
 
-unfoldable pub movedAs : Lane → Outline → List ℕ → Moved
-movedAs l m s = movedFor (saidBy (m .class * 256 + m .instruction)) l m s
+unfoldable pub afterTold : Said → Lane → ToldAnswer → Moved
+afterTold said l (body-refused r) = Refused r
+afterTold said l (Told t) = movedFor said l t
+
+-- a pair that is not allowed is refused before the body (15)
+unfoldable pub runningFor : Said → Lane → ToldAnswer → Moved
+runningFor NotAllowed l told = noMove 15
+runningFor Completion l told = afterTold Completion l told
+runningFor Abort l told = afterTold Abort l told
+runningFor Report l told = afterTold Report l told
+runningFor Passing l told = afterTold Passing l told
+
+unfoldable pub runningMoved : Lane → Heard → Moved
+runningMoved l h = runningFor (saidBy (h .class * 256 + h .instruction)) l (h .told)
 
 -- what a reply of so many bytes leaves in the output
 unfoldable pub replied : ℕ → List ℕ → List ℕ

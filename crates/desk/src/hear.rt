@@ -6,21 +6,21 @@ use desk_rules::Moved;
 use desk_rules::Opening;
 use desk_rules::Outcome;
 use desk_rules::Phase;
-use zvt_rules::Header;
-use zvt_rules::HeaderAnswer;
-use zvt_rules::Outline;
-use zvt_rules::ReadAnswer;
+use zvt_rules::HearAnswer;
+use zvt_rules::Heard;
 use zvt_rules::Refusal;
 use zvt_rules::Status;
 use zvt_rules::ToldAmount;
+use zvt_rules::ToldAnswer;
+use zvt_rules::ToldBody;
 use zvt_rules::ToldCode;
 use zvt_rules::ToldReceipt;
 ghost use mathlib.Core.Path.{_≡_};
 ghost use Prim.Native.Nat.{_*_, _+_, _≤_};
 ghost use lib.ListN.{length};
 ghost use Rattle.desk_rules.specs.Lanes.{receiptBy, lineAt};
-ghost use Rattle.desk_rules.specs.Course.{completedBy, settledAs, amountBy, answered, heard, noMove, openedBy};
-ghost use Rattle.desk.specs.Hear.{saidBy, waitingMoved, runningMoved, abortedIn, reportedAs, movedAs, ReadIn, replied};
+ghost use Rattle.desk_rules.specs.Course.{completedBy, settledAs, amountBy, abortedBy, answered, heard, noMove, openedBy};
+ghost use Rattle.desk.specs.Hear.{saidBy, waitingMoved, runningMoved, reportedAs, movedFor, replied};
 
 // What a message says to a running lane.
 pub(crate) enum Said {
@@ -130,16 +130,13 @@ pub(crate) fn completed(l: Lane) -> Moved
 }
 
 // 06 1E: the first body byte is the code.
-pub(crate) fn aborted(s: &[u8], m: Outline) -> Moved
-    requires { ⌜ ReadIn m (now s) ⌝ }
-    ensures { λ r. ⌜ r ≡ abortedIn m (now (s .entry)) ⌝ }
+pub(crate) fn aborted(first: ToldCode) -> Moved
+    ensures { λ r. ⌜ r ≡ abortedBy first ⌝ }
 {
-    if m.length == 0 {
-        return refused(1);
+    match first {
+        ToldCode::Missing => refused(1),
+        ToldCode::Code(code) => Moved::Ends(Outcome::Declined, 0, code),
     }
-    let at = m.start;
-    let code = s[at];
-    Moved::Ends(Outcome::Declined, 0, code)
 }
 
 // 04 0F: with a code it replaces the remembered status.
@@ -153,17 +150,17 @@ pub(crate) fn reported(l: Lane, status: Status) -> Moved
     }
 }
 
-// A message of the course, read, on a running lane.
-pub(crate) fn moved_by(l: Lane, s: &[u8], m: Outline) -> Moved
-    requires { ⌜ ReadIn m (now s) ⌝ }
-    ensures { λ r. ⌜ r ≡ movedAs l m (now (s .entry)) ⌝ }
+// What a message that was read does to a running lane, by what its pair says.
+pub(crate) fn moved_by(l: Lane, said: Said, t: ToldBody) -> Moved
+    ensures { λ r. ⌜ r ≡ movedFor said l t ⌝ }
 {
-    match said_by(m.class, m.instruction) {
+    let first = t.first;
+    match said {
         Said::Completion => completed(l),
-        Said::Abort => aborted(s, m),
-        Said::Report => reported(l, zvt::read_status(s)),
+        Said::Abort => aborted(first),
+        Said::Report => reported(l, t.status),
         Said::Passing => Moved::Stays,
-        Said::NotAllowed => Moved::Stays,
+        Said::NotAllowed => refused(15),
     }
 }
 
@@ -187,7 +184,7 @@ pub(crate) fn said_by(class: u8, instruction: u8) -> Said
     }
 }
 
-pub(crate) fn heard_waiting(l: Lane, h: Header) -> Moved
+pub(crate) fn heard_waiting(l: Lane, h: Heard) -> Moved
     ensures { λ r. ⌜ r ≡ waitingMoved l h ⌝ }
 {
     if h.length != 0 {
@@ -205,15 +202,17 @@ pub(crate) fn heard_waiting(l: Lane, h: Header) -> Moved
     Moved::Becomes(l.running())
 }
 
-pub(crate) fn heard_running(l: Lane, s: &[u8], h: Header) -> Moved
-    ensures { λ r. ⌜ r ≡ runningMoved l h (now (s .entry)) ⌝ }
+pub(crate) fn heard_running(l: Lane, h: Heard) -> Moved
+    ensures { λ r. ⌜ r ≡ runningMoved l h ⌝ }
 {
-    if let Said::NotAllowed = said_by(h.class, h.instruction) {
+    let said = said_by(h.class, h.instruction);
+    if let Said::NotAllowed = said {
         return refused(15);
     }
-    match zvt::read(s) {
-        ReadAnswer::Refused(r) => Moved::Refused(r),
-        ReadAnswer::Accepted(m) => moved_by(l, s, m),
+    let told = h.told;
+    match told {
+        ToldAnswer::Refused(r) => Moved::Refused(r),
+        ToldAnswer::Told(t) => moved_by(l, said, t),
     }
 }
 
@@ -225,10 +224,10 @@ pub(crate) fn heard(l: Lane, s: &[u8]) -> Moved
     if phase.is_idle() {
         return refused(14);
     }
-    match zvt::read_header(s) {
-        HeaderAnswer::Refused(r) => Moved::Refused(r),
-        HeaderAnswer::Header(h) => match phase {
-            Phase::Running => heard_running(l, s, h),
+    match zvt::hear(s) {
+        HearAnswer::Refused(r) => Moved::Refused(r),
+        HearAnswer::Heard(h) => match phase {
+            Phase::Running => heard_running(l, h),
             _ => heard_waiting(l, h),
         },
     }

@@ -8,13 +8,14 @@ use lib.ListN.{getD}
 use lib.Dec.{eqb}
 use Rattle.zvt_rules.specs.Reading.{Reading, got, refused, among}
 use Rattle.zvt_rules.specs.believed.Grammar.{Bytes}
-use Rattle.zvt_rules.specs.Message.{Heading, Body, bytes, listed, Message, readOf}
-use Rattle.zvt_rules.specs.Values.{Found, missing, found, valueIn, amountOf, amountIn, statusIn, bodyFields}
+use Rattle.zvt_rules.specs.Message.{Heading, Message, readOf}
+use Rattle.zvt_rules.specs.Values.{Found, missing, found, valueIn, amountOf, amountIn, statusIn, bodyFields, statusFields}
 use Rattle.zvt_rules.specs.declared.Status.{Status}
 use Rattle.zvt_rules.specs.declared.ToldCode.{ToldCode}
 use Rattle.zvt_rules.specs.declared.ToldCode.the-variants.{Missing as no-code, Code}
 use Rattle.zvt_rules.specs.declared.ToldAmount.{ToldAmount}
 use Rattle.zvt_rules.specs.declared.ToldAmount.the-variants.{Missing as no-amount, Amount}
+use Rattle.zvt_rules.specs.Heard.{firstOf, toldIn}
 use Rattle.zvt_rules.proofs.Told.{Twelve, told-twelve}
 use Rattle.zvt_rules.proofs.Tests.{pick-test, between}
 use Rattle.desk_rules.specs.declared.Lane.{Lane}
@@ -57,11 +58,10 @@ unfolding amountBy toldSmall
 amount-fits no-amount asked h k = h
 amount-fits (Amount a) asked h k = k
 
-aborted-fits : (b : Body) → Fits (abortedBy b)
+aborted-fits : (t : ToldCode) → Fits (abortedBy t)
 unfolding abortedBy
-aborted-fits (bytes []) = tt
-aborted-fits (bytes (b ∷ s)) = omega arith
-aborted-fits (listed password fs) = tt
+aborted-fits no-code = tt
+aborted-fits (Code b) = omega arith
 
 module _ (l : Lane) (h : LaneFits l) where
   completed-fits : (t : ToldCode) → Fits (completedBy l t)
@@ -80,13 +80,13 @@ module _ (l : Lane) (h : LaneFits l) where
 
   module _ (s : List ℕ) (b : Bytes s) where
     read-fits : (r : Reading Message) → readOf s ≡ r → Fits (afterBody l r)
-    unfolding afterBody movedBy statusIn amountIn
+    unfolding afterBody movedBy toldIn statusFields statusIn amountIn
     read-fits (refused f) e = tt
     read-fits (got m) e =
         pick-test Fits (pairIs (m .class) (m .instruction) 0x06 0x0F) (λ _. completed-fits (l .status .code))
-        (λ _. pick-test Fits (pairIs (m .class) (m .instruction) 0x06 0x1E) (λ _. aborted-fits (m .body))
+        (λ _. pick-test Fits (pairIs (m .class) (m .instruction) 0x06 0x1E) (λ _. aborted-fits (firstOf (m .body)))
         (λ _. pick-test Fits (pairIs (m .class) (m .instruction) 0x04 0x0F)
-        (λ _. reported-fits (statusIn (bodyFields (m .body))) _ (told-fits (valueIn 0x04 (bodyFields (m .body))) (told-twelve s m b e)))
+        (λ t. reported-fits (toldIn m .status) _ (rw t (told-fits (valueIn 0x04 (bodyFields (m .body))) (told-twelve s m b e))))
         (λ _. tt)))
 
     waiting-fits : (x : Heading) → Fits (heardWaiting l x)

@@ -14,10 +14,11 @@ use Rattle.zvt_rules.specs.declared.Refusal.{Refusal}
 use Rattle.zvt_rules.specs.Reading.{Reading, got, refused, pick, among}
 use Rattle.zvt_rules.specs.Fields.{Field}
 use Rattle.zvt_rules.specs.Message.{Heading, wholeHeader, Message, readOf, messageOf, bodyOf, layoutOf, start}
-use Rattle.zvt_rules.specs.Values.{Found, missing, found, valueIn, bodyFields, codeOf, codeIn, statusIn}
+use Rattle.zvt_rules.specs.Values.{Found, missing, found, valueIn, bodyFields, codeOf, codeIn, statusIn, statusFields}
 use Rattle.zvt_rules.specs.believed.Writing.{messageBytes}
 use Rattle.zvt_rules.specs.believed.Grammar.{Bytes}
 use Rattle.zvt_rules.specs.believed.Values.{In}
+use Rattle.zvt_rules.specs.Heard.{toldIn}
 use Rattle.zvt_rules.proofs.Lists.{in-none, in-first}
 use Rattle.zvt_rules.proofs.Readings.{got-same, then-got, then-on}
 use Rattle.zvt_rules.proofs.Tests.{true-false, pick-test, case, eqb-test}
@@ -89,7 +90,7 @@ writes-exactly s (lost i) room w a = (λ e. rw e cut, from-cut)
 -- ---- what a message makes of its lane
 
 -- the header's pair is the message's
-same-pair : (b : List ℕ) (h : Heading) (m : Message) → wholeHeader b ≡ got h → readOf b ≡ got m
+pub same-pair : (b : List ℕ) (h : Heading) (m : Message) → wholeHeader b ≡ got h → readOf b ≡ got m
     → (m .class ≡ h .class) × (m .instruction ≡ h .instruction)
 unfolding readOf messageOf
 same-pair b h m w r =
@@ -181,15 +182,15 @@ module _ (s : State) (i : ℕ) (b : List ℕ) where
           (one-of (λ e. absurd (other 0x06 0x0F (omega arith) (sym e) f1)) in-none)))))
 
   by-moved : (m : Message) → Bytes b → readOf b ≡ got m → In (m .class * 256 + m .instruction) whileRunning
-      → laneAt (s .lanes) i .phase ≡ Running → Fits s (message i b) i (movedBy (laneAt (s .lanes) i) m)
-  unfolding movedBy
+      → laneAt (s .lanes) i .phase ≡ Running → Fits s (message i b) i (movedBy (laneAt (s .lanes) i) (m .class) (m .instruction) (toldIn m))
+  unfolding movedBy toldIn statusFields
   by-moved m n r o on =
       pick-test (Fits s (message i b) i) (pairIs (m .class) (m .instruction) 0x06 0x0F)
       (λ e. let p = both (m .class) (m .instruction) 0x06 0x0F e in ends _ _ _ (λ _. ended (by-060F (reads b m 0x06 0x0F r (p .0) (p .1)))) _ (completed-closes _ _))
       (λ f1. pick-test (Fits s (message i b) i) (pairIs (m .class) (m .instruction) 0x06 0x1E)
       (λ e. let p = both (m .class) (m .instruction) 0x06 0x1E e in ends _ _ _ (λ _. ended (by-061E (reads b m 0x06 0x1E r (p .0) (p .1)))) _ (aborted-closes _))
       (λ f2. pick-test (Fits s (message i b) i) (pairIs (m .class) (m .instruction) 0x04 0x0F)
-      (λ e. let p = both (m .class) (m .instruction) 0x04 0x0F e in by-report m (reads b m 0x04 0x0F r (p .0) (p .1)) on)
+      (λ e. let p = both (m .class) (m .instruction) 0x04 0x0F e in rw e (by-report m (reads b m 0x04 0x0F r (p .0) (p .1)) on))
       (λ f3. stays _ _ _ (by-pair m n r o f1 f2 f3))))
 
   by-running : Bytes b → (h : Heading) → wholeHeader b ≡ got h → laneAt (s .lanes) i .phase ≡ Running

@@ -18,6 +18,7 @@ use Rattle.zvt_rules.specs.declared.Status.{Status}
 use Rattle.zvt_rules.specs.declared.ToldCode.the-variants.{Missing as no-code, Code}
 use Rattle.zvt_rules.specs.declared.ToldAmount.the-variants.{Missing as no-amount, Amount}
 use Rattle.zvt_rules.specs.declared.ToldReceipt.the-variants.{Missing as no-receipt, Receipt}
+use Rattle.zvt_rules.specs.Heard.{firstOf}
 use Rattle.zvt_rules.proofs.Tests.{pick-test, case, eqb-test, either}
 use Rattle.desk_rules.specs.declared.Kind.{Kind}
 use Rattle.desk_rules.specs.declared.Kind.the-variants.{Sale, Refund, Reversal}
@@ -241,7 +242,7 @@ module _ (i : ℕ) (l : Lane) (fs : List Field) (same : l .status ≡ statusIn f
   completed h = rw (h .whole, same)
 
   verdict-is : {c : Call} {o : Outcome} {s code : ℕ} → Ended i (l .kind) (l .asked) fs c o s code → verdict l c ≡ Ends o s code
-  unfolding verdict verdictOf abortedBy completedBy settledAs statusIn codeIn codeOf
+  unfolding verdict verdictOf firstOf abortedBy completedBy settledAs statusIn codeIn codeOf
   verdict-is (not-taken h) = rw (h .whole)
   verdict-is (aborted h) = rw (h .whole)
   verdict-is cut = refl
@@ -275,8 +276,8 @@ module _ (i : ℕ) (l : Lane) (fs : List Field) (same : l .status ≡ statusIn f
           (λ f. (Unclear, 0, getD v 0 0, other-code h (v, e, refl) f))
 
   module _ (outcome : Outcome) (settled code : ℕ) where
-    aborting : (s : List ℕ) (body : Body) → Reads s 0x06 0x1E body → abortedBy body ≡ Ends outcome settled code → Some (message i s)
-    unfolding Some abortedBy
+    aborting : (s : List ℕ) (body : Body) → Reads s 0x06 0x1E body → abortedBy (firstOf body) ≡ Ends outcome settled code → Some (message i s)
+    unfolding Some firstOf abortedBy
     aborting s (bytes []) h e = absurd (let q : _≡_ {A = ℕ} 0 1 = cc in omega arith)
     aborting s (bytes (b ∷ rest)) h e = (Declined, 0, b, aborted h)
     aborting s (listed password fields) h e = absurd (let q : _≡_ {A = ℕ} 0 1 = cc in omega arith)

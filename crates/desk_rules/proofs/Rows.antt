@@ -16,6 +16,7 @@ use Rattle.zvt_rules.specs.Reading.{Reading, got, refused, pick, among}
 use Rattle.zvt_rules.specs.Message.{Heading, wholeHeader, Body, bytes, listed, Message, layoutOf, bodyOf, messageOf, readOf}
 use Rattle.zvt_rules.proofs.Readings.{got-same, got-not-refused, then-got}
 use Rattle.zvt_rules.specs.believed.Values.{In}
+use Rattle.zvt_rules.specs.Heard.{firstOf, toldIn}
 use Rattle.zvt_rules.proofs.Lists.{in-none, in-first, among-exactly}
 use Rattle.zvt_rules.proofs.Tests.{by-test, true-false, pick-test, pick-same, pick-under, leb-test, eqb-test, and-test, or-test, between, no-for}
 use Rattle.desk_rules.specs.declared.Kind.{Kind}
@@ -262,14 +263,14 @@ pair-test class instruction c i = and-test (eqb-test class c) (eqb-test instruct
 abort-test : (m : Message) → (emptyAbort m ≡ true) ↔ (((m .class ≡ 0x06) × (m .instruction ≡ 0x1E)) × (m .body ≡ bytes []))
 abort-test m = and-test (pair-test (m .class) (m .instruction) 0x06 0x1E) (empty-test (m .body))
 
-aborted-says : (x : Decision) (y : Body) (t : List ℕ) → y ≡ bytes t → unlessRefused (abortedBy y) x ≡ pick (isEmpty y) (refuse 1) x
-unfolding unlessRefused abortedBy isEmpty
+aborted-says : (x : Decision) (y : Body) (t : List ℕ) → y ≡ bytes t → unlessRefused (abortedBy (firstOf y)) x ≡ pick (isEmpty y) (refuse 1) x
+unfolding unlessRefused abortedBy firstOf isEmpty
 aborted-says x y [] e = rw e
 aborted-says x y (b ∷ t) e = rw e
 
 moved-says : (b : List ℕ) (l : Lane) (m : Message) (x : Decision) → readOf b ≡ got m
-    → unlessRefused (movedBy l m) x ≡ pick (emptyAbort m) (refuse 1) x
-unfolding unlessRefused movedBy Goes
+    → unlessRefused (movedBy l (m .class) (m .instruction) (toldIn m)) x ≡ pick (emptyAbort m) (refuse 1) x
+unfolding unlessRefused movedBy Goes toldIn
 moved-says b l m x e =
     let P : Moved → Type 0 = λ y. unlessRefused y x ≡ pick (emptyAbort m) (refuse 1) x in
     let class = m .class in

@@ -4,10 +4,11 @@ use mathlib.Core.Bool.{Bool, true, false, not, _&&_}
 use mathlib.Core.List.{List, [], _∷_}
 use lib.Dec.{eqb}
 use Rattle.zvt_rules.specs.Reading.{Reading, got, refused, pick, among}
-use Rattle.zvt_rules.specs.Message.{Heading, wholeHeader, Body, bytes, listed, Message, readOf}
-use Rattle.zvt_rules.specs.Values.{statusIn, bodyFields}
+use Rattle.zvt_rules.specs.Message.{Heading, wholeHeader, Message, readOf}
+use Rattle.zvt_rules.specs.Heard.{toldIn}
 use Rattle.zvt_rules.specs.believed.Grammar.{Bytes}
 use Rattle.zvt_rules.specs.declared.Status.{Status}
+use Rattle.zvt_rules.specs.declared.ToldBody.{ToldBody}
 use Rattle.zvt_rules.specs.declared.ToldCode.{ToldCode}
 use Rattle.zvt_rules.specs.declared.ToldCode.the-variants.{Missing as no-code, Code}
 use Rattle.zvt_rules.specs.declared.ToldAmount.{ToldAmount}
@@ -60,11 +61,10 @@ completedBy l (Code c) =
     pick (eqb c 0) (settledAs (l .kind) (l .asked) (amountBy (l .status .amount) (l .asked))) (Ends Unclear 0 c)
 
 -- P21: "06 1E ends the payment, declined. The first byte of its body is the code, the others are not read; an empty body is refused
--- (1)." Its body is plain (M7): the last row is never met
-unfoldable pub abortedBy : Body → Moved
-abortedBy (bytes []) = noMove 1
-abortedBy (bytes (b ∷ s)) = Ends Declined 0 b
-abortedBy (listed password fs) = noMove 1
+-- (1)."
+unfoldable pub abortedBy : ToldCode → Moved
+abortedBy no-code = noMove 1
+abortedBy (Code b) = Ends Declined 0 b
 
 -- P20: "04 0F with field 27 becomes the remembered status, all of it .. Without field 27 it changes nothing."
 unfoldable pub reportedBy : Lane → Status → ToldCode → Moved
@@ -72,17 +72,15 @@ reportedBy l status no-code = Stays
 reportedBy l status (Code c) = Becomes (reportedLane l status)
 
 -- P22: "06 0F ends the payment." P19: what is left of the pairs that a running lane takes changes nothing
-unfoldable pub movedBy : Lane → Message → Moved
-movedBy l m =
-    pick (pairIs (m .class) (m .instruction) 0x06 0x0F) (completedBy l (l .status .code))
-    (pick (pairIs (m .class) (m .instruction) 0x06 0x1E) (abortedBy (m .body))
-    (pick (pairIs (m .class) (m .instruction) 0x04 0x0F)
-    (let status = statusIn (bodyFields (m .body)) in reportedBy l status (status .code))
-    Stays))
+unfoldable pub movedBy : Lane → ℕ → ℕ → ToldBody → Moved
+movedBy l class instruction t =
+    pick (pairIs class instruction 0x06 0x0F) (completedBy l (l .status .code))
+    (pick (pairIs class instruction 0x06 0x1E) (abortedBy (t .first))
+    (pick (pairIs class instruction 0x04 0x0F) (reportedBy l (t .status) (t .status .code)) Stays))
 
 unfoldable pub afterBody : Lane → Reading Message → Moved
 afterBody l (refused f) = noMove (f .number)
-afterBody l (got m) = movedBy l m
+afterBody l (got m) = movedBy l (m .class) (m .instruction) (toldIn m)
 
 -- P19 to P22: the six pairs that a running lane takes; any other is R15, before the body is read
 abbrev pub runningPairs : List ℕ

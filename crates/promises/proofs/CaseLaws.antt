@@ -11,7 +11,8 @@ use Rattle.zvt_rules.specs.believed.Writing.{digitBytes}
 use Rattle.zvt_rules.specs.Shortest.{formFor, isShortest, shortObj, shortRun, shortField, shortList, shortBody, shortMessage}
 use Rattle.zvt_rules.specs.Shortest.{isShortObj, isShortRun, isShortField, isShortList, isShortBody, isShort, write, shorten}
 use Rattle.zvt_rules.specs.Digits.{digitBytesOf, decimalFrom, numberOf}
-use Rattle.zvt_rules.specs.Values.{valueIn, codeOf, amountOf, receiptOf, codeIn, amountIn, receiptIn, statusIn, bodyFields}
+use Rattle.zvt_rules.specs.Values.{valueIn, codeOf, amountOf, receiptOf, codeIn, amountIn, receiptIn, statusIn, statusFields, bodyFields}
+use Rattle.zvt_rules.specs.Heard.{firstOf, toldIn}
 use Rattle.zvt_rules.specs.Answers.{refusalOf, outlineOf, asReadAnswer, readAnswer, shortened, asShortenAnswer, shortenAnswer, shortenLeaves}
 use Rattle.zvt_rules.specs.Buffers.{writtenLeaves}
 use Rattle.zvt_rules.specs.Listed.{listedAt, listedFrom, listedBody, listedMessage, namedListed}
@@ -40,7 +41,7 @@ unfolding unless andThen among secondTag tagSize formSize oneByteLen twoByteLen 
     bodyFields refusalOf outlineOf asReadAnswer readAnswer shortened asShortenAnswer shortenAnswer writtenLeaves shortenLeaves
     listedAt listedFrom listedBody listedMessage namedListed upToZero sizedName nameIn nameOf nameAt nameBytes cardName
     receiptBy lineAt commandOf commandBytes
-    heardWaiting amountBy settledAs completedBy abortedBy reportedBy movedBy afterBody heardRunning heardBy afterHeader heard
+    firstOf toldIn statusFields heardWaiting amountBy settledAs completedBy abortedBy reportedBy movedBy afterBody heardRunning heardBy afterHeader heard
     concerns lastFrom lastLine openedBy laneOf needsPlace moves answered writes
     placeTaken placesTaken load unlessRefused decide view endedDesk movedDesk refusedAnswer answerBy answerOf leavesBy leavesOf
     total netOf

@@ -1,7 +1,6 @@
 -- What is hidden on the tape: the reader says the same of a masked message, no record of an accepted call holds a secret, and days
 -- that differ in secrets alone leave the same. Assumes nothing.
 use mathlib.Core.Path.{_≡_, refl, sym, ap, ap₂, _∙_}
-use mathlib.Core.Bool.{Bool, true, false}
 use mathlib.Core.Logic.{inl, inr}
 use mathlib.Core.List.{List, [], _∷_, _++_}
 use Prim.Native.Nat.{ℕ, _+_}
@@ -39,7 +38,7 @@ use Rattle.tape_rules.specs.believed.Masking.{RecordedAs}
 use Rattle.tape_rules.proofs.Masks.{mask-same, mask-reads, masked-got, masked-refused, masked-twice, withoutPassword, opening-masked}
 use Rattle.tape_rules.proofs.Places.{recorded-own, recorded-exactly}
 use Rattle.tape_rules.proofs.RecordLaws.{command-own}
-use Rattle.tape_rules.proofs.Unseen.{mask-heard, heard-reads}
+use Rattle.tape_rules.proofs.Unseen.{mask-heard, heard-reads, same-status}
 use Rattle.promises.specs.Days.{OfBytes}
 use Rattle.promises.specs.TapeDays.{Hiding, AlikeOpening, refunds, reversals, AlikeCall, unchanged, openings, messages, AlikeDays}
 use Rattle.promises.proofs.DemandTwo.{reply-reads-back}
@@ -97,10 +96,6 @@ module _ (s : List ℕ) (b : Bytes s) where
   masked-status =
       of-masked (λ r. statusIn (statusFields r))
       (λ m. same-status (isStatus m) (bodyFields (maskBody (m .body))) (bodyFields (m .body)) (mask-same m .status)) s b
-    where
-      same-status : (t : Bool) (fs gs : List Field) → statusIn fs ≡ statusIn gs → statusIn (pick t fs []) ≡ statusIn (pick t gs [])
-      same-status true fs gs e = e
-      same-status false fs gs e = refl
 
 -- ---- the records of accepted calls
 hiding-append : (rs ts : List Record) → Hiding rs → Hiding ts → Hiding (rs ++ ts)

@@ -2,8 +2,9 @@
 use mathlib.Core.Bool.{false}
 use Rattle.desk_rules.specs.Kinds.{isIdle}
 use mathlib.Core.Path.{_≡_, sym, _∙_}
-use Rattle.zvt_rules.specs.declared.HeaderAnswer.the-variants.{Header}
-use Rattle.zvt_rules.specs.Answers.{headerAnswer}
+use Rattle.zvt_rules.specs.declared.HearAnswer.the-variants.{Heard}
+use Rattle.zvt_rules.specs.Heard.{hearAnswer}
+use Rattle.zvt.proofs.Slices.{bytes-known}
 use Rattle.desk.proofs.HearLaws.{heard-idle, heard-refused, heard-running, heard-waiting}
 use borrow.Author.Needs.{needs}
 use Rattle.desk.proofs.hear.heard.Statement.{statement}
@@ -12,8 +13,8 @@ use Rattle.desk.proofs.hear.heard.Tie as tie
 open-lane : (c : tie.Else1) → isIdle (c .before .before .before .args .l .phase) ≡ false
 open-lane c = sym (c .before .is-idle .ensures) ∙ c .if1 .left
 
-header-got : (c : tie.After-h) → headerAnswer (c .before .before .before .before .before .before .args .s .now) ≡ Header (c .h .given .0 .0)
-header-got c = sym (c .before .before .read-header .ensures) ∙ c .h .given .1
+heard-got : (c : tie.After-h) → hearAnswer (c .before .before .before .before .before .before .args .s .now) ≡ Heard (c .h .given .0 .0)
+heard-got c = sym (c .before .before .hear .ensures) ∙ c .h .given .1
 
 returns : tie.Need-returns
 returns c = c .refused .ensures ∙ heard-idle _ _ (sym (c .before .before .is-idle .ensures) ∙ c .before .if1 .taken)
@@ -21,17 +22,17 @@ returns c = c .refused .ensures ∙ heard-idle _ _ (sym (c .before .before .is-i
 returns-2 : tie.Need-returns-2
 returns-2 c =
     let h = c .before .before .before in
-    sym (heard-refused _ _ (open-lane (h .before)) _ (sym (h .read-header .ensures) ∙ c .before .r .given .1))
+    sym (heard-refused _ _ (open-lane (h .before)) _ (sym (h .hear .ensures) ∙ c .before .r .given .1))
 
 returns-3 : tie.Need-returns-3
 returns-3 c =
     let h = c .before .before .before .before in
-    c .heard-running .ensures ∙ sym (heard-running _ _ (open-lane (h .before .before .before)) _ (header-got h) (c .before .enum-told .given .1))
+    c .heard-running .ensures ∙ sym (heard-running _ _ (open-lane (h .before .before .before)) (bytes-known _ (h .before .before .before .before .before .shared-slice-known .given)) _ (heard-got h) (c .before .enum-told .given .1))
 
 returns-4 : tie.Need-returns-4
 returns-4 c =
     let h = c .before .before .before in
-    c .heard-waiting .ensures ∙ sym (heard-waiting _ _ (open-lane (h .before .before .before)) _ (header-got h) (c .before .match2 .keys2))
+    c .heard-waiting .ensures ∙ sym (heard-waiting _ _ (open-lane (h .before .before .before)) _ (heard-got h) (c .before .match2 .keys2))
 
 pub heard-spec : {M : Type 1} → statement M
 heard-spec =
