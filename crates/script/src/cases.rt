@@ -11,10 +11,11 @@ use buffers::add_bytes;
 use buffers::upto;
 use check::same;
 use libc::STDOUT_FILENO;
+use script_text::orders::Script;
 use std::num::wrapping_add_u64;
 ghost use Prim.Native.Nat.{_<_, _≤_};
 ghost use lib.ListN.{length};
-ghost use Rattle.desk_rules.specs.Memory.{Valid};
+ghost use Rattle.tape_rules.specs.Recording.{ValidTaped};
 ghost use Rattle.io.specs.Counts.{Counts};
 
 // How many answers a file of cases has, and how many of them differ.
@@ -129,25 +130,39 @@ fn full_line(s: &[u8], count: usize, added: &[u8], full: &mut [u8]) -> usize
 }
 
 // The line s of a case that goes on.
-fn played(turn: Turn, s: &[u8], payload: &mut [u8], added: &mut [u8], out: &mut [u8]) -> Turn
-    requires { ⌜ Valid (turn .taped .desk) ⌝ }
-    ensures { λ r. ⌜ Valid (r .taped .desk) ⌝ }
+fn played(
+    turn: Turn,
+    s: &[u8],
+    file: &mut [u8],
+    room: &mut [u8],
+    added: &mut [u8],
+    out: &mut [u8],
+) -> Turn
+    requires { ⌜ ValidTaped (turn .taped) ⌝ }
+    ensures { λ r. ⌜ ValidTaped (r .taped) ⌝ }
 {
     let mut full = [0u8; LINE];
     let at = turn.at;
     let n = full_line(s, at.added, added, &mut full);
-    turns::line(turn, &full[..n], payload, added, out)
+    turns::line(turn, &full[..n], file, room, added, out)
 }
 
 // The next line of a file. One that is blank ends a case, and behind it stands a fresh desk.
-fn passed(turn: Turn, s: &[u8], payload: &mut [u8], added: &mut [u8], out: &mut [u8]) -> Turn
-    requires { ⌜ Valid (turn .taped .desk) ⌝ }
-    ensures { λ r. ⌜ Valid (r .taped .desk) ⌝ }
+fn passed(
+    turn: Turn,
+    s: &[u8],
+    file: &mut [u8],
+    room: &mut [u8],
+    added: &mut [u8],
+    out: &mut [u8],
+) -> Turn
+    requires { ⌜ ValidTaped (turn .taped) ⌝ }
+    ensures { λ r. ⌜ ValidTaped (r .taped) ⌝ }
 {
     if s.len() == 0 {
         return turns::fresh(true);
     }
-    played(turn, s, payload, added, out)
+    played(turn, s, file, room, added, out)
 }
 
 // An answer is compared with what the file has for it, counted, and told where it differs.
@@ -173,18 +188,29 @@ fn told(tally: Tally, name: &[u8], spot: Spot, text: &[u8], want: &[u8]) -> Tall
 
 // Plays the cases of the file s. What is answered otherwise than the file says goes to standard output, with the file's name and the line.
 pub fn check(name: &[u8], s: &[u8]) -> Tally {
-    let mut payload = [0u8; turns::PAYLOAD];
+    let mut file = [0u8; turns::FILE];
+    let mut room = [0u8; Script::ROOM];
     let mut added = [0u8; BYTES];
     let mut want = [0u8; TEXT];
     let mut text = [0u8; TEXT];
-    check_in(name, s, &mut payload, &mut added, &mut want, &mut text)
+    check_in(
+        name,
+        s,
+        &mut file,
+        &mut room,
+        &mut added,
+        &mut want,
+        &mut text,
+    )
 }
 
-// The same with buffers for the tape's payload, for the bytes added, and for the text of an answer as it should be and as it is.
+// The same with buffers for the tape's file, for what a call writes, for the bytes added, and for the text of an answer as it should be
+// and as it is.
 fn check_in(
     name: &[u8],
     s: &[u8],
-    payload: &mut [u8],
+    file: &mut [u8],
+    room: &mut [u8],
     added: &mut [u8],
     want: &mut [u8],
     text: &mut [u8],
@@ -200,7 +226,7 @@ fn check_in(
         let at = turn.at;
         let e = next_of(from, s, at.added, added, want);
         let end = e.end;
-        turn = passed(turn, &s[from..end], payload, added, text);
+        turn = passed(turn, &s[from..end], file, room, added, text);
         let spot = Spot {
             number,
             size: turn.size,

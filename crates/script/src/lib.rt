@@ -5,6 +5,7 @@ mod turns;
 
 use buffers::upto;
 use libc::STDOUT_FILENO;
+use script_text::orders::Script;
 ghost use mathlib.Core.Path.{_≡_};
 ghost use Prim.Native.Nat.{_+_, _≤_, min};
 ghost use lib.ListN.{length};
@@ -29,19 +30,20 @@ pub fn play(script: &[u8]) {
         io::write_all(STDOUT_FILENO, b"input too long\n");
         return;
     }
-    let mut payload = [0u8; turns::PAYLOAD];
+    let mut file = [0u8; turns::FILE];
+    let mut room = [0u8; Script::ROOM];
     let mut added = [0u8; 1];
     let mut text = [0u8; turns::TEXT];
-    play_in(script, &mut payload, &mut added, &mut text);
+    play_in(script, &mut file, &mut room, &mut added, &mut text);
 }
 
-// The same with buffers for the tape's payload, for added bytes and for the text of an answer.
-fn play_in(script: &[u8], payload: &mut [u8], added: &mut [u8], text: &mut [u8]) {
+// The same with buffers for the tape's file, for what a call writes, for added bytes and for the text of an answer.
+fn play_in(script: &[u8], file: &mut [u8], room: &mut [u8], added: &mut [u8], text: &mut [u8]) {
     let mut turn = turns::fresh(false);
     let mut from: usize = 0;
     while from < script.len() {
         let to = bytes::scan::find(script, from, script.len(), b'\n');
-        turn = turns::line(turn, &script[from..to], payload, added, text);
+        turn = turns::line(turn, &script[from..to], file, room, added, text);
         let end = upto(turn.size, text);
         io::write_all(STDOUT_FILENO, &text[..end]);
         from = behind(to, script);

@@ -6,6 +6,7 @@ use crate::plain::WORD;
 use crate::plain::cut;
 use buffers::add;
 use buffers::add_bytes;
+use buffers::fill;
 use buffers::upto;
 use desk_rules::Book;
 use desk_rules::Desk;
@@ -21,16 +22,16 @@ use script_text::orders::Script;
 use script_text::orders::What;
 use std::num::wrapping_add_u64;
 use tape_rules::Block;
+use tape_rules::Tail;
 use tape_rules::Taped;
 use tape_rules::TapedAnswer;
 ghost use Prim.Native.Nat.{_≤_};
 ghost use lib.ListN.{length};
 ghost use Rattle.desk_rules.specs.Memory.{Valid};
+ghost use Rattle.tape_rules.specs.Recording.{ValidTaped};
 
-// The day's payload, more than a script can fill; and its blocks, 261.
-pub(crate) const PAYLOAD: usize = 131072;
-
-const TAPE: usize = 133632;
+// The file of the day's tape has 261 blocks, more than a script can fill.
+pub(crate) const FILE: usize = 133632;
 
 // No line stands for more bytes: an input of the lister that is one byte too long.
 pub(crate) const BYTES: usize = listing::LIMIT + 1;
@@ -47,7 +48,7 @@ pub(crate) struct Turn {
 
 // A fresh desk, and a script that has not begun.
 pub(crate) fn fresh(further: bool) -> Turn
-    ensures { λ r. ⌜ Valid (r .taped .desk) ⌝ }
+    ensures { λ r. ⌜ ValidTaped (r .taped) ⌝ }
 {
     Turn {
         taped: Taped::fresh(),
@@ -105,34 +106,33 @@ fn add_blocks(blocks: &[u8], out: &mut [u8]) -> usize {
     answers::counted(b"end", (at / Block::SIZE) as u64, to, out)
 }
 
-// The tape so far: the blocks of what is used of the payload.
-fn tape_of(used: usize, payload: &[u8], out: &mut [u8]) -> usize {
-    let mut blocks = [0u8; TAPE];
-    let n = upto(used, payload);
-    tape_in(&mut blocks, &payload[..n], out)
+// Where the open block begins in the file.
+fn open_at(tail: Tail, file: &[u8]) -> usize
+    ensures { λ r. ⌜ r ≤ length (now (file .entry)) ⌝ }
+{
+    upto(tail.full as usize * Block::SIZE, file)
 }
 
-// The blocks of a payload, written into a buffer for them.
-fn tape_in(blocks: &mut [u8], payload: &[u8], out: &mut [u8]) -> usize {
-    match tape::write_tape(payload, blocks) {
-        Reply::Refused(r) => answers::refused(r.number, out),
-        Reply::Written(size) => {
-            let end = upto(size, blocks);
-            add_blocks(&blocks[..end], out)
-        }
+// The tape so far: the blocks of the file that are full, and the open one.
+fn tape_of(tail: Tail, file: &[u8], out: &mut [u8]) -> usize {
+    let at = open_at(tail, file);
+    if tail.used == 0 {
+        return add_blocks(&file[..at], out);
     }
+    let end = upto(at + Block::SIZE, file);
+    add_blocks(&file[..end], out)
 }
 
 // What is asked about the desk: the book, the lanes, the net turnover or the tape.
-fn question(taped: Taped, what: What, payload: &[u8], out: &mut [u8]) -> usize
-    requires { ⌜ Valid (taped .desk) ⌝ }
+fn question(taped: Taped, what: What, file: &[u8], out: &mut [u8]) -> usize
+    requires { ⌜ ValidTaped taped ⌝ }
 {
     let desk = taped.desk;
     match what {
         What::Book => book(desk, out),
         What::Lanes => lanes(desk, out),
         What::Net => answers::signed(desk::net(desk), out),
-        _ => tape_of(taped.used, payload, out),
+        _ => tape_of(taped.tail, file, out),
     }
 }
 
@@ -146,31 +146,33 @@ fn opening_of(o: Order) -> Opening {
     }
 }
 
-// The call itself, and its records. The lane is passed on as numbers of an opening are.
-fn made(taped: Taped, o: Order, s: &[u8], lent: &mut [u8], payload: &mut [u8]) -> TapedAnswer
-    requires { ⌜ Valid (taped .desk) ⌝ }
-    ensures { λ r. ⌜ Valid (r .taped .desk) ⌝ }
+// The call itself. What is lent to its blocks is the file from the open block on, so that each is written at its place. The lane is
+// passed on as numbers of an opening are.
+fn made(taped: Taped, o: Order, s: &[u8], lent: &mut [u8], file: &mut [u8]) -> TapedAnswer
+    requires { ⌜ ValidTaped taped ⌝ }
+    ensures { λ r. ⌜ ValidTaped (r .taped) ⌝ }
 {
     let what = o.what;
     let lane = cut(o.first, BYTE) as u8;
+    let at = open_at(taped.tail, file);
+    let room = &mut file[at..];
     match what {
-        What::Close => tape::close(taped),
-        What::Terminal => tape::terminal(taped, lane, s, lent, payload),
-        What::Lost => tape::link_lost(taped, lane, payload),
-        _ => tape::open(taped, lane, opening_of(o), lent, payload),
+        What::Terminal => tape::terminal(taped, lane, s, lent, room),
+        What::Lost => tape::link_lost(taped, lane, room),
+        _ => tape::open(taped, lane, opening_of(o), lent, room),
     }
 }
 
 // The call and its answer, with so much of the room lent as the script says.
-fn call(turn: Turn, o: Order, s: &[u8], payload: &mut [u8], out: &mut [u8]) -> Turn
-    requires { ⌜ Valid (turn .taped .desk) ⌝ }
-    ensures { λ r. ⌜ Valid (r .taped .desk) ⌝ }
+fn call(turn: Turn, o: Order, s: &[u8], file: &mut [u8], room: &mut [u8], out: &mut [u8]) -> Turn
+    requires { ⌜ ValidTaped (turn .taped) ⌝ }
+    ensures { λ r. ⌜ ValidTaped (r .taped) ⌝ }
 {
-    let mut lent = [answers::BLANK; Script::ROOM];
     let at = turn.at;
-    let n = upto(at.room, &lent);
-    let part = &mut lent[..n];
-    let a = made(turn.taped, o, s, part, payload);
+    let n = upto(at.room, room);
+    let part = &mut room[..n];
+    fill(part, answers::BLANK);
+    let a = made(turn.taped, o, s, part, file);
     let r = a.reply;
     let taped = a.taped;
     Turn {
@@ -180,20 +182,36 @@ fn call(turn: Turn, o: Order, s: &[u8], payload: &mut [u8], out: &mut [u8]) -> T
     }
 }
 
+// Closing writes nothing.
+fn closed(turn: Turn, out: &mut [u8]) -> Turn
+    requires { ⌜ ValidTaped (turn .taped) ⌝ }
+    ensures { λ r. ⌜ ValidTaped (r .taped) ⌝ }
+{
+    let at = turn.at;
+    let a = tape::close(turn.taped);
+    let r = a.reply;
+    let taped = a.taped;
+    Turn {
+        taped,
+        at,
+        size: answers::reply(r, b"", out),
+    }
+}
+
 // A question about the desk, which leaves all as it is.
-fn asked(turn: Turn, what: What, payload: &[u8], out: &mut [u8]) -> Turn
-    requires { ⌜ Valid (turn .taped .desk) ⌝ }
-    ensures { λ r. ⌜ Valid (r .taped .desk) ⌝ }
+fn asked(turn: Turn, what: What, file: &[u8], out: &mut [u8]) -> Turn
+    requires { ⌜ ValidTaped (turn .taped) ⌝ }
+    ensures { λ r. ⌜ ValidTaped (r .taped) ⌝ }
 {
     let mut after = turn;
-    after.size = question(turn.taped, what, payload, out);
+    after.size = question(turn.taped, what, file, out);
     after
 }
 
 // A line that leaves the desk alone.
 fn aside(turn: Turn, o: Order, bytes: &mut [u8], added: &mut [u8], out: &mut [u8]) -> Turn
-    requires { ⌜ Valid (turn .taped .desk) × (o .size ≤ o .end) × (o .end ≤ length (now bytes)) ⌝ }
-    ensures { λ r. ⌜ Valid (r .taped .desk) ⌝ }
+    requires { ⌜ ValidTaped (turn .taped) × (o .size ≤ o .end) × (o .end ≤ length (now bytes)) ⌝ }
+    ensures { λ r. ⌜ ValidTaped (r .taped) ⌝ }
 {
     let said = plain::answered(turn.at, o, bytes, added, out);
     let taped = turn.taped;
@@ -210,19 +228,22 @@ fn done(
     turn: Turn,
     o: Order,
     bytes: &mut [u8],
-    payload: &mut [u8],
+    file: &mut [u8],
+    room: &mut [u8],
     added: &mut [u8],
     out: &mut [u8],
 ) -> Turn
-    requires { ⌜ Valid (turn .taped .desk) × (o .size ≤ o .end) × (o .end ≤ length (now bytes)) ⌝ }
-    ensures { λ r. ⌜ Valid (r .taped .desk) ⌝ }
+    requires { ⌜ ValidTaped (turn .taped) × (o .size ≤ o .end) × (o .end ≤ length (now bytes)) ⌝ }
+    ensures { λ r. ⌜ ValidTaped (r .taped) ⌝ }
 {
     let what = o.what;
     let size = o.size;
     match what {
-        What::Close | What::Sale | What::Refund | What::Reversal | What::Terminal | What::Lost =>
-            call(turn, o, &bytes[..size], payload, out),
-        What::Book | What::Lanes | What::Net | What::Tape => asked(turn, what, payload, out),
+        What::Sale | What::Refund | What::Reversal | What::Terminal | What::Lost => {
+            call(turn, o, &bytes[..size], file, room, out)
+        }
+        What::Close => closed(turn, out),
+        What::Book | What::Lanes | What::Net | What::Tape => asked(turn, what, file, out),
         _ => aside(turn, o, bytes, added, out),
     }
 }
@@ -231,17 +252,18 @@ fn done(
 pub(crate) fn line(
     turn: Turn,
     s: &[u8],
-    payload: &mut [u8],
+    file: &mut [u8],
+    room: &mut [u8],
     added: &mut [u8],
     out: &mut [u8],
 ) -> Turn
-    requires { ⌜ Valid (turn .taped .desk) ⌝ }
-    ensures { λ r. ⌜ Valid (r .taped .desk) ⌝ }
+    requires { ⌜ ValidTaped (turn .taped) ⌝ }
+    ensures { λ r. ⌜ ValidTaped (r .taped) ⌝ }
 {
     let mut bytes = [0u8; BYTES];
     let number = wrapping_add_u64(turn.at.number, 1);
     let mut begun = turn;
     begun.at.number = number;
     let o = orders::order_of(begun.at, s, &mut bytes);
-    done(begun, o, &mut bytes, payload, added, out)
+    done(begun, o, &mut bytes, file, room, added, out)
 }
