@@ -19,4 +19,5 @@ pub mod ListedLaws
 pub mod PlaceLaws
 pub mod ValueLaws
 pub mod NameLaws
+pub mod WalkLaws
 pub mod ToldLaws

@@ -1,35 +1,32 @@
 -- The field of a list that has a given id: where it is found, and what it holds. Assumes nothing.
-use mathlib.Core.Path.{_≡_, refl, sym, ap, _∙_}
+use mathlib.Core.Path.{_≡_, refl, sym, _∙_}
 use mathlib.Core.Bool.{Bool, true, false}
 use mathlib.Core.Logic.{⊎-elim}
 use mathlib.Core.List.{List, [], _∷_}
-use Prim.Native.Nat.{ℕ, zero, suc, _+_, _-_, _^_, _<_, _≤_}
+use Prim.Native.Nat.{ℕ, zero, suc, _+_, _-_, _<_, _≤_}
 use native.Mathlib.Nat.{eq-or-lt-of-le}
 use native.Mathlib.Omega.{arith}
 use lib.ListN.{length, getD}
 use lib.Dec.{eqb}
-use borrow.Author.Tests.{eqb-true}
+use borrow.Author.Tests.{eqb-true, eq-eqb, ne-eqb}
 use Rattle.zvt_rules.specs.declared.Format.the-variants.{Fixed, Container}
 use Rattle.zvt_rules.specs.Reading.{pick, part, among}
-use Rattle.zvt_rules.specs.Digits.{numberOf}
 use Rattle.zvt_rules.specs.Fields.{formatOf, holdsDigits, Field, plain, container, fieldId}
 use Rattle.zvt_rules.specs.believed.Grammar.{Bytes, Decimals, SizeOk, FieldOk, ListOk}
-use Rattle.zvt_rules.proofs.Tests.{pick-test}
+use Rattle.zvt_rules.proofs.Tests.{pick-true, pick-false, pick-test}
 use Rattle.zvt_rules.proofs.ObjectReading.{part-length}
 use Rattle.zvt_rules.proofs.ObjectBytes.{bytes-part}
 use Rattle.zvt_rules.proofs.FieldBytes.{list-sound}
-use Rattle.zvt_rules.proofs.DigitLaws.{number-fits}
-use Rattle.zvt.specs.declared.values.NumberFound.{NumberFound}
-use Rattle.zvt.specs.declared.values.NumberFound.the-variants.{Missing as no-number, Number}
-use Rattle.zvt.specs.NumberSteps.{numberFound}
 use Rattle.zvt_rules.specs.declared.Listed.{Listed}
+use Rattle.zvt_rules.specs.declared.Span.{Span}
 use Rattle.zvt_rules.specs.declared.FieldAnswer.{FieldAnswer}
 use Rattle.zvt_rules.specs.declared.FieldAnswer.the-variants.{Field as listed-field, End}
-use Rattle.zvt_rules.specs.Listed.{namedListed}
+use Rattle.zvt_rules.specs.Listed.{namedListed, spanOf}
 use Rattle.zvt.specs.ListSteps.{listFields, fieldsBetween, listedIn, ListIn}
 use Rattle.zvt_rules.specs.Values.{Found, missing, found, valueIn}
 use Rattle.zvt_rules.specs.believed.Writing.{fieldValue}
 use Rattle.zvt.specs.WritingSteps.{ListReads}
+use Rattle.zvt.specs.ValueSteps.{Sized, valueAt}
 use Rattle.zvt.proofs.ListedLaws.{no-fields, list-empty, first-in}
 
 -- ---- what is found by places is what is found by fields
@@ -71,7 +68,7 @@ holds id seen (f ∷ fs) v n ok e =
     (λ t q. let same : fieldValue f ≡ v = cc in rw (← same) (one-holds f id n (ok .0) (eqb-true (fieldId f) id t)))
     (λ t q. holds id (fieldId f ∷ seen) fs v n (ok .2) q) e
 
-between-ok : (a e : ℕ) (s : List ℕ) → Bytes s → ListIn a e s → ListOk [] (fieldsBetween a e s)
+pub between-ok : (a e : ℕ) (s : List ℕ) → Bytes s → ListIn a e s → ListOk [] (fieldsBetween a e s)
 unfolding fieldsBetween listFields ListReads
 between-ok a e s b l = let r = l .reads in rw (r .1) (list-sound [] 0 0 (part a e s) (r .0) (bytes-part a e s b) (r .1) .1)
 
@@ -84,39 +81,11 @@ pub fixed-size : (id k v : ℕ) → formatOf id ≡ Fixed k → SizeOk (formatOf
 unfolding SizeOk
 fixed-size id k v f h = rw f at h
 
--- ---- what a number that is found says of the value
-number-none : (x : Found) → numberFound x ≡ no-number → x ≡ missing
-unfolding numberFound
-number-none missing e = refl
-number-none (found v) e = absurd (let z : _≡_ {A = ℕ} 0 1 = cc in omega arith)
-
-pub number-some : (x : Found) (n : ℕ) → numberFound x ≡ Number n → (v : List ℕ) × (x ≡ found v) × (n ≡ numberOf v)
-unfolding numberFound
-number-some missing n e = absurd (let z : _≡_ {A = ℕ} 0 1 = cc in omega arith)
-number-some (found v) n e = (v, refl, cc)
-
--- what is told of a number that was looked for, f, where there is none and where there is one
-pub told-none : {X : Type 0} (f : Found → X) (x : Found) {r : NumberFound} → r ≡ numberFound x → r ≡ no-number → f missing ≡ f x
-told-none f x e h = sym (ap f (number-none x (sym e ∙ h)))
-
-pub told-some : {X : Type 0} (f : Found → X) (of : ℕ → X) → ((v : List ℕ) → f (found v) ≡ of (numberOf v)) → (x : Found) (n : ℕ)
-    {r : NumberFound} → r ≡ numberFound x → r ≡ Number n → of n ≡ f x
-told-some f of same x n e h = let v = number-some x n (sym e ∙ h) in ap of (v .2) ∙ sym (same (v .0)) ∙ sym (ap f (v .1))
-
-pub number-small : (id k a e : ℕ) (s : List ℕ) (n : ℕ) → Bytes s → ListIn a e s → formatOf id ≡ Fixed k → holdsDigits id ≡ true
-    → numberFound (valueIn id (fieldsBetween a e s)) ≡ Number n → n < 100 ^ k
-unfolding Holds
-number-small id k a e s n b l f d q =
-    let v = number-some _ n q in
-    let h = holds id [] (fieldsBetween a e s) (v .0) (fixed-plain id k f) (between-ok a e s b l) (v .1) in
-    number-fits k (v .0) n (h .1 d) (fixed-size id k _ f (h .0)) (v .2)
-
 -- ---- both together
 pub record Here (id a e : ℕ) (s : List ℕ) (l : Listed) : Type 0 where
   pub order : l .from ≤ l .to
   pub inside : l .to ≤ length s
   pub value : valueIn id (fieldsBetween a e s) ≡ found (part (l .from) (l .to) s)
-  pub long : length (part (l .from) (l .to) s) ≡ l .to - l .from
   pub size : SizeOk (formatOf id) (l .to - l .from)
   pub digits : holdsDigits id ≡ true → Decimals (part (l .from) (l .to) s)
 
@@ -134,4 +103,40 @@ module _ (id a e : ℕ) (s : List ℕ) (b : Bytes s) (h : ListIn a e s) where
       let t = tells (listed-field l) q in
       let k = holds id [] (fieldsBetween a e s) (part (l .from) (l .to) s) n (between-ok a e s b h) (t .2) in
       let long = part-length s (l .from) (l .to) (t .0) (t .1) in
-      record { order = t .0; inside = t .1; value = t .2; long = long; size = rw long at (k .0); digits = k .1 }
+      record { order = t .0; inside = t .1; value = t .2; size = rw long at (k .0); digits = k .1 }
+
+-- ---- a value by its place
+module _ (p : Span) (s : List ℕ) where
+  pub value-none : p .to ≡ 0 → valueAt p s ≡ missing
+  unfolding valueAt
+  value-none e = pick-true _ _ (eq-eqb (p .to) 0 e)
+
+  pub value-some : (p .to ≡ 0 → ⊥) → valueAt p s ≡ found (part (p .from) (p .to) s)
+  unfolding valueAt
+  value-some n = pick-false _ _ (ne-eqb (p .to) 0 n)
+
+  pub sized-length : {k : ℕ} → Sized k p s → (p .to ≡ 0 → ⊥) → length (part (p .from) (p .to) s) ≡ k
+  sized-length h n = omega (arith, h .size n, part-length s (p .from) (p .to) (h .order) (h .inside))
+
+-- of a field of a fixed size
+abbrev pub Placed : ℕ → Span → List ℕ → Found → Bool → Type 0
+Placed k p s v digits = Sized k p s × (valueAt p s ≡ v) × (digits ≡ true → Decimals (part (p .from) (p .to) s))
+
+pub value-at : (id k a e : ℕ) (s : List ℕ) → Bytes s → ListIn a e s → formatOf id ≡ Fixed k → 0 < k
+    → Placed k (spanOf (namedListed id (listedIn a e s))) s (valueIn id (fieldsBetween a e s)) (holdsDigits id)
+unfolding spanOf Decimals
+value-at id k a e s b h f n = go (namedListed id (listedIn a e s)) refl
+  where
+    go : (x : FieldAnswer) → namedListed id (listedIn a e s) ≡ x → Placed k (spanOf x) s (valueIn id (fieldsBetween a e s)) (holdsDigits id)
+    go End q = (
+      record { order = omega arith; inside = omega arith; size = λ z. absurd (z refl) },
+      value-none _ s refl ∙ sym (not-here id a e s b h q),
+      λ _. tt,
+    )
+    go (listed-field l) q =
+        let w = is-here id a e s b h l (fixed-plain id k f) q in
+        let size = fixed-size id k _ f (w .size) in (
+          record { order = w .order; inside = w .inside; size = λ _. omega (arith, w .order, size) },
+          value-some _ s (λ z. omega (arith, size, n, z)) ∙ sym (w .value),
+          w .digits,
+        )

@@ -5,5 +5,5 @@ pub mod HeaderSteps
 pub mod BodySteps
 pub mod WritingSteps
 pub mod ListSteps
-pub mod NumberSteps
+pub mod ValueSteps
 pub mod ToldSteps

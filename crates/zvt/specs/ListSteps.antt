@@ -3,11 +3,13 @@ use mathlib.Core.Path.{_≡_}
 use Prim.Native.Nat.{ℕ, _+_, _<_, _≤_}
 use mathlib.Core.List.{List, [], _∷_}
 use lib.ListN.{length}
+use lib.Dec.{eqb}
 use Rattle.zvt_rules.specs.declared.Listed.{Listed}
 use Rattle.zvt_rules.specs.declared.FieldAnswer.{FieldAnswer}
 use Rattle.zvt_rules.specs.declared.FieldAnswer.the-variants.{Field as listed-field, End}
 use Rattle.zvt_rules.specs.declared.Outline.{Outline}
 use Rattle.zvt_rules.specs.declared.ReadAnswer.the-variants.{Accepted}
+use Rattle.zvt_rules.specs.declared.Span.{Span}
 use Rattle.zvt_rules.specs.declared.ListPlace.{ListPlace}
 use Rattle.zvt_rules.specs.declared.ListPlace.the-variants.{Nowhere}
 use Rattle.zvt_rules.specs.Reading.{Reading, got, refused, pick, part}
@@ -17,7 +19,7 @@ use Rattle.zvt_rules.specs.Message.{Message, readOf}
 use Rattle.zvt_rules.specs.Values.{isStatus}
 use Rattle.zvt_rules.specs.believed.Grammar.{Bytes}
 use Rattle.zvt_rules.specs.Answers.{readAnswer}
-use Rattle.zvt_rules.specs.Listed.{listedFrom, messagePlace}
+use Rattle.zvt_rules.specs.Listed.{listedFrom, spanOf, messagePlace}
 use Rattle.zvt.specs.WritingSteps.{ListReads}
 
 -- the list between two places of s
@@ -46,6 +48,15 @@ pub record FieldHere (at e : ℕ) (s : List ℕ) (l : Listed) : Type 0 where
 pub data StandsAt (at e : ℕ) (s : List ℕ) : FieldAnswer → Type 0 where
   field : {l : Listed} → FieldHere at e s l → StandsAt at e s (listed-field l)
   none : listedIn at e s ≡ [] → StandsAt at e s End
+
+-- the place of a field where it has the id, else what was there before
+unfoldable pub noted : ℕ → Listed → Span → Span
+noted id l x = pick (eqb (l .id) id) (spanOf (listed-field l)) x
+
+unfoldable pub notedAll : List ℕ → Listed → List Span → List Span
+notedAll [] l xs = []
+notedAll (id ∷ ids) l [] = []
+notedAll (id ∷ ids) l (x ∷ xs) = noted id l x ∷ notedAll ids l xs
 
 -- bytes that were read as that message
 abbrev pub Was : List ℕ → Outline → Type 0

@@ -7,15 +7,11 @@ use zvt_rules::ListPlace;
 use zvt_rules::Listed;
 use zvt_rules::Outline;
 use zvt_rules::ReadAnswer;
+use zvt_rules::Span;
 ghost use mathlib.Core.Path.{_≡_};
-ghost use Rattle.zvt.specs.ListSteps.{ListIn, StandsAt, Was, statusPlace, listedIn};
+ghost use Rattle.zvt.specs.ListSteps.{ListIn, StandsAt, Was, statusPlace, listedIn, noted, notedAll};
 ghost use Rattle.zvt_rules.specs.Message.{readOf};
-ghost use Rattle.zvt_rules.specs.Listed.{listedMessage, nthListed, namedListed};
-
-pub(crate) struct Span {
-    pub(crate) from: usize,
-    pub(crate) to: usize,
-}
+ghost use Rattle.zvt_rules.specs.Listed.{listedMessage, nthListed, namedListed, spansIn};
 
 // Where the fields of the message that s is lie: no bytes at all where it has no list.
 pub(crate) fn fields_of(s: &[u8]) -> Span
@@ -105,6 +101,49 @@ pub(crate) fn named(s: &[u8], from: usize, end: usize, id: u8) -> FieldAnswer
                 if f.id == id {
                     return FieldAnswer::Field(f);
                 }
+                at = f.to;
+            }
+        }
+    }
+}
+
+// The place of a field that has the id, else what was found before.
+fn noted(found: Span, id: u8, f: Listed) -> Span
+    ensures { λ r. ⌜ r ≡ noted id f found ⌝ }
+{
+    if f.id == id {
+        return Span {
+            from: f.from,
+            to: f.to,
+        };
+    }
+    found
+}
+
+fn noted_all(found: [Span; 4], ids: [u8; 4], f: Listed) -> [Span; 4]
+    ensures { λ r. ⌜ r ≡ notedAll ids f found ⌝ }
+{
+    let a = noted(found[0], ids[0], f);
+    let b = noted(found[1], ids[1], f);
+    let c = noted(found[2], ids[2], f);
+    let d = noted(found[3], ids[3], f);
+    [a, b, c, d]
+}
+
+// Where the values of the fields with those ids lie: of each id the last, which is the only one.
+pub(crate) fn four(s: &[u8], from: usize, end: usize, ids: [u8; 4]) -> [Span; 4]
+    requires { ⌜ ListIn from end (now s) ⌝ }
+    ensures { λ r. ⌜ r ≡ spansIn (listedIn from end (now (s .entry))) ids ⌝ }
+{
+    let nowhere = Span { from: 0, to: 0 };
+    let mut found = [nowhere; 4];
+    let mut at = from;
+    loop {
+        match field_from(s, at, end) {
+            FieldAnswer::End => return found,
+            FieldAnswer::Field(f) => {
+                let next = noted_all(found, ids, f);
+                found = next;
                 at = f.to;
             }
         }

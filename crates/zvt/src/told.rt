@@ -4,9 +4,7 @@ use crate::body::outline_of;
 use crate::format::layout_of;
 use crate::list::status_list;
 use crate::objects::PartRead;
-use crate::values::amount_in;
-use crate::values::code_in;
-use crate::values::receipt_in;
+use crate::values::status_in;
 use zvt_rules::Header;
 use zvt_rules::Layout;
 use zvt_rules::ListPlace;
@@ -36,16 +34,12 @@ pub(crate) fn status_at(s: &[u8], place: ListPlace) -> Status
             amount: ToldAmount::Missing,
             receipt: ToldReceipt::Missing,
         },
-        ListPlace::Between(from, end) => Status {
-            code: code_in(s, from, end),
-            amount: amount_in(s, from, end),
-            receipt: receipt_in(s, from, end),
-        },
+        ListPlace::Between(from, end) => status_in(s, from, end),
     }
 }
 
 // The first byte of a plain body, if it has one.
-pub(crate) fn first_in(s: &[u8], m: Outline) -> ToldCode
+fn first_in(s: &[u8], m: Outline) -> ToldCode
     requires { ⌜ Was (now s) m ⌝ }
     ensures { λ r. ⌜ r ≡ firstIn (readOf (now (s .entry))) ⌝ }
 {
@@ -60,7 +54,7 @@ pub(crate) fn first_in(s: &[u8], m: Outline) -> ToldCode
     }
 }
 
-pub(crate) fn told_in(s: &[u8], m: Outline) -> ToldBody
+fn told_in(s: &[u8], m: Outline) -> ToldBody
     requires { ⌜ Was (now s) m ⌝ }
     ensures { λ r. ⌜ Tells r (now (s .entry)) ⌝ }
 {

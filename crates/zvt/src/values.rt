@@ -1,67 +1,61 @@
-// What a status information tells the desk.
+// What a status information tells the desk, each value by its place.
 use crate::digits::number;
-use crate::list::named;
-use zvt_rules::FieldAnswer;
+use crate::list::four;
+use zvt_rules::Span;
+use zvt_rules::Status;
 use zvt_rules::ToldAmount;
 use zvt_rules::ToldCode;
 use zvt_rules::ToldReceipt;
 ghost use mathlib.Core.Path.{_≡_};
 ghost use Rattle.zvt.specs.ListSteps.{ListIn, fieldsBetween};
-ghost use Rattle.zvt.specs.NumberSteps.{numberFound, Few};
-ghost use Rattle.zvt_rules.specs.Values.{valueIn, codeIn, amountIn, receiptIn};
+ghost use Rattle.zvt.specs.ValueSteps.{Sized, SizedDigits, valueAt};
+ghost use Rattle.zvt_rules.specs.Values.{codeOf, amountOf, receiptOf, statusIn};
 
-pub(crate) fn code_in(s: &[u8], from: usize, end: usize) -> ToldCode
-    requires { ⌜ ListIn from end (now s) ⌝ }
-    ensures { λ r. ⌜ r ≡ codeIn (fieldsBetween from end (now (s .entry))) ⌝ }
+fn code_at(s: &[u8], place: Span) -> ToldCode
+    requires { ⌜ Sized 1 place (now s) ⌝ }
+    ensures { λ r. ⌜ r ≡ codeOf (valueAt place (now (s .entry))) ⌝ }
 {
-    match named(s, from, end, 0x27) {
-        FieldAnswer::End => ToldCode::Missing,
-        FieldAnswer::Field(f) => {
-            let at = f.from;
-            ToldCode::Code(s[at])
-        }
+    if place.to == 0 {
+        return ToldCode::Missing;
     }
+    let at = place.from;
+    ToldCode::Code(s[at])
 }
 
-// The number that a field's digits are, if the list has the field.
-pub(crate) enum NumberFound {
-    Missing,
-    Number(u64),
-}
-
-pub(crate) fn number_in(s: &[u8], from: usize, end: usize, id: u8) -> NumberFound
-    requires { ⌜ ListIn from end (now s) × Few id ⌝ }
-    ensures { λ r. ⌜ r ≡ numberFound (valueIn id (fieldsBetween from end (now (s .entry)))) ⌝ }
+fn amount_at(s: &[u8], place: Span) -> ToldAmount
+    requires { ⌜ Sized 6 place (now s) ⌝ }
+    ensures { λ r. ⌜ r ≡ amountOf (valueAt place (now (s .entry))) ⌝ }
 {
-    match named(s, from, end, id) {
-        FieldAnswer::End => NumberFound::Missing,
-        FieldAnswer::Field(f) => {
-            let a = f.from;
-            let e = f.to;
-            NumberFound::Number(number(&s[a..e]))
-        }
+    let from = place.from;
+    let to = place.to;
+    if to == 0 {
+        return ToldAmount::Missing;
     }
+    ToldAmount::Amount(number(&s[from..to]))
 }
 
-pub(crate) fn amount_in(s: &[u8], from: usize, end: usize) -> ToldAmount
-    requires { ⌜ ListIn from end (now s) ⌝ }
-    ensures { λ r. ⌜ r ≡ amountIn (fieldsBetween from end (now (s .entry))) ⌝ }
+fn receipt_at(s: &[u8], place: Span) -> ToldReceipt
+    requires { ⌜ SizedDigits 2 place (now s) ⌝ }
+    ensures { λ r. ⌜ r ≡ receiptOf (valueAt place (now (s .entry))) ⌝ }
 {
-    match number_in(s, from, end, 0x04) {
-        NumberFound::Missing => ToldAmount::Missing,
-        NumberFound::Number(n) => ToldAmount::Amount(n),
+    let from = place.from;
+    let to = place.to;
+    if to == 0 {
+        return ToldReceipt::Missing;
     }
+    let short = number(&s[from..to]) as u16;
+    ToldReceipt::Receipt(short)
 }
 
-pub(crate) fn receipt_in(s: &[u8], from: usize, end: usize) -> ToldReceipt
+// By one walk over the list; no field has the fourth id.
+pub(crate) fn status_in(s: &[u8], from: usize, end: usize) -> Status
     requires { ⌜ ListIn from end (now s) ⌝ }
-    ensures { λ r. ⌜ r ≡ receiptIn (fieldsBetween from end (now (s .entry))) ⌝ }
+    ensures { λ r. ⌜ r ≡ statusIn (fieldsBetween from end (now (s .entry))) ⌝ }
 {
-    match number_in(s, from, end, 0x87) {
-        NumberFound::Missing => ToldReceipt::Missing,
-        NumberFound::Number(n) => {
-            let short = n as u16;
-            ToldReceipt::Receipt(short)
-        }
+    let found = four(s, from, end, [0x27, 0x04, 0x87, 0x00]);
+    Status {
+        code: code_at(s, found[0]),
+        amount: amount_at(s, found[1]),
+        receipt: receipt_at(s, found[2]),
     }
 }

@@ -8,6 +8,7 @@ use Rattle.zvt_rules.specs.declared.FieldAnswer.{FieldAnswer}
 use Rattle.zvt_rules.specs.declared.FieldAnswer.the-variants.{Field as listed-field, End}
 use Rattle.zvt_rules.specs.declared.ListPlace.{ListPlace}
 use Rattle.zvt_rules.specs.declared.ListPlace.the-variants.{Nowhere, Between}
+use Rattle.zvt_rules.specs.declared.Span.{Span}
 use Rattle.zvt_rules.specs.Reading.{Reading, got, refused, pick}
 use Rattle.zvt_rules.specs.Fields.{Field, fieldId}
 use Rattle.zvt_rules.specs.Message.{headerSize, Body, bytes, listed, Message, readOf}
@@ -48,6 +49,15 @@ fieldAnswer k s = nthListed k (listedMessage (readOf s))
 
 unfoldable pub namedAnswer : ℕ → List ℕ → FieldAnswer
 namedAnswer id s = namedListed id (listedMessage (readOf s))
+
+-- where a value lies, and where those of the fields with some ids lie: nothing lies from 0 to 0
+unfoldable pub spanOf : FieldAnswer → Span
+spanOf End = record { from = 0; to = 0 }
+spanOf (listed-field l) = record { from = l .from; to = l .to }
+
+unfoldable pub spansIn : List Listed → List ℕ → List Span
+spansIn ls [] = []
+spansIn ls (id ∷ ids) = spanOf (namedListed id ls) ∷ spansIn ls ids
 
 -- where a message's list lies
 unfoldable pub bodyPlace : ℕ → Body → ℕ → ListPlace

@@ -125,6 +125,12 @@ pub enum ListPlace {
     Between(usize, usize),
 }
 
+// Where a value lies in a message, from and to; nothing lies from 0 to 0.
+pub struct Span {
+    pub from: usize,
+    pub to: usize,
+}
+
 // What a message tells a desk: the first byte of a plain body, and what a status information tells.
 pub struct ToldBody {
     pub first: ToldCode,

@@ -19,11 +19,8 @@ unfolding statusOf statusIn codeIn codeOf amountIn amountOf receiptIn receiptOf 
 returns c = sym (ap statusIn (status-nowhere _ (sym (c .before .before .before .pre) ∙ c .enum-told .given .1) .0))
 
 returns-2 : tie.Need-returns-2
-unfolding statusOf statusIn
-returns-2 c = rw (c .before .before .code-in .ensures, c .before .amount-in .ensures, c .receipt-in .ensures) (ap statusIn (sym (status (c .before .before .before .before) .fields)))
+unfolding statusOf
+returns-2 c = c .status-in .ensures ∙ ap statusIn (sym (status (c .before .before) .fields))
 
 pub status-at-spec : {M : Type 1} → statement M
-status-at-spec =
-    tie.close
-    (tie.spec (λ c. search needs) (λ c. search needs) (λ c κs. status (c .before) .reads)
-    (λ c κs. status (c .before .before) .reads) (λ c κs. status (c .before .before .before) .reads) returns returns-2)
+status-at-spec = tie.close (tie.spec (λ c. search needs) (λ c. search needs) (λ c κs. status (c .before) .reads) returns returns-2)

@@ -1,0 +1,134 @@
+-- A walk over a list that notes where some of its fields lie: no id stands twice, so that the last field with an id is the only one.
+-- Assumes nothing.
+use mathlib.Core.Path.{_≡_, refl, sym, ap, _∙_}
+use mathlib.Core.Bool.{true, or-true}
+use mathlib.Core.List.{List, [], _∷_}
+use Prim.Native.Nat.{ℕ, suc, _+_}
+use native.Mathlib.Omega.{arith}
+use lib.ListN.{length, getD, replicate}
+use lib.Dec.{eqb}
+use borrow.Author.Tests.{eqb-true, eq-eqb}
+use Rattle.zvt_rules.specs.Reading.{among}
+use Rattle.zvt_rules.specs.Fields.{Field, fieldId}
+use Rattle.zvt_rules.specs.believed.Writing.{fieldBytes}
+use Rattle.zvt_rules.specs.believed.Grammar.{Bytes, ListOk}
+use Rattle.zvt_rules.specs.declared.Listed.{Listed}
+use Rattle.zvt_rules.specs.declared.Span.{Span}
+use Rattle.zvt_rules.specs.declared.FieldAnswer.{FieldAnswer}
+use Rattle.zvt_rules.specs.declared.FieldAnswer.the-variants.{Field as listed-field, End}
+use Rattle.zvt_rules.specs.Listed.{listedAt, listedFrom, namedListed, spanOf, spansIn}
+use Rattle.zvt_rules.proofs.Tests.{by-test, pick-true, pick-false, true-false}
+use Rattle.zvt.specs.ListSteps.{listedIn, ListIn, noted, notedAll}
+use Rattle.zvt.proofs.ValueLaws.{between-ok}
+
+-- ---- no id stands twice
+unfoldable Once : List Listed → Type 0
+Once [] = Unit {0}
+Once (l ∷ ls) = (namedListed (l .id) ls ≡ End) × Once ls
+
+-- an id that was seen does not come
+seen-gone : (id at : ℕ) (seen : List ℕ) (fs : List Field) → ListOk seen fs → among seen id ≡ true → namedListed id (listedFrom at fs) ≡ End
+unfolding ListOk listedFrom listedAt namedListed among
+seen-gone id at seen [] ok h = refl
+seen-gone id at seen (f ∷ fs) ok h =
+    by-test (eqb (fieldId f) id)
+    (λ e. absurd (true-false (rw (eqb-true (fieldId f) id e) h) (ok .1)))
+    (λ e. pick-false _ _ e ∙ seen-gone id (at + length (fieldBytes f)) (fieldId f ∷ seen) fs (ok .2) (rw (h, or-true)))
+
+listed-once : (at : ℕ) (seen : List ℕ) (fs : List Field) → ListOk seen fs → Once (listedFrom at fs)
+unfolding ListOk listedFrom listedAt Once among
+listed-once at seen [] ok = tt
+listed-once at seen (f ∷ fs) ok =
+    let next = at + length (fieldBytes f) in
+    (seen-gone (fieldId f) next (fieldId f ∷ seen) fs (ok .2) (rw (eq-eqb (fieldId f) (fieldId f) refl)), listed-once next (fieldId f ∷ seen) fs (ok .2))
+
+once-in : (a e : ℕ) (s : List ℕ) → Bytes s → ListIn a e s → Once (listedIn a e s)
+unfolding listedIn
+once-in a e s b l = listed-once a [] _ (between-ok a e s b l)
+
+-- ---- the last field with an id, where x was noted before
+unfoldable lastIn : ℕ → Span → List Listed → Span
+lastIn id x [] = x
+lastIn id x (l ∷ ls) = lastIn id (noted id l x) ls
+
+last-none : (id : ℕ) (x : Span) (ls : List Listed) → namedListed id ls ≡ End → lastIn id x ls ≡ x
+unfolding namedListed lastIn noted
+last-none id x [] e = refl
+last-none id x (l ∷ ls) e =
+    by-test (eqb (l .id) id) (λ t. absurd (let z : _≡_ {A = ℕ} 0 1 = cc (pick-true (listed-field l) (namedListed id ls) t) in omega arith))
+    (λ t. ap (λ (y : Span). lastIn id y ls) (pick-false _ x t) ∙ last-none id x ls (sym (pick-false _ _ t) ∙ e))
+
+unfoldable orElse : Span → FieldAnswer → Span
+orElse x End = x
+orElse x (listed-field l) = spanOf (listed-field l)
+
+or-nowhere : (x : FieldAnswer) → orElse (record { from = 0; to = 0 }) x ≡ spanOf x
+unfolding orElse spanOf
+or-nowhere End = refl
+or-nowhere (listed-field l) = refl
+
+last-is : (id : ℕ) (x : Span) (ls : List Listed) → Once ls → lastIn id x ls ≡ orElse x (namedListed id ls)
+unfolding Once namedListed lastIn noted orElse
+last-is id x [] o = refl
+last-is id x (l ∷ ls) o =
+    by-test (eqb (l .id) id)
+    (λ t.
+    let gone : namedListed id ls ≡ End = rw (← (eqb-true (l .id) id t)) (o .0) in
+    ap (λ (y : Span). lastIn id y ls) (pick-true _ x t) ∙ last-none id _ ls gone ∙ sym (ap (orElse x) (pick-true _ _ t)))
+    (λ t. ap (λ (y : Span). lastIn id y ls) (pick-false _ x t) ∙ last-is id x ls (o .1) ∙ sym (ap (orElse x) (pick-false _ _ t)))
+
+-- ---- the same of several ids
+pub lasts : List ℕ → List Span → List Listed → List Span
+lasts [] xs ls = []
+lasts (id ∷ ids) [] ls = []
+lasts (id ∷ ids) (x ∷ xs) ls = lastIn id x ls ∷ lasts ids xs ls
+
+pub noted-size : (ids : List ℕ) (l : Listed) (xs : List Span) → length xs ≡ length ids → length (notedAll ids l xs) ≡ length ids
+unfolding notedAll
+noted-size [] l xs e = refl
+noted-size (id ∷ ids) l [] e = e
+noted-size (id ∷ ids) l (x ∷ xs) e = ap suc (noted-size ids l xs (omega arith))
+
+pub lasts-next : (ids : List ℕ) (xs : List Span) (l : Listed) (ls : List Listed) → lasts ids (notedAll ids l xs) ls ≡ lasts ids xs (l ∷ ls)
+unfolding lasts notedAll lastIn
+lasts-next [] xs l ls = refl
+lasts-next (id ∷ ids) [] l ls = refl
+lasts-next (id ∷ ids) (x ∷ xs) l ls = ap (λ ys. lastIn id (noted id l x) ls ∷ ys) (lasts-next ids xs l ls)
+
+pub lasts-end : (ids : List ℕ) (xs : List Span) → length xs ≡ length ids → lasts ids xs [] ≡ xs
+unfolding lasts lastIn
+lasts-end [] [] e = refl
+lasts-end [] (x ∷ xs) e = absurd (omega arith)
+lasts-end (id ∷ ids) [] e = absurd (omega arith)
+lasts-end (id ∷ ids) (x ∷ xs) e = ap (λ ys. x ∷ ys) (lasts-end ids xs (omega arith))
+
+lasts-first : (ids : List ℕ) (ls : List Listed) → Once ls → lasts ids (replicate (length ids) (record { from = 0; to = 0 })) ls ≡ spansIn ls ids
+unfolding lasts spansIn spanOf orElse
+lasts-first [] ls o = refl
+lasts-first (id ∷ ids) ls o =
+    let one : lastIn id (record { from = 0; to = 0 }) ls ≡ spanOf (namedListed id ls) = last-is id _ ls o ∙ or-nowhere (namedListed id ls) in
+    rw one (ap (λ ys. spanOf (namedListed id ls) ∷ ys) (lasts-first ids ls o))
+
+pub lasts-all : (ids : List ℕ) (a e : ℕ) (s : List ℕ) → Bytes s → ListIn a e s → length ids ≡ 4
+    → lasts ids (replicate 4 (record { from = 0; to = 0 })) (listedIn a e s) ≡ spansIn (listedIn a e s) ids
+lasts-all ids a e s b l h =
+    ap (λ n. lasts ids (replicate n (record { from = 0; to = 0 })) (listedIn a e s)) (sym h) ∙ lasts-first ids (listedIn a e s) (once-in a e s b l)
+
+-- ---- four of them
+abbrev fourOf : {A : Type 0} → A → List A → List A
+fourOf d xs = getD xs 0 d ∷ (getD xs 1 d ∷ (getD xs 2 d ∷ (getD xs 3 d ∷ [])))
+
+four-of : {A : Type 0} (d : A) (xs : List A) → length xs ≡ 4 → xs ≡ fourOf d xs
+four-of d [] h = absurd (omega arith)
+four-of d (x ∷ []) h = absurd (omega arith)
+four-of d (x ∷ (y ∷ [])) h = absurd (omega arith)
+four-of d (x ∷ (y ∷ (z ∷ []))) h = absurd (omega arith)
+four-of d (x ∷ (y ∷ (z ∷ (w ∷ [])))) h = refl
+four-of d (x ∷ (y ∷ (z ∷ (w ∷ (v ∷ xs))))) h = absurd (omega arith)
+
+pub noted-four : (ids : List ℕ) (l : Listed) (d : Span) (xs : List Span) → length ids ≡ 4 → length xs ≡ 4
+    → noted (getD ids 0 0) l (getD xs 0 d)
+    ∷ (noted (getD ids 1 0) l (getD xs 1 d) ∷ (noted (getD ids 2 0) l (getD xs 2 d) ∷ (noted (getD ids 3 0) l (getD xs 3 d) ∷ [])))
+    ≡ notedAll ids l xs
+unfolding notedAll
+noted-four ids l d xs h k = sym (ap (λ is. notedAll is l xs) (four-of 0 ids h) ∙ ap (notedAll (fourOf 0 ids) l) (four-of d xs k))
