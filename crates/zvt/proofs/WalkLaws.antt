@@ -16,7 +16,7 @@ use Rattle.zvt_rules.specs.declared.Listed.{Listed}
 use Rattle.zvt_rules.specs.declared.Span.{Span}
 use Rattle.zvt_rules.specs.declared.FieldAnswer.{FieldAnswer}
 use Rattle.zvt_rules.specs.declared.FieldAnswer.the-variants.{Field as listed-field, End}
-use Rattle.zvt_rules.specs.Listed.{listedAt, listedFrom, namedListed, spanOf, spansIn}
+use Rattle.zvt_rules.specs.Listed.{listedAt, listedFrom, namedListed, nowhere, spanOf, spansIn}
 use Rattle.zvt_rules.proofs.Tests.{by-test, pick-true, pick-false, true-false}
 use Rattle.zvt.specs.ListSteps.{listedIn, ListIn, noted, notedAll}
 use Rattle.zvt.proofs.ValueLaws.{between-ok}
@@ -62,7 +62,7 @@ unfoldable orElse : Span → FieldAnswer → Span
 orElse x End = x
 orElse x (listed-field l) = spanOf (listed-field l)
 
-or-nowhere : (x : FieldAnswer) → orElse (record { from = 0; to = 0 }) x ≡ spanOf x
+or-nowhere : (x : FieldAnswer) → orElse nowhere x ≡ spanOf x
 unfolding orElse spanOf
 or-nowhere End = refl
 or-nowhere (listed-field l) = refl
@@ -102,17 +102,17 @@ lasts-end [] (x ∷ xs) e = absurd (omega arith)
 lasts-end (id ∷ ids) [] e = absurd (omega arith)
 lasts-end (id ∷ ids) (x ∷ xs) e = ap (λ ys. x ∷ ys) (lasts-end ids xs (omega arith))
 
-lasts-first : (ids : List ℕ) (ls : List Listed) → Once ls → lasts ids (replicate (length ids) (record { from = 0; to = 0 })) ls ≡ spansIn ls ids
+lasts-first : (ids : List ℕ) (ls : List Listed) → Once ls → lasts ids (replicate (length ids) nowhere) ls ≡ spansIn ls ids
 unfolding lasts spansIn spanOf orElse
 lasts-first [] ls o = refl
 lasts-first (id ∷ ids) ls o =
-    let one : lastIn id (record { from = 0; to = 0 }) ls ≡ spanOf (namedListed id ls) = last-is id _ ls o ∙ or-nowhere (namedListed id ls) in
+    let one : lastIn id nowhere ls ≡ spanOf (namedListed id ls) = last-is id _ ls o ∙ or-nowhere (namedListed id ls) in
     rw one (ap (λ ys. spanOf (namedListed id ls) ∷ ys) (lasts-first ids ls o))
 
 pub lasts-all : (ids : List ℕ) (a e : ℕ) (s : List ℕ) → Bytes s → ListIn a e s → length ids ≡ 4
-    → lasts ids (replicate 4 (record { from = 0; to = 0 })) (listedIn a e s) ≡ spansIn (listedIn a e s) ids
+    → lasts ids (replicate 4 nowhere) (listedIn a e s) ≡ spansIn (listedIn a e s) ids
 lasts-all ids a e s b l h =
-    ap (λ n. lasts ids (replicate n (record { from = 0; to = 0 })) (listedIn a e s)) (sym h) ∙ lasts-first ids (listedIn a e s) (once-in a e s b l)
+    ap (λ n. lasts ids (replicate n nowhere) (listedIn a e s)) (sym h) ∙ lasts-first ids (listedIn a e s) (once-in a e s b l)
 
 -- ---- four of them
 abbrev fourOf : {A : Type 0} → A → List A → List A
