@@ -12,6 +12,7 @@ pub mod ObjectShort
 pub mod ObjectBytes
 pub mod FieldReading
 pub mod FieldBytes
+pub mod ListSize
 pub mod FieldShort
 pub mod DigitLaws
 pub mod Spelling
