@@ -8,7 +8,7 @@ use native.Mathlib.Omega.{arith}
 use lib.ListN.{length, getD, set, replicate}
 use lib.Dec.{eqb}
 use borrow.Author.Tests.{lt-ltb, eqb-true, eq-eqb}
-use Rattle.zvt_rules.specs.Reading.{part, among}
+use Rattle.zvt_rules.specs.Reading.{among}
 use Rattle.zvt_rules.specs.Buffers.{front, Whole}
 use Rattle.zvt_rules.specs.Text.{Text, text, addOne, addAll}
 use Rattle.zvt_rules.specs.Fields.{Field, fieldId}
@@ -21,11 +21,7 @@ use Rattle.zvt_rules.specs.declared.FieldAnswer.the-variants.{Field as listed-f
 use Rattle.zvt_rules.specs.Listed.{listedAt, listedFrom, namedListed, idsListed, nowhere, spanOf, spansIn}
 use Rattle.zvt_rules.proofs.Tests.{by-test, pick-true, pick-false, true-false}
 use Rattle.zvt_rules.proofs.Text.{put-whole}
-use Rattle.zvt_rules.proofs.ObjectBytes.{bytes-part}
-use Rattle.zvt_rules.proofs.FieldBytes.{list-sound}
-use Rattle.zvt_rules.proofs.ListSize.{fields-few}
-use Rattle.zvt.specs.ListSteps.{listFields, fieldsBetween, listedIn, ListIn, noted, notedAll}
-use Rattle.zvt.specs.WritingSteps.{ListReads}
+use Rattle.zvt.specs.ListSteps.{listedIn, ListIn, FieldHere, noted, notedAll}
 use Rattle.zvt.proofs.ValueLaws.{between-ok}
 
 -- ---- no id stands twice
@@ -141,33 +137,20 @@ unfolding notedAll
 noted-four ids l d xs h k = sym (ap (λ is. notedAll is l xs) (four-of 0 ids h) ∙ ap (notedAll (fourOf 0 ids) l) (four-of d xs k))
 
 -- ---- the ids of a list, written one after the other
-listed-size : (at : ℕ) (fs : List Field) → length (listedFrom at fs) ≡ length fs
-unfolding listedFrom
-listed-size at [] = refl
-listed-size at (f ∷ fs) = ap suc (listed-size (at + length (fieldBytes f)) fs)
-
-pub ids-few : (a e : ℕ) (s : List ℕ) → Bytes s → ListIn a e s → length (listedIn a e s) ≤ 256
-unfolding listedIn fieldsBetween listFields ListReads
-ids-few a e s b l =
-    let r = l .reads in
-    let w = bytes-part a e s b in
-    let k = list-sound [] 0 0 (part a e s) (r .0) w (r .1) in
-    rw (r .1, listed-size a (r .0 .fields)) (fields-few (r .0 .fields) (k .1) (rw (k .0) w))
-
-ids-size : (ls : List Listed) → length (idsListed ls) ≡ length ls
+pub ids-more : {at e : ℕ} {s : List ℕ} {l : Listed} → FieldHere at e s l
+    → length (idsListed (listedIn at e s)) ≡ suc (length (idsListed (listedIn (l .to) e s)))
 unfolding idsListed
-ids-size [] = refl
-ids-size (l ∷ ls) = ap suc (ids-size ls)
+ids-more h = ap (λ ls. length (idsListed ls)) (h .all)
 
 pub ids-next : (l : Listed) (ls : List Listed) (n : ℕ) (out : List ℕ) → n < length out
     → addAll (idsListed ls) (text (n + 1) (set out n (l .id))) ≡ addAll (idsListed (l ∷ ls)) (text n out)
 unfolding idsListed addAll addOne
 ids-next l ls n out h = sym (ap (addAll (idsListed ls)) (pick-true _ _ (lt-ltb n (length out) h)))
 
-pub ids-end : (ls : List Listed) (n : ℕ) (out entry : List ℕ) → length ls ≤ length entry
+pub ids-end : (ls : List Listed) (n : ℕ) (out entry : List ℕ) → length (idsListed ls) ≤ length entry
     → addAll (idsListed []) (text n out) ≡ addAll (idsListed ls) (text 0 entry) → Whole (idsListed ls) n entry out
 unfolding idsListed addAll
 ids-end ls n out entry h e =
     let w = idsListed ls in
-    let same : text n out ≡ text (length w) (front w entry) = e ∙ put-whole w entry (omega (arith, ids-size ls)) in
+    let same : text n out ≡ text (length w) (front w entry) = e ∙ put-whole w entry h in
     (ap (λ (t : Text). t .at) same, ap (λ (t : Text). t .bytes) same)

@@ -193,7 +193,7 @@ pub(crate) fn four(s: &[u8], from: usize, end: usize, ids: [u8; 4]) -> [Span; 4]
 
 // Writes the ids of a list, for which there is room, and answers how many they are.
 pub(crate) fn put_ids(s: &[u8], from: usize, end: usize, out: &mut [u8]) -> usize
-    requires { ⌜ ListIn from end (now s) × (length (listedIn from end (now s)) ≤ length (now out)) ⌝ }
+    requires { ⌜ ListIn from end (now s) × (length (idsListed (listedIn from end (now s))) ≤ length (now out)) ⌝ }
     ensures { λ r. ⌜ Whole (idsListed (listedIn from end (now (s .entry)))) r (now (out .entry)) (now (out .exit)) ⌝ }
 {
     let mut at = from;

@@ -12,7 +12,6 @@ pub mod ObjectShort
 pub mod ObjectBytes
 pub mod FieldReading
 pub mod FieldBytes
-pub mod ListSize
 pub mod FieldShort
 pub mod DigitLaws
 pub mod Spelling
@@ -20,6 +19,7 @@ pub mod MessageBytes
 pub mod MessageShort
 pub mod Fewest
 pub mod Found
+pub mod ListSize
 pub mod Names
 pub mod Numbers
 pub mod Listing

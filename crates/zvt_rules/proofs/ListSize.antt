@@ -1,5 +1,5 @@
--- No id stands twice in a list, and an id is a byte: a list has at most 256 fields. Assumes nothing.
-use mathlib.Core.Path.{_≡_, refl}
+-- No id stands twice in a list, and an id is a byte: a message has at most 256 fields. Assumes nothing.
+use mathlib.Core.Path.{_≡_, refl, sym, ap, _∙_}
 use mathlib.Core.Bool.{false}
 use mathlib.Core.Logic.{⊎-elim}
 use mathlib.Core.List.{List, [], _∷_, _++_}
@@ -9,13 +9,19 @@ use native.Mathlib.Omega.{arith}
 use lib.ListN.{length}
 use lib.Seq.{drop-append-seam}
 use borrow.Author.Tests.{eq-eqb, ne-eqb}
-use Rattle.zvt_rules.specs.Reading.{pick, among}
+use Rattle.zvt_rules.specs.declared.Listed.{Listed}
+use Rattle.zvt_rules.specs.Reading.{Reading, got, refused, pick, among}
 use Rattle.zvt_rules.specs.Fields.{Field, fieldId}
+use Rattle.zvt_rules.specs.Message.{headerSize, layoutOf, Body, bytes, listed, Message, readOf}
 use Rattle.zvt_rules.specs.believed.Writing.{fieldBytes, listBytes}
-use Rattle.zvt_rules.specs.believed.Grammar.{Bytes, ListOk}
+use Rattle.zvt_rules.specs.believed.Grammar.{Bytes, ListOk, FieldsOk, MessageOk}
+use Rattle.zvt_rules.specs.Listed.{listedFrom, listedBody, listedMessage, idsListed, idsAnswer}
 use Rattle.zvt_rules.proofs.Tests.{pick-test}
 use Rattle.zvt_rules.proofs.ObjectBytes.{bytes-drop}
 use Rattle.zvt_rules.proofs.FieldBytes.{begins}
+use Rattle.zvt_rules.proofs.MessageBytes.{read-sound}
+use Rattle.zvt_rules.proofs.MessageShort.{fields-ok}
+use Rattle.zvt_rules.proofs.Found.{list-ends}
 
 -- how many numbers below n stand in a list
 unfoldable held : List ℕ → ℕ → ℕ
@@ -54,5 +60,32 @@ fields-held seen (f ∷ fs) ok b =
     let byte : fieldId f < 256 = rw (begins f (listBytes fs)) at (b 0) in
     omega (arith, held-more (fieldId f) seen 256 byte (ok .1), fields-held (fieldId f ∷ seen) fs (ok .2) rest)
 
-pub fields-few : (fs : List Field) → ListOk [] fs → Bytes (listBytes fs) → length fs ≤ 256
-fields-few fs ok b = omega (arith, fields-held [] fs ok b)
+-- ---- the fields of a message
+listed-size : (at : ℕ) (fs : List Field) → length (listedFrom at fs) ≡ length fs
+unfolding listedFrom
+listed-size at [] = refl
+listed-size at (f ∷ fs) = ap suc (listed-size (at + length (fieldBytes f)) fs)
+
+ids-size : (ls : List Listed) → length (idsListed ls) ≡ length ls
+unfolding idsListed
+ids-size [] = refl
+ids-size (l ∷ ls) = ap suc (ids-size ls)
+
+message-few : (s : List ℕ) (x : Reading Message) → readOf s ≡ x → Bytes s → length (listedMessage x) ≤ 256
+unfolding listedMessage listedBody MessageOk FieldsOk
+message-few s (refused f) e b = omega arith
+message-few s (got m) e b = go (m .body) refl
+  where
+    go : (x : Body) → m .body ≡ x → length (listedBody (headerSize (m .long)) x) ≤ 256
+    go (bytes w) q = omega arith
+    go (listed password fs) q =
+        let k = read-sound s m b e in
+        let ends = list-ends m password fs q in
+        let whole : s ≡ ends .0 ++ listBytes fs = sym (k .0) ∙ ends .1 in
+        let ok = fields-ok (layoutOf (m .class) (m .instruction)) password fs (rw q at (k .1 .0)) in
+        let list : Bytes (listBytes fs) = rw (whole, drop-append-seam (ends .0) (listBytes fs)) at (bytes-drop (length (ends .0)) s b) in
+        omega (arith, listed-size (headerSize (m .long) + length password) fs, fields-held [] fs (ok .0) list)
+
+pub ids-few : (s : List ℕ) → Bytes s → length (idsAnswer s) ≤ 256
+unfolding idsAnswer
+ids-few s b = omega (arith, ids-size (listedMessage (readOf s)), message-few s (readOf s) refl b)

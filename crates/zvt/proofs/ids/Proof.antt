@@ -4,18 +4,19 @@ use native.Mathlib.Omega.{arith}
 use lib.ListN.{length}
 use borrow.Author.Needs.{needs}
 use Rattle.zvt_rules.specs.Listed.{idsAnswer}
+use Rattle.zvt_rules.proofs.ListSize.{ids-few}
 use Rattle.zvt.proofs.Slices.{bytes-known}
-use Rattle.zvt.proofs.WalkLaws.{ids-few}
 use Rattle.zvt.proofs.ids.Statement.{statement}
 use Rattle.zvt.proofs.ids.Tie as tie
 
 put-ids-requires : tie.Need-put-ids-requires
+unfolding idsAnswer
 put-ids-requires c κs =
     let parts = c .before .before in
     let known = parts .before in
     let size : length (known .before .args .out .now) ≡ 256 = search needs in
-    let within = parts .parts-of .ensures .within in
-    (within, omega (arith, ids-few _ _ _ (bytes-known _ (known .shared-slice-known .given)) within, size))
+    let few = ids-few (known .before .args .s .now) (bytes-known _ (known .shared-slice-known .given)) in
+    (parts .parts-of .ensures .within, omega (arith, rw (parts .parts-of .ensures .fields) at few, size))
 
 returns : tie.Need-returns
 unfolding idsAnswer

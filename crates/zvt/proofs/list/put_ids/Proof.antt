@@ -9,13 +9,13 @@ use Rattle.zvt_rules.specs.Text.{text, addAll}
 use Rattle.zvt_rules.specs.Listed.{idsListed}
 use Rattle.zvt.specs.ListSteps.{FieldHere, ListIn, listedIn}
 use Rattle.zvt.proofs.ListedLaws.{field-here, none-here}
-use Rattle.zvt.proofs.WalkLaws.{ids-next, ids-end}
+use Rattle.zvt.proofs.WalkLaws.{ids-more, ids-next, ids-end}
 use Rattle.zvt.proofs.list.put_ids.Statement.{statement}
 use Rattle.zvt.proofs.list.put_ids.Tie as tie
 
 abbrev Inv-loop : tie.InvT-loop
 Inv-loop s from end out₀ at₀ n₀ out at n =
-    ListIn at end s × (length out ≡ length out₀) × (n + length (listedIn at end s) ≡ length (listedIn from end s))
+    ListIn at end s × (length out ≡ length out₀) × (n + length (idsListed (listedIn at end s)) ≡ length (idsListed (listedIn from end s)))
     × (addAll (idsListed (listedIn at end s)) (text n out) ≡ addAll (idsListed (listedIn from end s)) (text 0 out₀))
 
 abbrev μ-loop : tie.MeasureT-loop
@@ -29,7 +29,7 @@ here c = field-here (c .before .before .field-from .ensures) (c .f .given .1)
 room : (c : tie.After-f Inv-loop μ-loop) → let l = c .before .before .before in l .loop .n < length (l .loop .out)
 room c =
     let l = c .before .before .before in
-    omega (arith, l .loop .inv .1, l .loop .inv .2, ap length (here c .all), l .before .before .before .pre .1)
+    omega (arith, l .loop .inv .1, l .loop .inv .2, ids-more (here c), l .before .before .before .pre .1)
 
 returns : tie.Need-returns Inv-loop μ-loop
 returns c =
@@ -50,7 +50,7 @@ loop-again c =
     let out = l .loop .out in (
       h .rest,
       length-set out _ _ ∙ inv .1,
-      omega (arith, inv .2, ap length (h .all)),
+      omega (arith, inv .2, ids-more h),
       ids-next (c .before .f .given .0 .0) _ (l .loop .n) out (room (c .before))
           ∙ ap (λ ls. addAll (idsListed ls) (text (l .loop .n) out)) (sym (h .all)) ∙ inv .3,
     )
