@@ -30,3 +30,4 @@ pub mod RowFields
 pub mod RowMessages
 pub mod StatusLaws
 pub mod AnswerLaws
+pub mod HeardLaws
