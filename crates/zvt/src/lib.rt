@@ -28,9 +28,10 @@ use zvt_rules::Status;
 ghost use mathlib.Core.Path.{_≡_};
 ghost use lib.ListN.{length};
 ghost use Rattle.zvt_rules.specs.Answers.{headerAnswer, readAnswer, firstAnswer, shortenAnswer, shortenLeaves};
+ghost use Rattle.zvt_rules.specs.Buffers.{Whole};
 ghost use Rattle.zvt_rules.specs.Digits.{digitBytesOf};
 ghost use Rattle.zvt_rules.specs.Heard.{hearAnswer};
-ghost use Rattle.zvt_rules.specs.Listed.{fieldAnswer, namedAnswer, listPlace, placesAnswer};
+ghost use Rattle.zvt_rules.specs.Listed.{fieldAnswer, namedAnswer, idsAnswer, listPlace, placesAnswer};
 ghost use Rattle.zvt_rules.specs.Name.{nameAt, cardName, namePlace};
 ghost use Rattle.zvt_rules.specs.Values.{statusOf};
 
@@ -122,6 +123,15 @@ pub fn field_named(s: &[u8], id: u8) -> FieldAnswer
     let parts = list::parts_of(s);
     let place = parts.list;
     list::named(s, place.from, place.to, id)
+}
+
+// Writes the ids of the list of the message that s is, in their order, and answers how many they are: none where there is no list.
+pub fn ids(s: &[u8], out: &mut [u8; 256]) -> usize
+    ensures { λ r. ⌜ Whole (idsAnswer (now (s .entry))) r (now (out .entry)) (now (out .exit)) ⌝ }
+{
+    let parts = list::parts_of(s);
+    let place = parts.list;
+    list::put_ids(s, place.from, place.to, out)
 }
 
 // Where the password and the fields with those ids lie in the message that s is.

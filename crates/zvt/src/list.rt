@@ -11,8 +11,11 @@ use zvt_rules::Outline;
 use zvt_rules::ReadAnswer;
 use zvt_rules::Span;
 ghost use mathlib.Core.Path.{_≡_};
+ghost use Prim.Native.Nat.{_≤_};
+ghost use lib.ListN.{length};
 ghost use Rattle.zvt.specs.ListSteps.{ListIn, PartsOf, StandsAt, Was, statusPlace, listedIn, noted, notedAll};
-ghost use Rattle.zvt_rules.specs.Listed.{nthListed, namedListed, spansIn};
+ghost use Rattle.zvt_rules.specs.Buffers.{Whole};
+ghost use Rattle.zvt_rules.specs.Listed.{nthListed, namedListed, idsListed, spansIn};
 
 // Where the password and the list of a message lie.
 pub(crate) struct Parts {
@@ -182,6 +185,25 @@ pub(crate) fn four(s: &[u8], from: usize, end: usize, ids: [u8; 4]) -> [Span; 4]
             FieldAnswer::Field(f) => {
                 let next = noted_all(found, ids, f);
                 found = next;
+                at = f.to;
+            }
+        }
+    }
+}
+
+// Writes the ids of a list, for which there is room, and answers how many they are.
+pub(crate) fn put_ids(s: &[u8], from: usize, end: usize, out: &mut [u8]) -> usize
+    requires { ⌜ ListIn from end (now s) × (length (idsListed (listedIn from end (now s))) ≤ length (now out)) ⌝ }
+    ensures { λ r. ⌜ Whole (idsListed (listedIn from end (now (s .entry)))) r (now (out .entry)) (now (out .exit)) ⌝ }
+{
+    let mut at = from;
+    let mut n: usize = 0;
+    loop {
+        match field_from(s, at, end) {
+            FieldAnswer::End => return n,
+            FieldAnswer::Field(f) => {
+                out[n] = f.id;
+                n += 1;
                 at = f.to;
             }
         }

@@ -51,6 +51,14 @@ fieldAnswer k s = nthListed k (listedMessage (readOf s))
 unfoldable pub namedAnswer : ℕ → List ℕ → FieldAnswer
 namedAnswer id s = namedListed id (listedMessage (readOf s))
 
+-- the ids of them all, in their order
+unfoldable pub idsListed : List Listed → List ℕ
+idsListed [] = []
+idsListed (l ∷ ls) = l .id ∷ idsListed ls
+
+unfoldable pub idsAnswer : List ℕ → List ℕ
+idsAnswer s = idsListed (listedMessage (readOf s))
+
 -- nothing lies from 0 to 0
 abbrev pub nowhere : Span
 nowhere = record { from = 0; to = 0 }
