@@ -6,13 +6,16 @@ use borrow.Author.Needs.{needs}
 use Rattle.script.proofs.play.Statement.{statement}
 use Rattle.script.proofs.play.Tie as tie
 
-payload : tie.Need-slice-aggregate-play-in
-payload c = sym (length-replicate {A = ℕ} 131072 0)
+file : tie.Need-slice-aggregate-play-in
+file c = sym (length-replicate {A = ℕ} 133632 0)
 
-text : tie.Need-slice-aggregate-play-in-3
+room : tie.Need-slice-aggregate-play-in-2
+room c = sym (length-replicate {A = ℕ} 4101 0)
+
+text : tie.Need-slice-aggregate-play-in-4
 text c = sym (length-replicate {A = ℕ} 458752 0)
 
 pub play-spec : {M : Type 1} → statement M
 play-spec =
     tie.close
-    (tie.spec (λ c. search needs) (λ c κs. search needs) (λ c. search needs) payload (λ c. search needs) text (λ c κs. search needs) (λ c. search needs))
+    (tie.spec (λ c. search needs) (λ c κs. search needs) (λ c. search needs) file room (λ c. search needs) text (λ c κs. search needs) (λ c. search needs))

@@ -6,19 +6,22 @@ use borrow.Author.Needs.{needs}
 use Rattle.script.proofs.cases.check.Statement.{statement}
 use Rattle.script.proofs.cases.check.Tie as tie
 
-payload : tie.Need-slice-aggregate-check-in
-payload c = sym (length-replicate {A = ℕ} 131072 0)
+file : tie.Need-slice-aggregate-check-in
+file c = sym (length-replicate {A = ℕ} 133632 0)
 
-added : tie.Need-slice-aggregate-check-in-2
+room : tie.Need-slice-aggregate-check-in-2
+room c = sym (length-replicate {A = ℕ} 4101 0)
+
+added : tie.Need-slice-aggregate-check-in-3
 added c = sym (length-replicate {A = ℕ} 65537 0)
 
-want : tie.Need-slice-aggregate-check-in-3
+want : tie.Need-slice-aggregate-check-in-4
 want c = sym (length-replicate {A = ℕ} 458752 0)
 
-text : tie.Need-slice-aggregate-check-in-4
+text : tie.Need-slice-aggregate-check-in-5
 text c = sym (length-replicate {A = ℕ} 458752 0)
 
 pub check-spec : {M : Type 1} → statement M
 check-spec =
     tie.close
-    (tie.spec payload added want text (λ c κs. search needs) (λ c. search needs))
+    (tie.spec file room added want text (λ c κs. search needs) (λ c. search needs))

@@ -3,21 +3,21 @@ use Prim.Native.Nat.{_-_, _≤_}
 use lib.ListN.{length}
 use mathlib.Core.Path.{_≡_}
 use borrow.Author.Needs.{needs}
-use Rattle.desk_rules.specs.Memory.{Valid}
+use Rattle.tape_rules.specs.Recording.{ValidTaped}
 use Rattle.script.proofs.cases.check_in.Statement.{statement}
 use Rattle.script.proofs.cases.check_in.Tie as tie
 
 abbrev Inv-loop : tie.InvT-loop
-Inv-loop name s payload₀ added₀ want₀ text₀ turn₀ tally₀ number₀ from₀ payload added want text turn tally number from =
-    (from ≤ length s) × (Valid (turn .taped .desk)) × (length payload ≡ length payload₀) × (length added ≡ length added₀)
+Inv-loop name s file₀ room₀ added₀ want₀ text₀ turn₀ tally₀ number₀ from₀ file room added want text turn tally number from =
+    (from ≤ length s) × (ValidTaped (turn .taped)) × (length file ≡ length file₀) × (length room ≡ length room₀) × (length added ≡ length added₀)
     × (length want ≡ length want₀) × (length text ≡ length text₀)
 
 abbrev μ-loop : tie.MeasureT-loop
-μ-loop name s payload₀ added₀ want₀ text₀ turn₀ tally₀ number₀ from₀ payload added want text turn tally number from = length s - from
+μ-loop name s file₀ room₀ added₀ want₀ text₀ turn₀ tally₀ number₀ from₀ file room added want text turn tally number from = length s - from
 
 loop-holds : tie.Need-loop-holds Inv-loop μ-loop
 loop-holds c =
-    (search needs, c .fresh .ensures, search needs, search needs, search needs, search needs)
+    (search needs, c .fresh .ensures, search needs, search needs, search needs, search needs, search needs)
 
 loop-again : tie.Need-loop-again Inv-loop μ-loop
 loop-again c =
