@@ -42,6 +42,7 @@ use Rattle.desk_rules.specs.Memory.{view}
 use Rattle.tape_rules.specs.declared.BlockAnswer.{BlockAnswer}
 use Rattle.tape_rules.specs.declared.BlockAnswer.the-variants.{Payload, Refused as block-refused}
 use Rattle.tape_rules.specs.declared.TapedAnswer.{TapedAnswer}
+use Rattle.tape_rules.specs.declared.ClosedAnswer.{ClosedAnswer}
 
 -- R31: "A refusal answers its number and nothing else.": refused with that number, or these values
 pub data Said (A : Type 0) : Type 0 where
@@ -106,6 +107,14 @@ answerSays a = replySays (a .reply)
 
 abbrev pub tapedSays : TapedAnswer → Said ℕ
 tapedSays a = replySays (a .reply)
+
+-- a day that is closed: how many blocks its tape has, and how many bytes they hold
+abbrev pub heldSays : Reply → ℕ × ℕ → Said (ℕ × ℕ)
+heldSays (Written k) held = yes held
+heldSays (Refused r) held = no (r .number)
+
+abbrev pub closedSays : ClosedAnswer → Said (ℕ × ℕ)
+closedSays a = heldSays (a .reply) (a .blocks, a .bytes)
 
 -- a line asked for: behind the last there is none, which is not refused
 abbrev pub lineSays : LineAnswer → Said (Option Line)
