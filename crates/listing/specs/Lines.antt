@@ -9,14 +9,13 @@ use Rattle.zvt_rules.specs.Message.{Message, firstOf}
 use Rattle.zvt_rules.specs.believed.Writing.{messageBytes}
 use Rattle.zvt_rules.specs.Text.{text, addAll, hexText}
 use Rattle.zvt_rules.specs.Listing.{startText, sizeText, messageText, okText, refusedText, linesFrom}
-use Rattle.zvt_rules.specs.declared.Listed.{Listed}
 use Rattle.zvt_rules.specs.declared.Outline.{Outline}
 use Rattle.listing.specs.declared.Line.{Line}
 use Rattle.listing.specs.declared.Line.the-variants.{Message as message-line, Last}
 
-unfoldable pub listedText : List Listed → List ℕ
-listedText [] = []
-listedText (l ∷ ls) = 32 ∷ (hexText (l .id) ++ listedText ls)
+unfoldable pub eachText : List ℕ → List ℕ
+eachText [] = []
+eachText (id ∷ ids) = 32 ∷ (hexText id ++ eachText ids)
 
 unfoldable pub readText : ℕ → Outline → List ℕ → List ℕ
 readText number m ids = startText number (m .class) (m .instruction) ++ (sizeText (m .length) (m .shortest) ++ ids)

@@ -3,7 +3,6 @@ use buffers::add;
 use buffers::add_all;
 use buffers::add_decimal;
 use buffers::add_hex;
-use zvt_rules::FieldAnswer;
 use zvt_rules::FirstAnswer;
 use zvt_rules::Outline;
 ghost use mathlib.Core.Path.{_≡_};
@@ -14,7 +13,7 @@ ghost use Rattle.zvt_rules.specs.Message.{readOf};
 ghost use Rattle.zvt_rules.specs.Buffers.{Whole};
 ghost use Rattle.zvt_rules.specs.Text.{text, addAll};
 ghost use Rattle.zvt_rules.specs.Listing.{startText, sizeText, endText, okText, refusedText, idsOf, listing};
-ghost use Rattle.listing.specs.Lines.{readText, nextOf, Added};
+ghost use Rattle.listing.specs.Lines.{eachText, readText, nextOf, Added};
 
 // An input of more bytes is refused before its first message.
 pub const LIMIT: usize = 65536;
@@ -28,23 +27,27 @@ enum Line {
     Last(usize),
 }
 
-// The ids of the list of the message that s is, a blank before each.
-pub fn add_ids(s: &[u8], at: usize, out: &mut [u8]) -> usize
-    ensures { λ r. ⌜ text r (now (out .exit)) ≡ addAll (idsOf (readOf (now (s .entry)))) (text at (now (out .entry))) ⌝ }
+// Ids, a blank before each.
+fn add_each(ids: &[u8], at: usize, out: &mut [u8]) -> usize
+    ensures { λ r. ⌜ text r (now (out .exit)) ≡ addAll (eachText (now (ids .entry))) (text at (now (out .entry))) ⌝ }
 {
     let mut to = at;
     let mut k: usize = 0;
-    while k < s.len() {
-        match zvt::field_at(s, k) {
-            FieldAnswer::End => return to,
-            FieldAnswer::Field(f) => {
-                to = add(b' ', to, out);
-                to = add_hex(f.id, to, out);
-            }
-        }
+    while k < ids.len() {
+        to = add(b' ', to, out);
+        to = add_hex(ids[k], to, out);
         k += 1;
     }
     to
+}
+
+// The ids of the list of the message that s is.
+pub fn add_ids(s: &[u8], at: usize, out: &mut [u8]) -> usize
+    ensures { λ r. ⌜ text r (now (out .exit)) ≡ addAll (idsOf (readOf (now (s .entry)))) (text at (now (out .entry))) ⌝ }
+{
+    let mut ids = [0u8; 256];
+    let count = zvt::ids(s, &mut ids);
+    add_each(&ids[..count], at, out)
 }
 
 // Number and pair.

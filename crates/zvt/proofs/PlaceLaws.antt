@@ -17,6 +17,7 @@ use Rattle.zvt_rules.specs.Fields.{Field, listOf}
 use Rattle.zvt_rules.specs.Message.{headerSize, layoutOf, Body, bytes, listed, Message, readOf}
 use Rattle.zvt_rules.specs.believed.Writing.{listBytes, bodyBytes, lengthBytes, messageBytes}
 use Rattle.zvt_rules.specs.believed.Grammar.{Bytes, FieldsOk, LayoutOk, MessageOk}
+use Rattle.zvt_rules.proofs.Tests.{pick-false}
 use Rattle.zvt_rules.proofs.ObjectReading.{tail}
 use Rattle.zvt_rules.proofs.FieldBytes.{list-complete}
 use Rattle.zvt_rules.proofs.FieldReading.{header-most, list-none}
@@ -26,13 +27,15 @@ use Rattle.zvt_rules.specs.declared.Refusal.{Refusal}
 use Rattle.zvt_rules.specs.declared.Outline.{Outline}
 use Rattle.zvt_rules.specs.declared.ReadAnswer.the-variants.{Accepted, Refused}
 use Rattle.zvt_rules.specs.declared.Listed.{Listed}
+use Rattle.zvt_rules.specs.declared.Span.{Span}
 use Rattle.zvt_rules.specs.declared.ListPlace.{ListPlace}
 use Rattle.zvt_rules.specs.declared.ListPlace.the-variants.{Nowhere, Between}
 use Rattle.zvt_rules.specs.Answers.{outlineOf, asReadAnswer, readAnswer}
-use Rattle.zvt_rules.specs.Listed.{listedFrom, listedBody, listedMessage, namedListed, bodyPlace, messagePlace, listPlace}
-use Rattle.zvt.specs.ListSteps.{listFields, fieldsBetween, listedIn, ListIn, Was, placeOfStatus, statusPlace}
+use Rattle.zvt_rules.specs.Listed.{listedFrom, listedBody, listedMessage, namedListed, bodyPlace, messagePlace, listPlace, nowhere, passwordIn, passwordSpan}
+use Rattle.zvt.specs.ListSteps.{listFields, fieldsBetween, listedIn, ListIn, spanPlace, noParts, PartsOf, Was, placeOfStatus, statusPlace}
 use Rattle.zvt_rules.specs.Values.{isStatus, bodyFields, statusFields}
 use Rattle.zvt_rules.specs.Name.{own, NameAt, nameIn, nameOf, nameAt}
+use Rattle.zvt.specs.declared.list.Parts.{Parts}
 use Rattle.zvt.specs.WritingSteps.{ListReads}
 use Rattle.zvt.proofs.ListedLaws.{list-empty}
 
@@ -87,7 +90,7 @@ unplaced m h = go (m .body) h
     go (listed password fs) g = absurd (let z : _≡_ {A = ℕ} 0 1 = cc in omega arith)
 
 -- ---- the place, by the layout of the body
-unfoldable pub placeBy : ℕ → ℕ → Layout → ListPlace
+unfoldable placeBy : ℕ → ℕ → Layout → ListPlace
 placeBy at end Plain = Nowhere
 placeBy at end FieldList = Between at end
 placeBy at end Secured = Between (at + 3) end
@@ -139,7 +142,7 @@ module _ (s : List ℕ) (x : Outline) (w : Was s x) where
   unfolding outlineOf
   start-small = rw (← (accepted s x (w .1) .2)) (header-most (accepted s x (w .1) .0 .long))
 
-  pub place-is : (l : Layout) → layoutOf (x .class) (x .instruction) ≡ l → placeBy (x .start) (length s) l ≡ listPlace s
+  place-is : (l : Layout) → layoutOf (x .class) (x .instruction) ≡ l → placeBy (x .start) (length s) l ≡ listPlace s
   unfolding listPlace outlineOf
   place-is l h =
       let k = accepted s x (w .1) in
@@ -189,6 +192,58 @@ list-nowhere s e h = go (readOf s) (sym e ∙ h)
 pub no-list : (s : List ℕ) → ListIn 0 0 s × (listedIn 0 0 s ≡ [])
 unfolding ListReads
 no-list s = (record { order = omega arith; inside = omega arith; short = omega arith; reads = (_, list-none [] 0 0 [] refl) }, list-empty 0 0 s refl)
+
+-- ---- the parts of a message, by the layout of its body
+unfoldable pub partsBy : ℕ → ℕ → Layout → Parts
+partsBy at end Plain = noParts
+partsBy at end FieldList = record { password = nowhere; list = record { from = at; to = end } }
+partsBy at end Secured = record { password = record { from = at; to = at + 3 }; list = record { from = at + 3; to = end } }
+
+body-password : (at end : ℕ) (l : Layout) (x : Body) → LayoutOk l x → partsBy at end l .password ≡ passwordIn at x
+unfolding partsBy passwordIn LayoutOk
+body-password at end Plain (bytes w) ok = refl
+body-password at end Plain (listed password fs) ok = absurd ok
+body-password at end FieldList (bytes w) ok = absurd ok
+body-password at end FieldList (listed [] fs) ok = refl
+body-password at end FieldList (listed (b ∷ password) fs) ok = absurd (omega (arith, ap length (ok .0)))
+body-password at end Secured (bytes w) ok = absurd ok
+body-password at end Secured (listed [] fs) ok = absurd (omega (arith, ok .0))
+body-password at end Secured (listed (b ∷ password) fs) ok = rw (← (ok .0))
+
+none-of : (s : List ℕ) → nowhere ≡ passwordSpan (readOf s) → Nowhere ≡ listPlace s → PartsOf noParts s
+unfolding spanPlace
+none-of s p e =
+    let none = no-list s in
+    record { password = p; place = e; within = none .0; fields = list-nowhere s e refl ∙ sym (none .1) }
+
+pub no-parts : (s : List ℕ) (r : Refusal) → readAnswer s ≡ Refused r → PartsOf noParts s
+unfolding passwordSpan
+no-parts s r e = none-of s (rw (not-accepted s r e .1)) (no-place s r e)
+
+module _ (s : List ℕ) (x : Outline) (w : Was s x) where
+  some : length s ≡ 0 → ⊥
+  unfolding messageBytes
+  some z = let k = accepted s x (w .1) in omega (arith, ap length (read-sound s (k .0) (w .0) (k .1) .0))
+
+  password-is : (l : Layout) → layoutOf (x .class) (x .instruction) ≡ l → partsBy (x .start) (length s) l .password ≡ passwordSpan (readOf s)
+  unfolding passwordSpan outlineOf MessageOk
+  password-is l h =
+      let k = accepted s x (w .1) in
+      let ok = read-sound s (k .0) (w .0) (k .1) .1 .0 in
+      rw (← h, ← (k .2), k .1) (body-password (headerSize (k .0 .long)) (length s) (layoutOf (k .0 .class) (k .0 .instruction)) (k .0 .body) ok)
+
+  placed-at : (p : Span) (password : Span) → password ≡ passwordSpan (readOf s) → p .to ≡ length s → Between (p .from) (p .to) ≡ listPlace s
+      → PartsOf (record { password = password; list = p }) s
+  unfolding spanPlace
+  placed-at p password h z e =
+      let k = list-at s (w .0) e refl in
+      record { password = h; place = pick-false _ _ (ne-eqb (p .to) 0 λ n. some (omega arith)) ∙ e; within = k .0; fields = k .1 }
+
+  pub parts-are : (l : Layout) → layoutOf (x .class) (x .instruction) ≡ l → PartsOf (partsBy (x .start) (length s) l) s
+  unfolding partsBy placeBy
+  parts-are Plain h = none-of s (password-is Plain h) (place-is s x w Plain h)
+  parts-are FieldList h = placed-at _ _ (password-is FieldList h) refl (place-is s x w FieldList h)
+  parts-are Secured h = placed-at _ _ (password-is Secured h) refl (place-is s x w Secured h)
 
 -- the list of a status information: which fields it has, and where the card name is
 pub record StatusIn (from end : ℕ) (s : List ℕ) : Type 0 where

@@ -3,12 +3,14 @@
 use mathlib.Core.Path.{_≡_, refl, sym, ap, _∙_}
 use mathlib.Core.Bool.{true, or-true}
 use mathlib.Core.List.{List, [], _∷_}
-use Prim.Native.Nat.{ℕ, suc, _+_}
+use Prim.Native.Nat.{ℕ, suc, _+_, _<_, _≤_}
 use native.Mathlib.Omega.{arith}
-use lib.ListN.{length, getD, replicate}
+use lib.ListN.{length, getD, set, replicate}
 use lib.Dec.{eqb}
-use borrow.Author.Tests.{eqb-true, eq-eqb}
+use borrow.Author.Tests.{lt-ltb, eqb-true, eq-eqb}
 use Rattle.zvt_rules.specs.Reading.{among}
+use Rattle.zvt_rules.specs.Buffers.{front, Whole}
+use Rattle.zvt_rules.specs.Text.{Text, text, addOne, addAll}
 use Rattle.zvt_rules.specs.Fields.{Field, fieldId}
 use Rattle.zvt_rules.specs.believed.Writing.{fieldBytes}
 use Rattle.zvt_rules.specs.believed.Grammar.{Bytes, ListOk}
@@ -16,9 +18,10 @@ use Rattle.zvt_rules.specs.declared.Listed.{Listed}
 use Rattle.zvt_rules.specs.declared.Span.{Span}
 use Rattle.zvt_rules.specs.declared.FieldAnswer.{FieldAnswer}
 use Rattle.zvt_rules.specs.declared.FieldAnswer.the-variants.{Field as listed-field, End}
-use Rattle.zvt_rules.specs.Listed.{listedAt, listedFrom, namedListed, spanOf, spansIn}
+use Rattle.zvt_rules.specs.Listed.{listedAt, listedFrom, namedListed, idsListed, nowhere, spanOf, spansIn}
 use Rattle.zvt_rules.proofs.Tests.{by-test, pick-true, pick-false, true-false}
-use Rattle.zvt.specs.ListSteps.{listedIn, ListIn, noted, notedAll}
+use Rattle.zvt_rules.proofs.Text.{put-whole}
+use Rattle.zvt.specs.ListSteps.{listedIn, ListIn, FieldHere, noted, notedAll}
 use Rattle.zvt.proofs.ValueLaws.{between-ok}
 
 -- ---- no id stands twice
@@ -62,7 +65,7 @@ unfoldable orElse : Span → FieldAnswer → Span
 orElse x End = x
 orElse x (listed-field l) = spanOf (listed-field l)
 
-or-nowhere : (x : FieldAnswer) → orElse (record { from = 0; to = 0 }) x ≡ spanOf x
+or-nowhere : (x : FieldAnswer) → orElse nowhere x ≡ spanOf x
 unfolding orElse spanOf
 or-nowhere End = refl
 or-nowhere (listed-field l) = refl
@@ -102,17 +105,17 @@ lasts-end [] (x ∷ xs) e = absurd (omega arith)
 lasts-end (id ∷ ids) [] e = absurd (omega arith)
 lasts-end (id ∷ ids) (x ∷ xs) e = ap (λ ys. x ∷ ys) (lasts-end ids xs (omega arith))
 
-lasts-first : (ids : List ℕ) (ls : List Listed) → Once ls → lasts ids (replicate (length ids) (record { from = 0; to = 0 })) ls ≡ spansIn ls ids
+lasts-first : (ids : List ℕ) (ls : List Listed) → Once ls → lasts ids (replicate (length ids) nowhere) ls ≡ spansIn ls ids
 unfolding lasts spansIn spanOf orElse
 lasts-first [] ls o = refl
 lasts-first (id ∷ ids) ls o =
-    let one : lastIn id (record { from = 0; to = 0 }) ls ≡ spanOf (namedListed id ls) = last-is id _ ls o ∙ or-nowhere (namedListed id ls) in
+    let one : lastIn id nowhere ls ≡ spanOf (namedListed id ls) = last-is id _ ls o ∙ or-nowhere (namedListed id ls) in
     rw one (ap (λ ys. spanOf (namedListed id ls) ∷ ys) (lasts-first ids ls o))
 
 pub lasts-all : (ids : List ℕ) (a e : ℕ) (s : List ℕ) → Bytes s → ListIn a e s → length ids ≡ 4
-    → lasts ids (replicate 4 (record { from = 0; to = 0 })) (listedIn a e s) ≡ spansIn (listedIn a e s) ids
+    → lasts ids (replicate 4 nowhere) (listedIn a e s) ≡ spansIn (listedIn a e s) ids
 lasts-all ids a e s b l h =
-    ap (λ n. lasts ids (replicate n (record { from = 0; to = 0 })) (listedIn a e s)) (sym h) ∙ lasts-first ids (listedIn a e s) (once-in a e s b l)
+    ap (λ n. lasts ids (replicate n nowhere) (listedIn a e s)) (sym h) ∙ lasts-first ids (listedIn a e s) (once-in a e s b l)
 
 -- ---- four of them
 abbrev fourOf : {A : Type 0} → A → List A → List A
@@ -132,3 +135,22 @@ pub noted-four : (ids : List ℕ) (l : Listed) (d : Span) (xs : List Span) → l
     ≡ notedAll ids l xs
 unfolding notedAll
 noted-four ids l d xs h k = sym (ap (λ is. notedAll is l xs) (four-of 0 ids h) ∙ ap (notedAll (fourOf 0 ids) l) (four-of d xs k))
+
+-- ---- the ids of a list, written one after the other
+pub ids-more : {at e : ℕ} {s : List ℕ} {l : Listed} → FieldHere at e s l
+    → length (idsListed (listedIn at e s)) ≡ suc (length (idsListed (listedIn (l .to) e s)))
+unfolding idsListed
+ids-more h = ap (λ ls. length (idsListed ls)) (h .all)
+
+pub ids-next : (l : Listed) (ls : List Listed) (n : ℕ) (out : List ℕ) → n < length out
+    → addAll (idsListed ls) (text (n + 1) (set out n (l .id))) ≡ addAll (idsListed (l ∷ ls)) (text n out)
+unfolding idsListed addAll addOne
+ids-next l ls n out h = sym (ap (addAll (idsListed ls)) (pick-true _ _ (lt-ltb n (length out) h)))
+
+pub ids-end : (ls : List Listed) (n : ℕ) (out entry : List ℕ) → length (idsListed ls) ≤ length entry
+    → addAll (idsListed []) (text n out) ≡ addAll (idsListed ls) (text 0 entry) → Whole (idsListed ls) n entry out
+unfolding idsListed addAll
+ids-end ls n out entry h e =
+    let w = idsListed ls in
+    let same : text n out ≡ text (length w) (front w entry) = e ∙ put-whole w entry h in
+    (ap (λ (t : Text). t .at) same, ap (λ (t : Text). t .bytes) same)

@@ -11,7 +11,7 @@ use Rattle.zvt_rules.specs.declared.Outline.{Outline}
 use Rattle.zvt_rules.specs.declared.ReadAnswer.the-variants.{Accepted}
 use Rattle.zvt_rules.specs.declared.Span.{Span}
 use Rattle.zvt_rules.specs.declared.ListPlace.{ListPlace}
-use Rattle.zvt_rules.specs.declared.ListPlace.the-variants.{Nowhere}
+use Rattle.zvt_rules.specs.declared.ListPlace.the-variants.{Nowhere, Between}
 use Rattle.zvt_rules.specs.Reading.{Reading, got, refused, pick, part}
 use Rattle.zvt_rules.specs.Limits.{mostBody}
 use Rattle.zvt_rules.specs.Fields.{Field, ListRead, listOf}
@@ -19,7 +19,8 @@ use Rattle.zvt_rules.specs.Message.{Message, readOf}
 use Rattle.zvt_rules.specs.Values.{isStatus}
 use Rattle.zvt_rules.specs.believed.Grammar.{Bytes}
 use Rattle.zvt_rules.specs.Answers.{readAnswer}
-use Rattle.zvt_rules.specs.Listed.{listedFrom, spanOf, messagePlace}
+use Rattle.zvt_rules.specs.Listed.{listedFrom, listedMessage, nowhere, spanOf, messagePlace, listPlace, passwordSpan}
+use Rattle.zvt.specs.declared.list.Parts.{Parts}
 use Rattle.zvt.specs.WritingSteps.{ListReads}
 
 -- the list between two places of s
@@ -48,6 +49,20 @@ pub record FieldHere (at e : ℕ) (s : List ℕ) (l : Listed) : Type 0 where
 pub data StandsAt (at e : ℕ) (s : List ℕ) : FieldAnswer → Type 0 where
   field : {l : Listed} → FieldHere at e s l → StandsAt at e s (listed-field l)
   none : listedIn at e s ≡ [] → StandsAt at e s End
+
+-- where the list of a message lies, if anywhere
+unfoldable pub spanPlace : Span → ListPlace
+spanPlace p = pick (eqb (p .to) 0) Nowhere (Between (p .from) (p .to))
+
+abbrev pub noParts : Parts
+noParts = record { password = nowhere; list = nowhere }
+
+-- where the password and the list of the message that s is lie: no bytes at all where it has none
+pub record PartsOf (parts : Parts) (s : List ℕ) : Type 0 where
+  pub password : parts .password ≡ passwordSpan (readOf s)
+  pub place : spanPlace (parts .list) ≡ listPlace s
+  pub within : ListIn (parts .list .from) (parts .list .to) s
+  pub fields : listedMessage (readOf s) ≡ listedIn (parts .list .from) (parts .list .to) s
 
 -- the place of a field where it has the id, else what was there before
 unfoldable pub noted : ℕ → Listed → Span → Span

@@ -19,8 +19,8 @@ use zvt_rules::FirstAnswer;
 use zvt_rules::HeaderAnswer;
 use zvt_rules::HearAnswer;
 use zvt_rules::Heard;
-use zvt_rules::Layout;
 use zvt_rules::ListPlace;
+use zvt_rules::Places;
 use zvt_rules::ReadAnswer;
 use zvt_rules::Refusal;
 use zvt_rules::ShortenAnswer;
@@ -28,9 +28,10 @@ use zvt_rules::Status;
 ghost use mathlib.Core.Path.{_≡_};
 ghost use lib.ListN.{length};
 ghost use Rattle.zvt_rules.specs.Answers.{headerAnswer, readAnswer, firstAnswer, shortenAnswer, shortenLeaves};
+ghost use Rattle.zvt_rules.specs.Buffers.{Whole};
 ghost use Rattle.zvt_rules.specs.Digits.{digitBytesOf};
 ghost use Rattle.zvt_rules.specs.Heard.{hearAnswer};
-ghost use Rattle.zvt_rules.specs.Listed.{fieldAnswer, namedAnswer, listPlace};
+ghost use Rattle.zvt_rules.specs.Listed.{fieldAnswer, namedAnswer, idsAnswer, listPlace, placesAnswer};
 ghost use Rattle.zvt_rules.specs.Name.{nameAt, cardName, namePlace};
 ghost use Rattle.zvt_rules.specs.Values.{statusOf};
 
@@ -98,34 +99,50 @@ pub fn shorten(s: &[u8], out: &mut [u8]) -> ShortenAnswer
 pub fn list_place(s: &[u8]) -> ListPlace
     ensures { λ r. ⌜ r ≡ listPlace (now (s .entry)) ⌝ }
 {
-    match read(s) {
-        ReadAnswer::Refused(_) => ListPlace::Nowhere,
-        ReadAnswer::Accepted(m) => {
-            let start = m.start;
-            let end = s.len();
-            match format::layout_of(m.class, m.instruction) {
-                Layout::Plain => ListPlace::Nowhere,
-                Layout::List => ListPlace::Between(start, end),
-                Layout::Secured => ListPlace::Between(start + 3, end),
-            }
-        }
+    let parts = list::parts_of(s);
+    let place = parts.list;
+    if place.to == 0 {
+        return ListPlace::Nowhere;
     }
+    ListPlace::Between(place.from, place.to)
 }
 
 // Field number k, from 0, of the list of the message that s is.
 pub fn field_at(s: &[u8], k: usize) -> FieldAnswer
     ensures { λ r. ⌜ r ≡ fieldAnswer k (now (s .entry)) ⌝ }
 {
-    let l = list::fields_of(s);
-    list::nth(s, l.from, l.to, k)
+    let parts = list::parts_of(s);
+    let place = parts.list;
+    list::nth(s, place.from, place.to, k)
 }
 
 // The field with that id of the list of the message that s is.
 pub fn field_named(s: &[u8], id: u8) -> FieldAnswer
     ensures { λ r. ⌜ r ≡ namedAnswer id (now (s .entry)) ⌝ }
 {
-    let l = list::fields_of(s);
-    list::named(s, l.from, l.to, id)
+    let parts = list::parts_of(s);
+    let place = parts.list;
+    list::named(s, place.from, place.to, id)
+}
+
+// Writes the ids of the list of the message that s is, in their order, and answers how many they are: none where there is no list.
+pub fn ids(s: &[u8], out: &mut [u8; 256]) -> usize
+    ensures { λ r. ⌜ Whole (idsAnswer (now (s .entry))) r (now (out .entry)) (now (out .exit)) ⌝ }
+{
+    let parts = list::parts_of(s);
+    let place = parts.list;
+    list::put_ids(s, place.from, place.to, out)
+}
+
+// Where the password and the fields with those ids lie in the message that s is.
+pub fn places(s: &[u8], ids: [u8; 4]) -> Places
+    ensures { λ r. ⌜ r ≡ placesAnswer ids (now (s .entry)) ⌝ }
+{
+    let parts = list::parts_of(s);
+    let password = parts.password;
+    let place = parts.list;
+    let fields = list::four(s, place.from, place.to, ids);
+    Places { password, fields }
 }
 
 // What the status information that s is tells; nothing of any other bytes.

@@ -1,26 +1,68 @@
 // The fields of an accepted message's list, one at a time and by their id.
 use crate::fields::field_bounds;
 use crate::format::format_of;
+use crate::format::layout_of;
 use crate::objects::BoundsRead;
 use zvt_rules::FieldAnswer;
+use zvt_rules::Layout;
 use zvt_rules::ListPlace;
 use zvt_rules::Listed;
 use zvt_rules::Outline;
 use zvt_rules::ReadAnswer;
 use zvt_rules::Span;
 ghost use mathlib.Core.Path.{_≡_};
-ghost use Rattle.zvt.specs.ListSteps.{ListIn, StandsAt, Was, statusPlace, listedIn, noted, notedAll};
-ghost use Rattle.zvt_rules.specs.Message.{readOf};
-ghost use Rattle.zvt_rules.specs.Listed.{listedMessage, nthListed, namedListed, spansIn};
+ghost use Prim.Native.Nat.{_≤_};
+ghost use lib.ListN.{length};
+ghost use Rattle.zvt.specs.ListSteps.{ListIn, PartsOf, StandsAt, Was, statusPlace, listedIn, noted, notedAll};
+ghost use Rattle.zvt_rules.specs.Buffers.{Whole};
+ghost use Rattle.zvt_rules.specs.Listed.{nthListed, namedListed, idsListed, spansIn};
 
-// Where the fields of the message that s is lie: no bytes at all where it has no list.
-pub(crate) fn fields_of(s: &[u8]) -> Span
-    ensures within { λ r. ⌜ ListIn (r .from) (r .to) (now (s .entry)) ⌝ }
-    ensures all { λ r. ⌜ listedMessage (readOf (now (s .entry))) ≡ listedIn (r .from) (r .to) (now (s .entry)) ⌝ }
+// Where the password and the list of a message lie.
+pub(crate) struct Parts {
+    pub(crate) password: Span,
+    pub(crate) list: Span,
+}
+
+const NOWHERE: Span = Span { from: 0, to: 0 };
+
+const NO_PARTS: Parts = Parts {
+    password: NOWHERE,
+    list: NOWHERE,
+};
+
+// Of a message that was read, by its layout.
+fn parts_in(s: &[u8], m: Outline) -> Parts
+    requires { ⌜ Was (now s) m ⌝ }
+    ensures { λ r. ⌜ PartsOf r (now (s .entry)) ⌝ }
 {
-    match crate::list_place(s) {
-        ListPlace::Nowhere => Span { from: 0, to: 0 },
-        ListPlace::Between(from, to) => Span { from, to },
+    let start = m.start;
+    let to = s.len();
+    match layout_of(m.class, m.instruction) {
+        Layout::Plain => NO_PARTS,
+        Layout::List => Parts {
+            password: NOWHERE,
+            list: Span { from: start, to },
+        },
+        Layout::Secured => {
+            let from = start + 3;
+            Parts {
+                password: Span {
+                    from: start,
+                    to: from,
+                },
+                list: Span { from, to },
+            }
+        }
+    }
+}
+
+// Of the message that s is.
+pub(crate) fn parts_of(s: &[u8]) -> Parts
+    ensures { λ r. ⌜ PartsOf r (now (s .entry)) ⌝ }
+{
+    match crate::read(s) {
+        ReadAnswer::Refused(_) => NO_PARTS,
+        ReadAnswer::Accepted(m) => parts_in(s, m),
     }
 }
 
@@ -135,8 +177,7 @@ pub(crate) fn four(s: &[u8], from: usize, end: usize, ids: [u8; 4]) -> [Span; 4]
     requires { ⌜ ListIn from end (now s) ⌝ }
     ensures { λ r. ⌜ r ≡ spansIn (listedIn from end (now (s .entry))) ids ⌝ }
 {
-    let nowhere = Span { from: 0, to: 0 };
-    let mut found = [nowhere; 4];
+    let mut found = [NOWHERE; 4];
     let mut at = from;
     loop {
         match field_from(s, at, end) {
@@ -144,6 +185,25 @@ pub(crate) fn four(s: &[u8], from: usize, end: usize, ids: [u8; 4]) -> [Span; 4]
             FieldAnswer::Field(f) => {
                 let next = noted_all(found, ids, f);
                 found = next;
+                at = f.to;
+            }
+        }
+    }
+}
+
+// Writes the ids of a list, for which there is room, and answers how many they are.
+pub(crate) fn put_ids(s: &[u8], from: usize, end: usize, out: &mut [u8]) -> usize
+    requires { ⌜ ListIn from end (now s) × (length (idsListed (listedIn from end (now s))) ≤ length (now out)) ⌝ }
+    ensures { λ r. ⌜ Whole (idsListed (listedIn from end (now (s .entry)))) r (now (out .entry)) (now (out .exit)) ⌝ }
+{
+    let mut at = from;
+    let mut n: usize = 0;
+    loop {
+        match field_from(s, at, end) {
+            FieldAnswer::End => return n,
+            FieldAnswer::Field(f) => {
+                out[n] = f.id;
+                n += 1;
                 at = f.to;
             }
         }

@@ -19,6 +19,7 @@ pub mod MessageBytes
 pub mod MessageShort
 pub mod Fewest
 pub mod Found
+pub mod ListSize
 pub mod Names
 pub mod Numbers
 pub mod Listing
@@ -29,3 +30,4 @@ pub mod RowFields
 pub mod RowMessages
 pub mod StatusLaws
 pub mod AnswerLaws
+pub mod HeardLaws

@@ -9,6 +9,7 @@ use Rattle.zvt_rules.specs.declared.FieldAnswer.the-variants.{Field as l
 use Rattle.zvt_rules.specs.declared.ListPlace.{ListPlace}
 use Rattle.zvt_rules.specs.declared.ListPlace.the-variants.{Nowhere, Between}
 use Rattle.zvt_rules.specs.declared.Span.{Span}
+use Rattle.zvt_rules.specs.declared.Places.{Places}
 use Rattle.zvt_rules.specs.Reading.{Reading, got, refused, pick}
 use Rattle.zvt_rules.specs.Fields.{Field, fieldId}
 use Rattle.zvt_rules.specs.Message.{headerSize, Body, bytes, listed, Message, readOf}
@@ -50,9 +51,21 @@ fieldAnswer k s = nthListed k (listedMessage (readOf s))
 unfoldable pub namedAnswer : ℕ → List ℕ → FieldAnswer
 namedAnswer id s = namedListed id (listedMessage (readOf s))
 
--- where a value lies, and where those of the fields with some ids lie: nothing lies from 0 to 0
+-- the ids of them all, in their order
+unfoldable pub idsListed : List Listed → List ℕ
+idsListed [] = []
+idsListed (l ∷ ls) = l .id ∷ idsListed ls
+
+unfoldable pub idsAnswer : List ℕ → List ℕ
+idsAnswer s = idsListed (listedMessage (readOf s))
+
+-- nothing lies from 0 to 0
+abbrev pub nowhere : Span
+nowhere = record { from = 0; to = 0 }
+
+-- where a value lies, and where those of the fields with some ids lie
 unfoldable pub spanOf : FieldAnswer → Span
-spanOf End = record { from = 0; to = 0 }
+spanOf End = nowhere
 spanOf (listed-field l) = record { from = l .from; to = l .to }
 
 unfoldable pub spansIn : List Listed → List ℕ → List Span
@@ -70,3 +83,16 @@ messagePlace (refused f) = Nowhere
 
 unfoldable pub listPlace : List ℕ → ListPlace
 listPlace s = messagePlace (readOf s)
+
+-- M6: "a password of three bytes, then a field list": where it lies, if the message has one
+unfoldable pub passwordIn : ℕ → Body → Span
+passwordIn at (bytes s) = nowhere
+passwordIn at (listed [] fs) = nowhere
+passwordIn at (listed (b ∷ password) fs) = record { from = at; to = at + length (b ∷ password) }
+
+unfoldable pub passwordSpan : Reading Message → Span
+passwordSpan (got m) = passwordIn (headerSize (m .long)) (m .body)
+passwordSpan (refused f) = nowhere
+
+unfoldable pub placesAnswer : List ℕ → List ℕ → Places
+placesAnswer ids s = record { password = passwordSpan (readOf s); fields = spansIn (listedMessage (readOf s)) ids }

@@ -131,6 +131,12 @@ pub struct Span {
     pub to: usize,
 }
 
+// Where a message's password lies, and the fields with four ids.
+pub struct Places {
+    pub password: Span,
+    pub fields: [Span; 4],
+}
+
 // What a message tells a desk: the first byte of a plain body, and what a status information tells.
 pub struct ToldBody {
     pub first: ToldCode,

@@ -7,7 +7,7 @@ use Rattle.zvt.proofs.field_at.Tie as tie
 
 returns : tie.Need-returns
 unfolding fieldAnswer
-returns c = c .nth .ensures ∙ ap (nthListed _) (sym (c .before .fields-of .ensures .1))
+returns c = c .nth .ensures ∙ ap (nthListed _) (sym (c .before .before .parts-of .ensures .fields))
 
 pub field-at-spec : {M : Type 1} → statement M
-field-at-spec = tie.close (tie.spec (λ c κs. search needs) (λ c κs. c .fields-of .ensures .0) returns)
+field-at-spec = tie.close (tie.spec (λ c κs. search needs) (λ c κs. c .before .parts-of .ensures .within) returns)

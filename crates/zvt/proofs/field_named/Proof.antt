@@ -7,7 +7,7 @@ use Rattle.zvt.proofs.field_named.Tie as tie
 
 returns : tie.Need-returns
 unfolding namedAnswer
-returns c = c .named .ensures ∙ ap (namedListed _) (sym (c .before .fields-of .ensures .1))
+returns c = c .named .ensures ∙ ap (namedListed _) (sym (c .before .before .parts-of .ensures .fields))
 
 pub field-named-spec : {M : Type 1} → statement M
-field-named-spec = tie.close (tie.spec (λ c κs. search needs) (λ c κs. c .fields-of .ensures .0) returns)
+field-named-spec = tie.close (tie.spec (λ c κs. search needs) (λ c κs. c .before .parts-of .ensures .within) returns)
