@@ -1,8 +1,8 @@
 -- What an answer of the tape's functions says of the reading or the decision behind it. Assumes nothing.
 use mathlib.Core.Path.{_≡_, refl, sym, ap, _∙_}
-use mathlib.Core.Logic.{_↔_, Iff·trans, inr}
+use mathlib.Core.Logic.{_↔_, inr}
 use mathlib.Core.List.{List, []}
-use Prim.Native.Nat.{ℕ, _+_, _*_, _<_, _≤_}
+use Prim.Native.Nat.{ℕ, _+_, _<_, _≤_}
 use native.Mathlib.Omega.{arith}
 use lib.ListN.{length, take, drop}
 use Rattle.zvt_rules.specs.Reading.{Reading, got, refused}
@@ -23,9 +23,10 @@ use Rattle.tape_rules.specs.declared.ClosedAnswer.{ClosedAnswer}
 use Rattle.tape_rules.specs.Tape.{blocksFor}
 use Rattle.tape_rules.specs.Tails.{Tidy}
 use Rattle.tape_rules.specs.Recording.{freshTaped, ValidTaped, blockAnswer, writtenAnswer, decideTaped, tapedAnswer, tapedOut, tapedRoom}
-use Rattle.tape_rules.specs.Recording.{heldBytes, closedBy, closeTaped}
-use Rattle.tape_rules.proofs.Taping.{taped-taken, taped-refused, taped-accepted, ten-blocks, tape-enough, closed}
-use Rattle.promises.specs.Answers.{no, yes, replySays, tapedSays, closedSays, blockSays, Open}
+use Rattle.tape_rules.specs.Recording.{heldBytes, closeTaped}
+use Rattle.tape_rules.proofs.Taping.{taped-taken, taped-refused, taped-accepted, ten-blocks, tape-enough, closed, close-kept}
+use Rattle.promises.specs.Answers.{no, yes, replySays, tapedSays, blockSays, Open}
+use Rattle.promises.specs.TapeDays.{ClosedRow, still-open, all-ended}
 use Rattle.promises.proofs.Answers.{No, no-same, yes-same, no-yes, said, said-no, said-yes}
 use Rattle.promises.proofs.Answers.{left-same, left-first, left-beyond, closing-no, closing-yes}
 
@@ -151,54 +152,40 @@ lost-taken t v i room l busy few much =
     ap replySays (room-enough t (lost i) [] room v tt few much ∙ ap (λ (a : Answer). a .reply) (accepted-answer (t .desk) (lost i) 0 e))
 
 -- ---- closing
+reply-no : (r : Reply) (n : ℕ) → replySays r ≡ no n → r ≡ Refused (record { number = n })
+reply-no (Written k) n h = absurd (no-yes (sym h))
+reply-no (Refused r) n h = ap (λ (m : ℕ). Refused (record { number = m })) (no-same h)
+
 reply-yes : (r : Reply) (k : ℕ) → replySays r ≡ yes k → r ≡ Written k
 reply-yes (Written j) k h = ap Written (yes-same h)
 reply-yes (Refused r) k h = absurd (no-yes h)
 
-module _ (t : Taped) where
-  closed-no : (r : Reply) (n : ℕ) → (closedSays (closedBy r t) ≡ no n) ↔ (replySays r ≡ no n)
-  unfolding closedBy
-  closed-no (Written k) n = (λ h. absurd (no-yes (sym h)), λ h. absurd (no-yes (sym h)))
-  closed-no (Refused r) n = (λ h. ap no (no-same h), λ h. ap no (no-same h))
+module _ (t : Taped) (v : ValidTaped t) where
+  valid : Valid (t .desk)
+  unfolding ValidTaped
+  valid = v .0
 
-  pub close-taped-same : (n : ℕ) → closedSays (closeTaped t) ≡ no n → closeTaped t .taped ≡ t
-  unfolding closeTaped closedBy
-  close-taped-same n = go (closeAnswer (t .desk) .reply)
+  kept : Open (t .desk) → closeTaped t ≡ record { reply = Refused (record { number = 19 }); blocks = 0; bytes = 0; taped = t }
+  kept o = close-kept t _ (reply-no _ 19 (closing-no (t .desk) valid 19 .1 (o, refl)))
+
+  ended : (Open (t .desk) → ⊥)
+      → closeTaped t ≡ record { reply = Written 0; blocks = blocksFor (heldBytes (t .tail)); bytes = heldBytes (t .tail); taped = freshTaped }
+  ended n = closed t 0 (reply-yes _ 0 (closing-yes (t .desk) valid .1 n .0))
+
+  row-closed : {a : ClosedAnswer} → ClosedRow t a → closeTaped t ≡ a
+  row-closed (still-open o) = kept o
+  row-closed (all-ended {blocks} {bytes} n held least most) =
+      let pieces : blocksFor (heldBytes (t .tail)) ≡ blocks = omega arith in
+      ended n ∙ rw (pieces, ← held)
+
+  closed-row : ClosedRow t (closeTaped t)
+  closed-row = go (closeAnswer (t .desk) .reply) refl
     where
-      go : (r : Reply) → closedSays (closedBy r t) ≡ no n → closedBy r t .taped ≡ t
-      go (Written k) h = absurd (no-yes (sym h))
-      go (Refused r) h = refl
+      go : (r : Reply) → closeAnswer (t .desk) .reply ≡ r → ClosedRow t (closeTaped t)
+      go (Written k) e =
+          let n : Open (t .desk) → ⊥ = λ o. no-yes (sym (closing-no (t .desk) valid 19 .1 (o, refl)) ∙ ap replySays e) in
+          rw (ended n) (all-ended {blocks = blocksFor (heldBytes (t .tail))} n refl (omega arith) (omega arith))
+      go (Refused r) e = let o = closing-no (t .desk) valid (r .number) .0 (ap replySays e) .0 in rw (kept o) (still-open o)
 
-  -- what is told, and left, where closing is not refused
-  abbrev Ends : ClosedAnswer → ℕ × ℕ → Type 0
-  Ends a held = (a .taped ≡ freshTaped) × ((blocksFor (heldBytes (t .tail)), heldBytes (t .tail)) ≡ held)
-
-  pub close-taped-told : (held : ℕ × ℕ) → closedSays (closeTaped t) ≡ yes held → Ends (closeTaped t) held
-  unfolding closeTaped closedBy
-  close-taped-told held = go (closeAnswer (t .desk) .reply)
-    where
-      go : (r : Reply) → closedSays (closedBy r t) ≡ yes held → Ends (closedBy r t) held
-      go (Written k) h = (refl, yes-same h)
-      go (Refused r) h = absurd (no-yes h)
-
-  module _ (v : ValidTaped t) where
-    valid : Valid (t .desk)
-    unfolding ValidTaped
-    valid = v .0
-
-    pub close-taped-no : (n : ℕ) → (closedSays (closeTaped t) ≡ no n) ↔ (Open (t .desk) × (19 ≡ n))
-    unfolding closeTaped
-    close-taped-no n = Iff·trans (closed-no (closeAnswer (t .desk) .reply) n) (closing-no (t .desk) valid n)
-
-    pub close-taped-yes : (blocks bytes : ℕ) → (closedSays (closeTaped t) ≡ yes (blocks, bytes))
-        ↔ ((Open (t .desk) → ⊥) × (bytes ≡ t .tail .full * 504 + t .tail .used) × (bytes ≤ blocks * 504) × (blocks * 504 < bytes + 504))
-    close-taped-yes blocks bytes = (
-      λ e.
-          let k = close-taped-told (blocks, bytes) e .1 in
-          let held : heldBytes (t .tail) ≡ bytes = ap (λ (p : ℕ × ℕ). p .1) k in
-          let pieces : blocksFor (heldBytes (t .tail)) ≡ blocks = ap (λ (p : ℕ × ℕ). p .0) k in
-          (λ o. no-yes (sym (close-taped-no 19 .1 (o, refl)) ∙ e), sym held, omega arith, omega arith),
-      λ k.
-          let pieces : blocksFor (heldBytes (t .tail)) ≡ blocks = omega arith in
-          rw (closed t 0 (reply-yes _ 0 (closing-yes (t .desk) valid .1 (k .0) .0)), pieces, ← (k .1)),
-    )
+  pub close-exactly : (a : ClosedAnswer) → (closeTaped t ≡ a) ↔ ClosedRow t a
+  close-exactly a = (λ e. rw e at closed-row, row-closed)

@@ -5,28 +5,31 @@ use mathlib.Core.Logic.{_↔_}
 use mathlib.Core.List.{List, [], _∷_, _++_}
 use Prim.Native.Nat.{ℕ, _+_, _-_, _*_, _<_, _≤_, min}
 use native.Mathlib.Omega.{arith}
-use lib.ListN.{length, take, drop, length-append, length-take, length-drop, drop-of-length-le}
+use lib.ListN.{length, take, drop, replicate, length-append, length-replicate, length-take, length-drop, drop-of-length-le}
 use lib.Seq.{take-at, take-take, take-add, drop-append-seam, length-take-le}
 use lib.Dec.{ltb}
 use borrow.Author.Tests.{ltb-true, ltb-false}
 use Rattle.zvt_rules.specs.Reading.{got}
 use Rattle.zvt_rules.proofs.Readings.{got-same}
 use Rattle.zvt_rules.proofs.Tests.{by-test}
+use Rattle.desk_rules.specs.declared.Desk.{Desk}
+use Rattle.desk_rules.specs.declared.Reply.{Reply}
 use Rattle.desk_rules.specs.declared.Reply.the-variants.{Written}
 use Rattle.desk_rules.specs.Course.{Call, NumbersFit}
-use Rattle.desk_rules.specs.Desk.{fresh, Decision, refuse, accept, Accepted, run}
-use Rattle.desk_rules.specs.Memory.{view}
+use Rattle.desk_rules.specs.Desk.{fresh, Decision, refuse, accept, Accepted}
+use Rattle.desk_rules.specs.Memory.{answerOf}
 use Rattle.tape_rules.specs.declared.Taped.{Taped}
 use Rattle.tape_rules.specs.declared.TapedAnswer.{TapedAnswer}
+use Rattle.tape_rules.specs.declared.ClosedAnswer.{ClosedAnswer}
 use Rattle.tape_rules.specs.Records.{Record, entriesOf, recorded}
 use Rattle.tape_rules.specs.Tape.{cut}
-use Rattle.tape_rules.specs.Recording.{ValidTaped, readTape, closeTaped}
+use Rattle.tape_rules.specs.Recording.{freshTaped, ValidTaped, readTape}
 use Rattle.tape_rules.specs.Taping.{TapeTurn, Day, freshDay, decideTurn, afterTurn, tapedRun, keptIf, keptCalls}
 use Rattle.tape_rules.specs.believed.Blocks.{usedOf}
 use Rattle.tape_rules.specs.believed.Tapes.{blockAt, DrawnTape}
 use Rattle.tape_rules.specs.believed.Recorded.{Joined, and-then, CallRecords, of-opening, unanswered, answered-by, of-lost, DayRecords, EndsBehind}
 use Rattle.tape_rules.specs.believed.Recorded.{TapedRow, own, no-number, no-space, taken}
-use Rattle.tape_rules.specs.believed.Filed.{Filed, Played}
+use Rattle.tape_rules.specs.believed.Filed.{Filed, Played, over, refused-one, accepted-one}
 use Rattle.tape_rules.proofs.Masks.{Each}
 use Rattle.tape_rules.proofs.RecordLaws.{joined-once, records-exactly, payload-exactly}
 use Rattle.tape_rules.proofs.TapeRows.{payload-drawn, read-tape-drawn}
@@ -34,9 +37,10 @@ use Rattle.tape_rules.proofs.TailLaws.{tidy-of}
 use Rattle.tape_rules.proofs.Filing.{TurnFits, day-follows, file-follows, file-drawn, full-stays}
 use Rattle.tape_rules.proofs.Playing.{TurnOfBytes, fresh-whole, played-exactly}
 use Rattle.promises.specs.Answers.{yes, replySays, closedSays}
-use Rattle.promises.specs.TapeDays.{LentBytes, exchanges}
+use Rattle.promises.specs.Days.{DeskTurn, callsIn, OfBytes, Taken, deskAfter}
+use Rattle.promises.specs.TapeDays.{LentBytes, exchanges, DeskAlone, ClosedRow, still-open, all-ended}
 use Rattle.promises.proofs.Answers.{no-yes}
-use Rattle.promises.proofs.TapeAnswers.{close-taped-yes}
+use Rattle.promises.proofs.Turns as turns
 
 -- ---- what is lent to a day is of bytes
 lent : (us : List TapeTurn) → LentBytes us → Each TurnOfBytes us
@@ -73,7 +77,6 @@ pub record Known (e : Day) (cs : List Call) (p : List ℕ) : Type 0 where
   pub payload : recorded fresh cs ≡ p
   pub accepted : Accepted fresh cs
   pub fit : Each NumbersFit cs
-  pub state : view (e .taped .desk) ≡ run fresh cs
   pub valid : ValidTaped (e .taped)
   pub drawn : DrawnTape p (e .file) (length (cut p))
   pub ends : EndsBehind 0 p (e .taped .tail)
@@ -93,7 +96,6 @@ a-day us b e cs played =
           payload = refl;
           accepted = f .0;
           fit = kept-fit us freshDay b;
-          state = f .1;
           valid = (day-follows us n .files .valid, rw (f .2) (tidy-of _));
           drawn = d .0;
           ends = d .1;
@@ -138,12 +140,12 @@ module _ {e : Day} {cs : List Call} {p : List ℕ} (k : Known e cs p) where
   is-full j h = omega (arith, used-at j)
 
   -- T22: what closing says is what the file has
-  pub closing-tells : (blocks bytes : ℕ) → closedSays (closeTaped (e .taped)) ≡ yes (blocks, bytes)
-      → DrawnTape p (e .file) blocks × (length p ≡ bytes)
-  closing-tells blocks bytes h =
-      let c = close-taped-yes (e .taped) (k .valid) blocks bytes .0 h in
+  pub closing-tells : {a : ClosedAnswer} {n : ℕ} → ClosedRow (e .taped) a → closedSays a ≡ yes n
+      → DrawnTape p (e .file) (a .blocks) × (length p ≡ a .bytes) × (a .taped ≡ freshTaped)
+  closing-tells (still-open o) h = absurd (no-yes h)
+  closing-tells (all-ended {blocks} {bytes} o held least most) h =
       let n : length (cut p) ≡ blocks = omega arith in
-      (rw n at (k .drawn), omega arith)
+      (rw n at (k .drawn), omega arith, refl)
 
 -- ---- T23: only the end changes
 part-same : (n m : ℕ) (s t : List ℕ) → take (n + m) s ≡ take (n + m) t → take m (drop n s) ≡ take m (drop n t)
@@ -169,7 +171,7 @@ full-is-kept us vs b c d e cs ds first then j h =
     let stays = full-stays us vs (fits us b) (fits vs c) (j + 1) (rw (before .0) (omega arith)) in
     block-same (j + 1) j (e .file) (d .file) (rw (before .0, after .0) at stays) (omega arith)
 
--- ---- T23: where the blocks of an accepted call lie
+-- ---- an accepted call: the desk alone takes it, and its blocks lie behind the full ones
 some-bytes : {r : Record} {rs : List Record} {s : List ℕ} → Joined (r ∷ rs) s → 1 ≤ length s
 some-bytes (and-then lane direction high low content rs s e l most more) = omega arith
 
@@ -179,21 +181,68 @@ some-records (unanswered i s w r) j = some-bytes j
 some-records (answered-by i s w b t r) j = some-bytes j
 some-records (of-lost i) j = some-bytes j
 
-record Placed (t : Taped) (a : TapedAnswer) (left : List ℕ) : Type 0 where
+record Placed (t : Taped) (c : Call) (out : ℕ) (a : TapedAnswer) (left : List ℕ) : Type 0 where
+  alone : answerOf (t .desk) c out ≡ record { reply = a .reply; desk = a .taped .desk }
   first : a .first ≡ t .tail .full + 1
   some : 1 ≤ a .blocks
   held : a .blocks * 512 ≤ length left
 
 placed : {t : Taped} {c : Call} {out : ℕ} {room : List ℕ} {a : TapedAnswer} {left : List ℕ} {k : ℕ}
-    → TapedRow t c out room a left → a .reply ≡ Written k → Placed t a left
+    → TapedRow t c out room a left → a .reply ≡ Written k → Placed t c out a left
 placed (own h) e = absurd (no-yes (ap replySays e))
 placed (no-number h p l) e = absurd (no-yes (ap replySays e))
 placed (no-space h p few l) e = absurd (no-yes (ap replySays e))
-placed {t} {room} (taken {n} {q} {s} h p few l ends drawn) e =
+placed {t} {c} {out} {room} (taken {n} {q} {s} h p few l ends drawn) e =
     let r = some-records (p .drawn .1) (p .drawn .2) in
     let size = length-append (take (t .tail .used) (t .tail .part)) (p .records) in
-    record { first = refl; some = omega (arith, ap length (p .behind)); held = omega (arith, length-append s (drop (n * 512) room)) }
+    record {
+      alone = ap (λ (x : Reply). record { reply = x; desk = answerOf (t .desk) c out .desk }) h;
+      first = refl;
+      some = omega (arith, ap length (p .behind));
+      held = omega (arith, length-append s (drop (n * 512) room));
+    }
 
+-- ---- the accepted calls are a day at the desk alone
+record Follows (d : Desk) (cs : List Call) (e : Desk) : Type 0 where
+  day : List DeskTurn
+  same : callsIn day ≡ cs
+  taken : Taken d day
+  leaves : deskAfter d day ≡ e
+
+follows : {d e : Day} {us : List TapeTurn} {cs : List Call} → Played d us e cs → Follows (d .taped .desk) cs (e .taped .desk)
+unfolding callsIn Taken deskAfter
+follows over = record { day = []; same = refl; taken = tt; leaves = refl }
+follows (refused-one row more) = follows more
+follows (accepted-one {d} {u} {a} {k} row y reply new more) =
+    let r = follows more in
+    let c = u .call in
+    let x = ap (answerOf (d .taped .desk) c) (length-replicate {A = ℕ} (u .out) 0) ∙ placed row reply .alone in
+    record {
+      day = record { call = c; out = replicate (u .out) 0 } ∷ r .day;
+      same = ap (λ (cs : List Call). c ∷ cs) (r .same);
+      taken = rw (x, reply) ((k, refl), r .taken);
+      leaves = rw x (r .leaves);
+    }
+
+of-bytes : (cs : List Call) → Each NumbersFit cs → OfBytes cs
+unfolding OfBytes
+of-bytes [] b = tt
+of-bytes (c ∷ cs) b = (b .0, of-bytes cs (b .1))
+
+pub alone : {us : List TapeTurn} {e : Day} {cs : List Call} {p : List ℕ} → Played freshDay us e cs → Known e cs p → DeskAlone cs (e .taped .desk)
+alone {cs} played k =
+    let f = follows played in
+    let b : OfBytes (callsIn (f .day)) = rw (f .same) (of-bytes cs (k .fit)) in
+    record {
+      day = f .day;
+      same = f .same;
+      bytes = b;
+      taken = f .taken;
+      leaves = f .leaves;
+      writes = rw (turns.a-day (f .day) b (f .taken) .wrote-same, f .same);
+    }
+
+-- ---- T23: where the blocks of an accepted call lie
 module _ {e : Day} {cs : List Call} {p : List ℕ} (k : Known e cs p) {c : Call} {out n : ℕ} {room left : List ℕ} {a : TapedAnswer}
     (row : TapedRow (e .taped) c out room a left) (reply : a .reply ≡ Written n) where
   -- a write that is torn off leaves each full block

@@ -22,11 +22,12 @@ use Rattle.desk_rules.specs.declared.Phase.the-variants.{Idle}
 use Rattle.desk_rules.specs.declared.Lane.{Lane}
 use Rattle.desk_rules.specs.declared.Reply.the-variants.{Written}
 use Rattle.desk_rules.specs.Course.{Call, lost, heard, NumbersFit}
-use Rattle.desk_rules.specs.Desk.{fresh, Accepted, run}
+use Rattle.desk_rules.specs.Desk.{fresh}
 use Rattle.desk_rules.specs.Memory.{view, answerOf, leavesOf}
 use Rattle.desk_rules.specs.believed.Table.{phaseAt}
 use Rattle.tape_rules.specs.declared.Taped.{Taped}
 use Rattle.tape_rules.specs.declared.TapedAnswer.{TapedAnswer}
+use Rattle.tape_rules.specs.declared.ClosedAnswer.{ClosedAnswer}
 use Rattle.tape_rules.specs.Block.{blockBytes, writeBlock, readBlock}
 use Rattle.tape_rules.specs.Records.{Record, masked, recorded}
 use Rattle.tape_rules.specs.Recording.{freshTaped, ValidTaped, blockAnswer, writtenAnswer, writeTape, readTape}
@@ -46,8 +47,8 @@ use Rattle.tape_rules.proofs.Places.{on-tape}
 use Rattle.tape_rules.proofs.Unseen.{mask-heard}
 use Rattle.tape_rules.proofs.Taping.{taped-table, taped-valid, close-taped-valid}
 use Rattle.tape_rules.proofs.Playing.{fresh-whole}
-use Rattle.promises.specs.TapeDays.{LentBytes, exchanges, Hiding, AlikeDays}
-use Rattle.promises.specs.Answers.{no, yes, replySays, tapedSays, closedSays, blockSays, Open}
+use Rattle.promises.specs.TapeDays.{LentBytes, exchanges, DeskAlone, ClosedRow, Hiding, AlikeDays}
+use Rattle.promises.specs.Answers.{no, yes, replySays, tapedSays, closedSays, blockSays}
 use Rattle.promises.proofs.TapeAnswers as answers
 use Rattle.promises.proofs.TapeDays as days
 use Rattle.promises.proofs.Secrets as secrets
@@ -194,9 +195,10 @@ module _ (day : List TapeTurn) (b : LentBytes day) (atEnd : Day) (calls : List C
   known : days.Known atEnd calls (recorded fresh calls)
   known = days.a-day day b atEnd calls played
 
-  -- The desk is what its accepted calls make of it: refused ones leave no trace.
-  pub desk-of-day : Accepted fresh calls × (view (atEnd .taped .desk) ≡ run fresh calls)
-  desk-of-day = (known .accepted, known .state)
+  -- The desk is what its accepted calls alone make of it: refused ones leave no trace, and what the demands and the questions say of a day at
+  -- the desk holds of it.
+  pub desk-of-day : DeskAlone calls (atEnd .taped .desk)
+  desk-of-day = days.alone played known
 
   -- And the till's file is exactly the tape of the accepted calls and their replies, whatever rooms were lent to them.
   pub tape-of-day : DayTape (exchanges calls) (atEnd .file)
@@ -229,23 +231,17 @@ module _ (day : List TapeTurn) (b : LentBytes day) (atEnd : Day) (calls : List C
         → (k : ℕ) → usedOf (blockAt k (atEnd .file)) ≡ 504 → blockAt k torn ≡ blockAt k (atEnd .file)
     torn-write = days.torn-off known row reply
 
-  -- T22: "Closing says how many blocks the day's tape has and how many bytes they hold, and begins a new, empty one.": so many the file has.
-  pub closing-says : (blocks bytes : ℕ) → closedSays (closeTaped (atEnd .taped)) ≡ yes (blocks, bytes)
-      → (p : List ℕ) × DrawnTape p (atEnd .file) blocks × (length p ≡ bytes) × (closeTaped (atEnd .taped) .taped ≡ freshTaped)
-  closing-says blocks bytes h =
-      let k = days.closing-tells known blocks bytes h in
-      (recorded fresh calls, k .0, k .1, answers.close-taped-told (atEnd .taped) (blocks, bytes) h .0)
+  -- What closing says of the day's tape, its blocks and the bytes that they hold, is what the file has; and a new, empty one begins.
+  pub closing-says : (n : ℕ) → let a = closeTaped (atEnd .taped) in
+      closedSays a ≡ yes n → (p : List ℕ) × DrawnTape p (atEnd .file) (a .blocks) × (length p ≡ a .bytes) × (a .taped ≡ freshTaped)
+  closing-says n h =
+      let k = days.closing-tells known (answers.close-exactly (atEnd .taped) (known .valid) _ .0 refl) h in
+      (recorded fresh calls, k .0, k .1, k .2)
 
--- ---- R19, T22: closing
-module _ (t : Taped) (v : ValidTaped t) where
-  -- A payment is open, and nothing else keeps the day from being closed.
-  pub close-taped-refused-exactly : (n : ℕ) → (closedSays (closeTaped t) ≡ no n) ↔ (Open (t .desk) × (19 ≡ n))
-  close-taped-refused-exactly = answers.close-taped-no t v
-
-  -- Else it is closed, with the bytes of the full blocks and of the open one, and the blocks that so many bytes take.
-  pub close-taped-exactly : (blocks bytes : ℕ) → (closedSays (closeTaped t) ≡ yes (blocks, bytes))
-      ↔ ((Open (t .desk) → ⊥) × (bytes ≡ t .tail .full * 504 + t .tail .used) × (bytes ≤ blocks * 504) × (blocks * 504 < bytes + 504))
-  close-taped-exactly = answers.close-taped-yes t v
+-- What is answered to a closing, and left, is what one row says: refused with 19 exactly where a payment is open, and then all stays; else
+-- the bytes that the tape holds, as many blocks as they take, and a fresh desk with an empty tape.
+pub close-taped-exactly : (t : Taped) → ValidTaped t → (a : ClosedAnswer) → (closeTaped t ≡ a) ↔ ClosedRow t a
+close-taped-exactly = answers.close-exactly
 
 -- ---- T14 to T17: what must not be on the tape
 
@@ -324,10 +320,6 @@ write-unchanged = answers.written-same
 pub taped-unchanged : (t : Taped) (c : Call) (out room : List ℕ) (n : ℕ) → tapedSays (tapedAnswer t c (length out) (length room)) ≡ no n
     → (tapedAnswer t c (length out) (length room) .taped ≡ t) × (tapedOut t c (length room) out ≡ out) × (tapedRoom t c (length out) room ≡ room)
 taped-unchanged = answers.taped-same
-
--- A refused closing leaves desk and tape as they were.
-pub close-taped-unchanged : (t : Taped) (n : ℕ) → closedSays (closeTaped t) ≡ no n → closeTaped t .taped ≡ t
-close-taped-unchanged = answers.close-taped-same
 
 -- ---- R33: "Success leaves the bytes of a lent buffer behind those written as they were."
 

@@ -108,13 +108,8 @@ answerSays a = replySays (a .reply)
 abbrev pub tapedSays : TapedAnswer → Said ℕ
 tapedSays a = replySays (a .reply)
 
--- a day that is closed: how many blocks its tape has, and how many bytes they hold
-abbrev pub heldSays : Reply → ℕ × ℕ → Said (ℕ × ℕ)
-heldSays (Written k) held = yes held
-heldSays (Refused r) held = no (r .number)
-
-abbrev pub closedSays : ClosedAnswer → Said (ℕ × ℕ)
-closedSays a = heldSays (a .reply) (a .blocks, a .bytes)
+abbrev pub closedSays : ClosedAnswer → Said ℕ
+closedSays a = replySays (a .reply)
 
 -- a line asked for: behind the last there is none, which is not refused
 abbrev pub lineSays : LineAnswer → Said (Option Line)
