@@ -11,12 +11,17 @@ use Rattle.desk_rules.specs.declared.Reply.{Reply}
 use Rattle.desk_rules.specs.declared.Reply.the-variants.{Written, Refused}
 use Rattle.desk_rules.specs.declared.Answer.{Answer}
 use Rattle.desk_rules.specs.declared.Phase.the-variants.{Idle}
+use Rattle.desk_rules.specs.declared.Lane.{Lane}
+use Rattle.desk_rules.specs.declared.Line.{Line}
+use Rattle.desk_rules.specs.declared.Desk.{Desk}
 use Rattle.desk_rules.specs.Course.{Call, lost, NumbersFit, writes}
-use Rattle.desk_rules.specs.Desk.{Decision, refuse, accept, decide}
+use Rattle.desk_rules.specs.Desk.{State, Decision, refuse, accept, decide}
 use Rattle.desk_rules.specs.Memory.{view, Valid, refusedAnswer, answerOf, leavesOf, closeAnswer}
-use Rattle.desk_rules.specs.believed.Table.{Given, Row, phaseAt}
+use Rattle.desk_rules.specs.believed.Table.{Given, Row, idle, phaseAt}
+use Rattle.desk_rules.specs.believed.Answers.{Makes, broken}
 use Rattle.desk_rules.proofs.Rows.{table}
-use Rattle.desk_rules.proofs.Memory.{refused-same, accepted-answer, accepted-leaves}
+use Rattle.desk_rules.proofs.Answers.{leaves}
+use Rattle.desk_rules.proofs.Memory.{refused-same, accepted-answer, accepted-leaves, follows}
 use Rattle.tape_rules.specs.declared.Taped.{Taped}
 use Rattle.tape_rules.specs.declared.TapedAnswer.{TapedAnswer}
 use Rattle.tape_rules.specs.declared.ClosedAnswer.{ClosedAnswer}
@@ -142,14 +147,26 @@ module _ (t : Taped) (c : Call) (out room : List ℕ) where
         go (refuse m) e = rw (taped-refused t c out room m (same ∙ e) .0, refused-same (t .desk) c (length out) m e)
         go accept e = accepted-as-desk (same ∙ e) .0
 
--- a lost link on an open lane is taken by the desk, and so with 5,120 bytes lent
+-- a lost link on an open lane is taken by the desk, and so with 5,120 bytes lent; its lane is idle then
+broken-idle : {s : State} {i at : ℕ} {l : Lane} {new : List Line} → Makes s (lost i) at l new → (at ≡ i) × (l ≡ idle)
+broken-idle (broken e) = (refl, refl)
+
+lost-idle : (d : Desk) (i : ℕ) → Valid d → decide (view d) (lost i) 0 ≡ accept → phaseAt (view (answerOf d (lost i) 0 .desk)) i ≡ Idle
+unfolding view NumbersFit
+lost-idle d i v e =
+    let k = leaves (view d) (lost i) 0 (v .lanes) tt e in
+    let m = broken-idle (k .makes) in
+    ap (λ (s : State). phaseAt s i) (follows d (lost i) 0 v e) ∙ ap (λ (l : Lane). l .phase) (rw (m .0) at (m .1))
+
 pub lost-taken : (t : Taped) → ValidTaped t → (i : ℕ) (room : List ℕ) → i < 8 → (phaseAt (view (t .desk)) i ≡ Idle → ⊥)
-    → t .tail .full + 10 ≤ 4_294_967_295 → 5_120 ≤ length room → tapedSays (tapedAnswer t (lost i) 0 (length room)) ≡ yes 0
-unfolding Given NumbersFit writes
+    → t .tail .full + 10 ≤ 4_294_967_295 → 5_120 ≤ length room → let a = tapedAnswer t (lost i) 0 (length room) in
+    (tapedSays a ≡ yes 0) × (phaseAt (view (a .taped .desk)) i ≡ Idle)
+unfolding Given NumbersFit writes ValidTaped
 lost-taken t v i room l busy few much =
     let row : Row (view (t .desk)) (lost i) 0 accept = inr (λ n g. omega (arith, g .0), inr (λ n g. busy (g .0), refl)) in
     let e = table (view (t .desk)) (lost i) 0 accept .1 row in
-    ap replySays (room-enough t (lost i) [] room v tt few much ∙ ap (λ (a : Answer). a .reply) (accepted-answer (t .desk) (lost i) 0 e))
+    let says = ap replySays (room-enough t (lost i) [] room v tt few much ∙ ap (λ (a : Answer). a .reply) (accepted-answer (t .desk) (lost i) 0 e)) in
+    (says, rw (taped-as-desk t (lost i) [] room 0 says .1) (lost-idle (t .desk) i (v .0) e))
 
 -- ---- closing
 reply-no : (r : Reply) (n : ℕ) → replySays r ≡ no n → r ≡ Refused (record { number = n })

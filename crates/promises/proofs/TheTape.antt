@@ -154,8 +154,8 @@ tape-reads-back p room back s w h = tape-read-exactly s p back .1 (tapes.payload
 
 -- ---- T21: a call of a desk with its tape
 
--- What is answered, and what is left of the room for blocks, is what one row says: refused as the desk alone refuses, then with 16 or 11
--- where its records find no room, and desk, tape and room as they were; or taken, and then the room holds the blocks that changed.
+-- What is answered, and what is left of the room for blocks, is what one row says: refused as the desk alone refuses, else with 16 or 11
+-- where its blocks find no number or no room, with desk, tape and room as they were; or taken, and the room holds the blocks that changed.
 pub taped-answered-exactly : (t : Taped) (c : Call) (out room : List ℕ) → NumbersFit c → (a : TapedAnswer) (left : List ℕ) → Bytes left
     → ((tapedAnswer t c (length out) (length room) ≡ a) × (tapedRoom t c (length out) room ≡ left)) ↔ TapedRow t c (length out) room a left
 taped-answered-exactly t c out room n = taped-table t c n (length out) room
@@ -178,9 +178,10 @@ module _ (t : Taped) (c : Call) (out room : List ℕ) where
     pub ten-blocks : tapedAnswer t c (length out) (length room) .blocks ≤ 10
     ten-blocks = answers.blocks-most t c out room v n
 
--- So no payment stays open for its tape's sake: a lost link on an open lane is taken, and ends it.
+-- So no payment stays open for its tape's sake: a lost link on an open lane is taken, and the lane is idle then.
 pub lost-link-taken : (t : Taped) → ValidTaped t → (i : ℕ) (room : List ℕ) → i < 8 → (phaseAt (view (t .desk)) i ≡ Idle → ⊥)
-    → t .tail .full + 10 ≤ 4_294_967_295 → 5_120 ≤ length room → tapedSays (tapedAnswer t (lost i) 0 (length room)) ≡ yes 0
+    → t .tail .full + 10 ≤ 4_294_967_295 → 5_120 ≤ length room → let a = tapedAnswer t (lost i) 0 (length room) in
+    (tapedSays a ≡ yes 0) × (phaseAt (view (a .taped .desk)) i ≡ Idle)
 lost-link-taken = answers.lost-taken
 
 -- ---- T12, T13, T23: a day and its file
