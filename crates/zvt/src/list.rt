@@ -1,4 +1,4 @@
-// The fields of an accepted message's list, one at a time and by their id.
+// Where the parts of an accepted message lie, and the fields of its list: one at a time, by an id, and several in one walk.
 use crate::fields::field_bounds;
 use crate::format::format_of;
 use crate::format::layout_of;
