@@ -1,5 +1,6 @@
--- What an answer says is one of its cases, with these values; and what is answered to a question about a lane or a line. Assumes nothing.
-use mathlib.Core.Path.{_≡_, refl, sym, ap}
+-- What an answer says is one of its cases, with these values; what a desk, a tape and a lister are answered of a message; and what is
+-- answered to a question about a lane or a line. Assumes nothing.
+use mathlib.Core.Path.{_≡_, refl, sym, ap, _∙_}
 use mathlib.Core.Logic.{_↔_}
 use mathlib.Core.Option.{Option, none, some}
 use mathlib.Core.List.{List, [], _∷_}
@@ -20,10 +21,14 @@ use Rattle.zvt_rules.specs.declared.FirstAnswer.{FirstAnswer}
 use Rattle.zvt_rules.specs.declared.FirstAnswer.the-variants.{Accepted as first-accepted, Refused as first-refused}
 use Rattle.zvt_rules.specs.declared.ShortenAnswer.{ShortenAnswer}
 use Rattle.zvt_rules.specs.declared.ShortenAnswer.the-variants.{Written as short-written, Refused as short-refused}
+use Rattle.zvt_rules.specs.declared.Heard.{Heard}
+use Rattle.zvt_rules.specs.declared.ToldBody.{ToldBody}
+use Rattle.zvt_rules.specs.declared.ToldAnswer.{ToldAnswer}
+use Rattle.zvt_rules.specs.declared.ToldAnswer.the-variants.{Told as told, Refused as body-refused}
 use Rattle.zvt_rules.specs.declared.ListPlace.{ListPlace}
 use Rattle.zvt_rules.specs.declared.ListPlace.the-variants.{Nowhere, Between}
 use Rattle.zvt_rules.specs.declared.FieldAnswer.{FieldAnswer}
-use Rattle.zvt_rules.specs.declared.FieldAnswer.the-variants.{End as no-field, Field}
+use Rattle.zvt_rules.specs.declared.FieldAnswer.the-variants.{End as no-field, Field as field-got}
 use Rattle.zvt_rules.specs.declared.ToldCode.{ToldCode}
 use Rattle.zvt_rules.specs.declared.ToldCode.the-variants.{Missing as no-code, Code}
 use Rattle.zvt_rules.specs.declared.ToldAmount.{ToldAmount}
@@ -31,14 +36,23 @@ use Rattle.zvt_rules.specs.declared.ToldAmount.the-variants.{Missing as no-amou
 use Rattle.zvt_rules.specs.declared.ToldReceipt.{ToldReceipt}
 use Rattle.zvt_rules.specs.declared.ToldReceipt.the-variants.{Missing as no-receipt, Receipt}
 use Rattle.zvt_rules.specs.Reading.{pick}
+use Rattle.zvt_rules.specs.Fields.{Field}
+use Rattle.zvt_rules.specs.Message.{readOf}
+use Rattle.zvt_rules.specs.Answers.{headerAnswer, readAnswer}
+use Rattle.zvt_rules.specs.Listed.{fieldAnswer, idsAnswer}
+use Rattle.zvt_rules.specs.Heard.{toldAnswer, hearAnswer}
+use Rattle.zvt_rules.specs.believed.Grammar.{Bytes}
+use Rattle.zvt_rules.specs.believed.Found.{Stands}
 use Rattle.zvt_rules.proofs.Tests.{by-test}
+use Rattle.zvt_rules.proofs.Found.{field-exactly}
+use Rattle.zvt_rules.proofs.HeardLaws.{heardBy, header-heard, body-refused-exactly, id-at, ids-end}
 use Rattle.desk_rules.specs.declared.Lane.{Lane}
 use Rattle.desk_rules.specs.declared.Line.{Line}
 use Rattle.desk_rules.specs.declared.Desk.{Desk}
 use Rattle.desk_rules.specs.Numbers.{laneCount}
 use Rattle.desk_rules.specs.Lanes.{blankLine, idleLane}
 use Rattle.desk_rules.specs.Memory.{Valid, linesOfDesk, lineAnswer, laneAnswer}
-use Rattle.promises.specs.Answers.{Said, no, yes, headerSays, readSays, firstSays, shortSays, placeSays, fieldSays}
+use Rattle.promises.specs.Answers.{Said, no, yes, headerSays, readSays, firstSays, shortSays, heardSays, toldSays, placeSays, fieldSays}
 use Rattle.promises.specs.Answers.{codeSays, amountSays, receiptSays, lineSays, laneSays, At}
 use Rattle.promises.proofs.Answers.{no-same, yes-same, no-yes}
 
@@ -70,13 +84,13 @@ pub place-is : (x : ListPlace) (from to : ℕ) → (placeSays x ≡ yes (some (f
 place-is Nowhere from to = (λ e. absurd (none-some e), ap placeSays)
 place-is (Between a b) from to = (λ e. ap (λ (p : ℕ × ℕ). Between (p .0) (p .1)) (some-same e), ap placeSays)
 
-pub field-is : (x : FieldAnswer) (l : Listed) → (fieldSays x ≡ yes (some l)) ↔ (x ≡ Field l)
+pub field-is : (x : FieldAnswer) (l : Listed) → (fieldSays x ≡ yes (some l)) ↔ (x ≡ field-got l)
 field-is no-field l = (λ e. absurd (none-some e), ap fieldSays)
-field-is (Field k) l = (λ e. ap Field (some-same e), ap fieldSays)
+field-is (field-got k) l = (λ e. ap field-got (some-same e), ap fieldSays)
 
 pub field-is-none : (x : FieldAnswer) → (fieldSays x ≡ yes none) ↔ (x ≡ no-field)
 field-is-none no-field = (λ e. refl, ap fieldSays)
-field-is-none (Field k) = (λ e. absurd (none-some (sym e)), ap fieldSays)
+field-is-none (field-got k) = (λ e. absurd (none-some (sym e)), ap fieldSays)
 
 pub code-is : (x : ToldCode) (c : ℕ) → (codeSays x ≡ some c) ↔ (x ≡ Code c)
 code-is no-code c = (λ e. absurd (none-some (ap yes e)), ap codeSays)
@@ -89,6 +103,48 @@ amount-is (Amount a) n = (λ e. ap Amount (some-same (ap yes e)), ap amountSays)
 pub receipt-is : (x : ToldReceipt) (n : ℕ) → (receiptSays x ≡ some n) ↔ (x ≡ Receipt n)
 receipt-is no-receipt n = (λ e. absurd (none-some (ap yes e)), ap receiptSays)
 receipt-is (Receipt r) n = (λ e. ap Receipt (some-same (ap yes e)), ap receiptSays)
+
+-- ---- what a desk asks of a message
+module _ (s : List ℕ) where
+  pub heard-no : (n : ℕ) → (heardSays (hearAnswer s) ≡ no n) ↔ (headerSays (headerAnswer s) ≡ no n)
+  unfolding heardBy
+  heard-no n = rw (header-heard s) (go (headerAnswer s))
+    where
+      go : (x : HeaderAnswer) → (heardSays (heardBy (toldAnswer (readOf s)) x) ≡ no n) ↔ (headerSays x ≡ no n)
+      go (header-got h) = (λ e. absurd (no-yes (sym e)), λ e. absurd (no-yes (sym e)))
+      go (header-refused r) = (λ e. ap no (no-same e), λ e. ap no (no-same e))
+
+  -- the header as it is answered alone, and behind it what is told of the body
+  pub heard-yes : (h : Heard) → heardSays (hearAnswer s) ≡ yes h → (t : Header) × (headerSays (headerAnswer s) ≡ yes t)
+      × (record { class = t .class; instruction = t .instruction; length = t .length; told = toldAnswer (readOf s) } ≡ h)
+  unfolding heardBy
+  heard-yes h e = go (headerAnswer s) refl (rw (header-heard s) at e)
+    where
+      Its : Header → Type 0
+      Its t = record { class = t .class; instruction = t .instruction; length = t .length; told = toldAnswer (readOf s) } ≡ h
+
+      go : (x : HeaderAnswer) → headerAnswer s ≡ x → heardSays (heardBy (toldAnswer (readOf s)) x) ≡ yes h
+          → (t : Header) × (headerSays (headerAnswer s) ≡ yes t) × Its t
+      go (header-got t) q k = (t, ap headerSays q, yes-same k)
+      go (header-refused r) q k = absurd (no-yes k)
+
+  pub told-no : (n : ℕ) → (toldSays (toldAnswer (readOf s)) ≡ no n) ↔ (readSays (readAnswer s) ≡ no n)
+  told-no n = (
+    λ e. ap readSays (body-refused-exactly s (record { number = n }) .0 (told-case (toldAnswer (readOf s)) e)),
+    λ e. ap toldSays (body-refused-exactly s (record { number = n }) .1 (read-case (readAnswer s) e)),
+  )
+    where
+      told-case : (x : ToldAnswer) → toldSays x ≡ no n → x ≡ body-refused (record { number = n })
+      told-case (told t) e = absurd (no-yes (sym e))
+      told-case (body-refused r) e = ap (λ (m : ℕ). body-refused (record { number = m })) (no-same e)
+
+      read-case : (x : ReadAnswer) → readSays x ≡ no n → x ≡ read-refused (record { number = n })
+      read-case (Accepted m) e = absurd (no-yes (sym e))
+      read-case (read-refused r) e = ap (λ (m : ℕ). read-refused (record { number = m })) (no-same e)
+
+pub told-is : (x : ToldAnswer) (t : ToldBody) → (toldSays x ≡ yes t) ↔ (x ≡ told t)
+told-is (told b) t = (λ e. ap told (yes-same e), ap toldSays)
+told-is (body-refused r) t = (λ e. absurd (no-yes e), ap toldSays)
 
 -- ---- of two answers that a test chooses from
 module _ {A B : Type 0} (say : A → B) (x y : A) (i k : ℕ) (b : B) where
@@ -114,6 +170,20 @@ at-get {A} xs k x d = (to xs k, λ h. rw (h .2) (omega (arith, length-append (h 
     to (y ∷ ys) (suc j) h =
         let g = to ys j (omega (arith, h .0), h .1) in
         (y ∷ g .0, g .1, ap (λ (zs : List A). y ∷ zs) (g .2), omega (arith, g .3))
+
+-- ---- the ids of a message's list: number k is that of field number k
+pub id-found : (s : List ℕ) → Bytes s → (k id : ℕ) → At (idsAnswer s) k id ↔ ((f : Field) × (l : Listed) × Stands s k f l × (l .id ≡ id))
+id-found s b k id = (
+  λ h. let g = at-get (idsAnswer s) k id 0 .1 h in there (fieldAnswer k s) refl (g .0) (g .1),
+  λ h.
+      let g = id-at s k (h .1) (field-exactly s b k (h .1) .1 (h .0, h .2)) in
+      at-get (idsAnswer s) k id 0 .0 (g .0, g .1 ∙ h .3),
+)
+  where
+    there : (x : FieldAnswer) → fieldAnswer k s ≡ x → k < length (idsAnswer s) → getD (idsAnswer s) k 0 ≡ id
+        → (f : Field) × (l : Listed) × Stands s k f l × (l .id ≡ id)
+    there no-field q few e = absurd (omega (arith, ids-end s k .0 q))
+    there (field-got l) q few e = let st = field-exactly s b k l .0 q in (st .0, l, st .1, sym (id-at s k l q .1) ∙ e)
 
 -- ---- a lane and a line
 module _ (d : Desk) (i : ℕ) where

@@ -7,7 +7,9 @@ use mathlib.Core.Option.{none, some}
 use mathlib.Core.List.{List}
 use Prim.Native.Nat.{ℕ, _≤_}
 use lib.ListN.{length, drop}
+use Rattle.zvt_rules.specs.declared.Heard.{Heard}
 use Rattle.zvt_rules.specs.Answers.{headerAnswer, readAnswer, firstAnswer, shortenAnswer, shortenLeaves}
+use Rattle.zvt_rules.specs.Heard.{hearAnswer}
 use Rattle.zvt_rules.specs.believed.Grammar.{Bytes}
 use Rattle.zvt_rules.specs.believed.Rows.{WholeNo, ReadNo, FirstNo, ShortNo, Numbered}
 use Rattle.zvt_rules.proofs.RowMessages as rows
@@ -20,10 +22,11 @@ use Rattle.desk_rules.specs.believed.Table.{Row}
 use Rattle.desk_rules.specs.Memory.{freshDesk, linesOfDesk, view, Valid, answerOf, leavesOf, closeAnswer, lineAnswer, laneAnswer}
 use Rattle.desk_rules.proofs.Rows.{table}
 use Rattle.desk_rules.proofs.Memory as memory
-use Rattle.promises.specs.Answers.{no, yes, Takes, headerSays, readSays, firstSays, shortSays, answerSays, lineSays, laneSays, At, Open}
+use Rattle.promises.specs.Answers.{no, yes, Takes, headerSays, readSays, firstSays, shortSays, heardSays, toldSays}
+use Rattle.promises.specs.Answers.{answerSays, lineSays, laneSays, At, Open}
 use Rattle.promises.proofs.Answers.{by-rows, header-says, read-says, first-says, short-says, short-leaves, short-beyond}
 use Rattle.promises.proofs.Answers.{decided-no, decided-yes, call-same, call-beyond, closing-no, closing-yes, closing-same}
-use Rattle.promises.proofs.Asked.{lane-no, lane-yes, line-some, line-none}
+use Rattle.promises.proofs.Asked.{heard-no, heard-yes, told-no, lane-no, lane-yes, line-some, line-none}
 
 -- ---- R37: reading and shortening. The rows (zvt_rules/specs/believed/Rows.antt) have a number and a place.
 module _ (s : List ℕ) (b : Bytes s) (n : ℕ) where
@@ -34,6 +37,13 @@ module _ (s : List ℕ) (b : Bytes s) (n : ℕ) where
   -- Bytes are refused as a message exactly where a row for header or body (R39 to R44) has that number.
   pub read-refused-exactly : (readSays (readAnswer s) ≡ no n) ↔ Numbered (ReadNo s) n
   read-refused-exactly = Iff·trans (read-says s n) (by-rows _ (ReadNo s) (rows.read-no-exactly s b) n)
+
+  -- What a desk asks of a message is refused where its header is; what the body tells is refused where the message is.
+  pub heard-refused-exactly : (heardSays (hearAnswer s) ≡ no n) ↔ Numbered (WholeNo s) n
+  heard-refused-exactly = Iff·trans (heard-no s n) header-refused-exactly
+
+  pub told-refused-exactly : (h : Heard) → heardSays (hearAnswer s) ≡ yes h → (toldSays (h .told) ≡ no n) ↔ Numbered (ReadNo s) n
+  told-refused-exactly h e = rw (← (heard-yes s h e .2)) (Iff·trans (told-no s n) read-refused-exactly)
 
   -- The same where further messages may follow: then nothing is left over.
   pub first-refused-exactly : (firstSays (firstAnswer s) ≡ no n) ↔ Numbered (FirstNo s) n

@@ -5,20 +5,24 @@ use mathlib.Core.Path.{_≡_, refl, sym, ap, _∙_}
 use mathlib.Core.Bool.{true, false}
 use mathlib.Core.Logic.{_↔_, Iff·trans}
 use mathlib.Core.Option.{none, some}
-use mathlib.Core.List.{List, [], _++_}
+use mathlib.Core.List.{List, [], _∷_, _++_}
 use Prim.Native.Nat.{ℕ, _<_, _≤_}
 use native.Mathlib.Omega.{arith}
-use lib.ListN.{length, take}
+use lib.ListN.{length, getD, take}
 use Rattle.zvt_rules.specs.Reading.{got, unless, andThen, part, among}
 use Rattle.zvt_rules.specs.Fields.{Field}
-use Rattle.zvt_rules.specs.Message.{bytes, Message, lengthOf, headerWith, headerOf, layoutOf, bodyOf, messageOf, wholeHeader, readOf, firstOf, countOf}
+use Rattle.zvt_rules.specs.Message.{bytes, listed, Message, lengthOf, headerWith, headerOf, layoutOf, bodyOf, messageOf}
+use Rattle.zvt_rules.specs.Message.{wholeHeader, readOf, firstOf, countOf}
 use Rattle.zvt_rules.specs.Shortest.{shortMessage, isShort, write, shorten}
 use Rattle.zvt_rules.specs.Values.{statusOf}
 use Rattle.zvt_rules.specs.declared.Header.{Header}
 use Rattle.zvt_rules.specs.declared.Outline.{Outline}
 use Rattle.zvt_rules.specs.declared.Listed.{Listed}
+use Rattle.zvt_rules.specs.declared.Heard.{Heard}
+use Rattle.zvt_rules.specs.declared.ToldBody.{ToldBody}
 use Rattle.zvt_rules.specs.Answers.{headerAnswer, outlineOf, readAnswer, firstAnswer, shortenAnswer, shortenLeaves}
-use Rattle.zvt_rules.specs.Listed.{fieldAnswer, namedAnswer, listPlace}
+use Rattle.zvt_rules.specs.Listed.{fieldAnswer, namedAnswer, idsAnswer, nowhere, spanOf, placesAnswer, listPlace}
+use Rattle.zvt_rules.specs.Heard.{toldAnswer, hearAnswer}
 use Rattle.zvt_rules.specs.Name.{own, between, nameAt, cardName, namePlace}
 use Rattle.zvt_rules.specs.believed.Writing.{messageBytes, fieldValue}
 use Rattle.zvt_rules.specs.believed.Grammar.{Bytes, MessageOk}
@@ -33,6 +37,7 @@ use Rattle.zvt_rules.proofs.MessageShort as shortest
 use Rattle.zvt_rules.proofs.AnswerLaws as reports
 use Rattle.zvt_rules.proofs.StatusLaws as status
 use Rattle.zvt_rules.proofs.Found as found
+use Rattle.zvt_rules.proofs.HeardLaws as heard
 use Rattle.zvt_rules.proofs.Names as names
 use Rattle.desk_rules.specs.declared.Desk.{Desk}
 use Rattle.desk_rules.specs.declared.Opening.{Opening}
@@ -41,10 +46,11 @@ use Rattle.desk_rules.specs.Course.{replyBytes, Call, writes}
 use Rattle.desk_rules.specs.believed.Table.{Commands}
 use Rattle.desk_rules.specs.Memory.{laneFor, answerOf, leavesOf}
 use Rattle.desk_rules.proofs.Commands as commands
-use Rattle.promises.specs.Answers.{yes, headerSays, readSays, firstSays, shortSays, placeSays, fieldSays, codeSays, amountSays, receiptSays}
-use Rattle.promises.specs.Answers.{answerSays}
+use Rattle.promises.specs.Answers.{yes, headerSays, readSays, firstSays, shortSays, heardSays, toldSays, placeSays, fieldSays}
+use Rattle.promises.specs.Answers.{codeSays, amountSays, receiptSays, answerSays, At}
 use Rattle.promises.proofs.Answers.{read-gives, call-wrote, call-size}
-use Rattle.promises.proofs.Asked.{header-is, read-is, first-is, short-is, place-is, field-is, field-is-none, code-is, amount-is, receipt-is}
+use Rattle.promises.proofs.Asked.{header-is, read-is, first-is, short-is, place-is, field-is, field-is-none}
+use Rattle.promises.proofs.Asked.{code-is, amount-is, receipt-is, heard-yes, told-is, id-found}
 
 -- ---- "read .. as PA00P015 13.11 lays them out"
 
@@ -56,6 +62,18 @@ module _ (s : List ℕ) (b : Bytes s) where
   -- So is a header: exactly where it frames the bytes, with the place and the length of its body.
   pub header-exactly : (t : Header) → (headerSays (headerAnswer s) ≡ yes t) ↔ Framed s (t .class) (t .instruction) (t .start) (t .length)
   header-exactly t = Iff·trans (header-is (headerAnswer s) t) (reports.header-exactly s t b)
+
+  -- What a desk asks of a message is its header, and behind it what a status information tells and the first byte of a plain body.
+  module _ (h : Heard) (e : heardSays (hearAnswer s) ≡ yes h) where
+    pub heard-exactly : (start : ℕ) × Framed s (h .class) (h .instruction) start (h .length)
+    heard-exactly = let k = heard-yes s h e in rw (← (k .2)) (k .0 .start, header-exactly (k .0) .0 (k .1))
+
+    pub told-exactly : (t : ToldBody) → toldSays (h .told) ≡ yes t → (t .status ≡ statusOf s)
+        × ((c : ℕ) → (codeSays (t .first) ≡ some c) ↔ ((m : Message) × (w : List ℕ) × Is s m × (m .body ≡ bytes (c ∷ w))))
+    told-exactly t f =
+        let same : toldAnswer (readOf s) ≡ h .told = ap (λ (x : Heard). x .told) (heard-yes s h e .2) in
+        let q = same ∙ told-is (h .told) t .0 f in
+        (heard.status-heard s t q, λ c. Iff·trans (code-is (t .first) c) (heard.first-heard s t q b c))
 
   -- So is the first of several messages, and the next begins behind its bytes.
   pub first-exactly : (t : Outline) (next : ℕ) → (firstSays (firstAnswer s) ≡ yes (t, next)) ↔ FirstReported s t next
@@ -151,6 +169,29 @@ module _ (s : List ℕ) (b : Bytes s) where
   -- The part of the message that is answered is the field's value, of field 06 too.
   pub found-value : (k : ℕ) (f : Field) (l : Listed) → Stands s k f l → part (l .from) (l .to) s ≡ fieldValue f
   found-value k f l st = found.found-part s b k f l st
+
+  -- The ids of a list: number k is one exactly where field number k stands with it.
+  pub ids-found : (k id : ℕ) → At (idsAnswer s) k id ↔ ((f : Field) × (l : Listed) × Stands s k f l × (l .id ≡ id))
+  ids-found = id-found s b
+
+  -- Of several fields asked for at once each is placed where it stands,
+  module _ (ids : List ℕ) (j : ℕ) (h : j < length ids) where
+    pub place-found : (k : ℕ) (f : Field) (l : Listed) → Stands s k f l → l .id ≡ getD ids j 0
+        → getD (placesAnswer ids s .fields) j nowhere ≡ record { from = l .from; to = l .to }
+    unfolding spanOf
+    place-found k f l st i = heard.place-named ids s j h ∙ ap spanOf (found.named-exactly s b (getD ids j 0) l .1 (k, f, st, i))
+
+    -- and nowhere, from 0 to 0, exactly where none stands.
+    pub no-place-found : (getD (placesAnswer ids s .fields) j nowhere ≡ nowhere)
+        ↔ ((k : ℕ) (f : Field) (l : Listed) → Stands s k f l → l .id ≡ getD ids j 0 → ⊥)
+    no-place-found =
+        let id = getD ids j 0 in
+        rw (heard.place-named ids s j h) (Iff·trans (heard.nowhere-exactly id s) (found.named-end s b id))
+
+  -- The password is placed where it lies.
+  pub password-found : (ids : List ℕ) (m : Message) (password : List ℕ) (fs : List Field) → Is s m → m .body ≡ listed password fs
+      → let p = placesAnswer ids s .password in part (p .from) (p .to) s ≡ password
+  password-found ids m password fs = heard.password-part ids s m password fs b
 
   -- The list itself is found where it stands.
   pub list-found : (from to : ℕ) → (placeSays (listPlace s) ≡ yes (some (from, to))) ↔ ListStands s from to

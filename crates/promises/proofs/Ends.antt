@@ -9,6 +9,7 @@ use Rattle.tape.proofs as tape
 use Rattle.listing.proofs as listing
 use Rattle.buffers.proofs as buffers
 use Rattle.desk_rules.specs.Memory.{Valid}
+use Rattle.tape_rules.specs.Recording.{ValidTaped}
 
 -- Every public function's own theorem: a call of it ends, reads and writes only what it was lent, and answers as its contract states.
 pub every-call-ends : {M : Type 1}
@@ -19,7 +20,10 @@ pub every-call-ends : {M : Type 1}
     × zvt.list_place.Statement.statement M
     × zvt.field_at.Statement.statement M
     × zvt.field_named.Statement.statement M
+    × zvt.ids.Statement.statement M
+    × zvt.places.Statement.statement M
     × zvt.read_status.Statement.statement M
+    × zvt.hear.Statement.statement M
     × zvt.card_name.Statement.statement M
     × zvt.amount_bytes.Statement.statement M
     × zvt.password_bytes.Statement.statement M
@@ -69,6 +73,7 @@ pub every-call-ends : {M : Type 1}
     × tape_rules.Block.at_end.Statement.statement M
     × tape_rules.Block.number_ok.Statement.statement M
     × tape_rules.Block.payload_ok.Statement.statement M
+    × tape_rules.Tail.empty.Statement.statement M
     × tape_rules.Taped.fresh.Statement.statement M
     × tape.write_block.Statement.statement M
     × tape.read_block.Statement.statement M
@@ -97,7 +102,10 @@ every-call-ends = (
   zvt.list_place.Met.met,
   zvt.field_at.Met.met,
   zvt.field_named.Met.met,
+  zvt.ids.Met.met,
+  zvt.places.Met.met,
   zvt.read_status.Met.met,
+  zvt.hear.Met.met,
   zvt.card_name.Met.met,
   zvt.amount_bytes.Met.met,
   zvt.password_bytes.Met.met,
@@ -147,6 +155,7 @@ every-call-ends = (
   tape_rules.Block.at_end.Met.met,
   tape_rules.Block.number_ok.Met.met,
   tape_rules.Block.payload_ok.Met.met,
+  tape_rules.Tail.empty.Met.met,
   tape_rules.Taped.fresh.Met.met,
   tape.write_block.Met.met,
   tape.read_block.Met.met,
@@ -169,7 +178,8 @@ every-call-ends = (
   buffers.hex_value.Met.met,
 )
 
--- No function but those over a desk asks anything of its caller; those ask that the desk is one that these functions gave out.
+-- No function but those over a desk asks anything of its caller; those ask that the desk, with its tape where it has one, is one that these
+-- functions gave out.
 pub nothing-to-test :
     ((κs : _) (a : _) → zvt.read_header.Reads.Asked κs a ≡ Unit {0})
     × ((κs : _) (a : _) → zvt.read.Reads.Asked κs a ≡ Unit {0})
@@ -178,7 +188,10 @@ pub nothing-to-test :
     × ((κs : _) (a : _) → zvt.list_place.Reads.Asked κs a ≡ Unit {0})
     × ((κs : _) (a : _) → zvt.field_at.Reads.Asked κs a ≡ Unit {0})
     × ((κs : _) (a : _) → zvt.field_named.Reads.Asked κs a ≡ Unit {0})
+    × ((κs : _) (a : _) → zvt.ids.Reads.Asked κs a ≡ Unit {0})
+    × ((κs : _) (a : _) → zvt.places.Reads.Asked κs a ≡ Unit {0})
     × ((κs : _) (a : _) → zvt.read_status.Reads.Asked κs a ≡ Unit {0})
+    × ((κs : _) (a : _) → zvt.hear.Reads.Asked κs a ≡ Unit {0})
     × ((κs : _) (a : _) → zvt.card_name.Reads.Asked κs a ≡ Unit {0})
     × ((κs : _) (a : _) → zvt.amount_bytes.Reads.Asked κs a ≡ Unit {0})
     × ((κs : _) (a : _) → zvt.password_bytes.Reads.Asked κs a ≡ Unit {0})
@@ -228,15 +241,16 @@ pub nothing-to-test :
     × ((κs : _) (a : _) → tape_rules.Block.at_end.Reads.Asked κs a ≡ Unit {0})
     × ((κs : _) (a : _) → tape_rules.Block.number_ok.Reads.Asked κs a ≡ Unit {0})
     × ((κs : _) (a : _) → tape_rules.Block.payload_ok.Reads.Asked κs a ≡ Unit {0})
+    × ((κs : _) (a : _) → tape_rules.Tail.empty.Reads.Asked κs a ≡ Unit {0})
     × ((κs : _) (a : _) → tape_rules.Taped.fresh.Reads.Asked κs a ≡ Unit {0})
     × ((κs : _) (a : _) → tape.write_block.Reads.Asked κs a ≡ Unit {0})
     × ((κs : _) (a : _) → tape.read_block.Reads.Asked κs a ≡ Unit {0})
     × ((κs : _) (a : _) → tape.write_tape.Reads.Asked κs a ≡ Unit {0})
     × ((κs : _) (a : _) → tape.read_tape.Reads.Asked κs a ≡ Unit {0})
-    × ((κs : _) (a : _) → tape.«open».Reads.Asked κs a ≡ Valid (a .0 .desk))
-    × ((κs : _) (a : _) → tape.terminal.Reads.Asked κs a ≡ Valid (a .0 .desk))
-    × ((κs : _) (a : _) → tape.link_lost.Reads.Asked κs a ≡ Valid (a .0 .desk))
-    × ((κs : _) (a : _) → tape.close.Reads.Asked κs a ≡ Valid (a .0 .desk))
+    × ((κs : _) (a : _) → tape.«open».Reads.Asked κs a ≡ ValidTaped (a .0))
+    × ((κs : _) (a : _) → tape.terminal.Reads.Asked κs a ≡ ValidTaped (a .0))
+    × ((κs : _) (a : _) → tape.link_lost.Reads.Asked κs a ≡ ValidTaped (a .0))
+    × ((κs : _) (a : _) → tape.close.Reads.Asked κs a ≡ ValidTaped (a .0))
     × ((κs : _) (a : _) → listing.add_ids.Reads.Asked κs a ≡ Unit {0})
     × ((κs : _) (a : _) → listing.add_size.Reads.Asked κs a ≡ Unit {0})
     × ((κs : _) (a : _) → listing.list.Reads.Asked κs a ≡ Unit {0})
@@ -249,6 +263,10 @@ pub nothing-to-test :
     × ((κs : _) (a : _) → buffers.add_decimal.Reads.Asked κs a ≡ Unit {0})
     × ((κs : _) (a : _) → buffers.hex_value.Reads.Asked κs a ≡ Unit {0})
 nothing-to-test = (
+  λ κs a. refl,
+  λ κs a. refl,
+  λ κs a. refl,
+  λ κs a. refl,
   λ κs a. refl,
   λ κs a. refl,
   λ κs a. refl,

@@ -10,6 +10,7 @@ pub mod TheLister
 pub mod Ends
 pub mod OneAnswer
 pub mod TapeAnswers
+pub mod TapeDays
 pub mod Secrets
 pub mod Answers
 pub mod Asked

@@ -40,8 +40,17 @@ field-at-one κs a = only _ _ (λ r e h. (h, refl))
 pub field-named-one : (κs : _) (a : _) → Only itself nothing (zvt.field_named.Reads.Learnt κs a)
 field-named-one κs a = only _ _ (λ r e h. (h, refl))
 
+pub ids-one : (κs : _) (a : _) → Only itself (λ e. now (e .1 .0)) (zvt.ids.Reads.Learnt κs a)
+ids-one κs a = only _ _ (λ r e h. h)
+
+pub places-one : (κs : _) (a : _) → Only itself nothing (zvt.places.Reads.Learnt κs a)
+places-one κs a = only _ _ (λ r e h. (h, refl))
+
 pub read-status-one : (κs : _) (a : _) → Only itself nothing (zvt.read_status.Reads.Learnt κs a)
 read-status-one κs a = only _ _ (λ r e h. (h, refl))
+
+pub hear-one : (κs : _) (a : _) → Only itself nothing (zvt.hear.Reads.Learnt κs a)
+hear-one κs a = only _ _ (λ r e h. (h, refl))
 
 pub card-name-one : (κs : _) (a : _) → Only placed nothing (zvt.card_name.Reads.Learnt κs a)
 card-name-one κs a = only _ _ (λ r e h. (ap₂ (λ (p : ℕ × ℕ) (n : List ℕ). (p, n)) (h .1) (h .0), refl))
@@ -180,7 +189,7 @@ phase-is-idle-one κs a = only _ _ (λ r e h. (h, refl))
 pub nothing-told-one : (κs : _) (a : _) → Only itself nothing (desk_rules.nothing_told.Reads.Learnt κs a)
 nothing-told-one κs a = only _ _ (λ r e h. (h, refl))
 
--- ---- a block of a tape, and a desk with its tape
+-- ---- a block of a tape, what a tape ends in, and a desk with its tape
 pub block-before-last-one : (κs : _) (a : _) → Only itself nothing (tape_rules.Block.before_last.Reads.Learnt κs a)
 block-before-last-one κs a = only _ _ (λ r e h. (h, refl))
 
@@ -192,6 +201,9 @@ block-number-ok-one κs a = only _ _ (λ r e h. (h, refl))
 
 pub block-payload-ok-one : (κs : _) (a : _) → Only itself nothing (tape_rules.Block.payload_ok.Reads.Learnt κs a)
 block-payload-ok-one κs a = only _ _ (λ r e h. (h, refl))
+
+pub tail-empty-one : (κs : _) (a : _) → Only itself nothing (tape_rules.Tail.empty.Reads.Learnt κs a)
+tail-empty-one κs a = only _ _ (λ r e h. (h, refl))
 
 pub taped-fresh-one : (κs : _) (a : _) → Only itself nothing (tape_rules.Taped.fresh.Reads.Learnt κs a)
 taped-fresh-one κs a = only _ _ (λ r e h. (h .0, refl))

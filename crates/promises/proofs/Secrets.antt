@@ -3,8 +3,9 @@
 use mathlib.Core.Path.{_≡_, refl, sym, ap, ap₂, _∙_}
 use mathlib.Core.Logic.{inl, inr}
 use mathlib.Core.List.{List, [], _∷_, _++_}
-use Prim.Native.Nat.{ℕ, _+_}
-use lib.ListN.{length, replicate, length-append, length-replicate}
+use Prim.Native.Nat.{ℕ, _+_, _-_, _*_}
+use lib.ListN.{length, take, drop, replicate, length-append, length-replicate}
+use lib.Seq.{take-at}
 use borrow.Author.Tests.{le-leb}
 use Rattle.zvt_rules.specs.Reading.{Reading, got, refused, pick}
 use Rattle.zvt_rules.specs.Fields.{Field, plain, container, fieldId}
@@ -32,14 +33,18 @@ use Rattle.desk_rules.specs.Memory.{linesOfDesk, view, answerBy}
 use Rattle.desk_rules.proofs.Commands.{command-size, command-reads}
 use Rattle.tape_rules.specs.declared.Taped.{Taped}
 use Rattle.tape_rules.specs.Records.{secret, maskField, maskList, maskBody, maskMessage, masked, Record, replyEntry, entriesBy, entriesOf}
-use Rattle.tape_rules.specs.Recording.{callBytes, decideTaped, usedBy, tapedBy, tapedAnswer, tapeBy, tapedLeaves}
-use Rattle.tape_rules.specs.Taping.{TapeTurn, Day, afterTurn, tapedRun}
+use Rattle.tape_rules.specs.declared.TapedAnswer.{TapedAnswer}
+use Rattle.tape_rules.specs.Block.{blockSize}
+use Rattle.tape_rules.specs.Cuts.{laid}
+use Rattle.tape_rules.specs.Tails.{changedPieces, changedBlocks}
+use Rattle.tape_rules.specs.Recording.{callBytes, recordsOf, decideTaped, tapedBy, tapedAnswer, roomBy, tapedRoom}
+use Rattle.tape_rules.specs.Taping.{TapeTurn, Day, filed, afterTurn, tapedRun}
 use Rattle.tape_rules.specs.believed.Masking.{RecordedAs}
-use Rattle.tape_rules.proofs.Masks.{mask-same, mask-reads, masked-got, masked-refused, masked-twice, withoutPassword, opening-masked}
+use Rattle.tape_rules.proofs.Masks.{Each, mask-same, mask-reads, masked-got, masked-refused, masked-twice, withoutPassword, opening-masked}
 use Rattle.tape_rules.proofs.Places.{recorded-own, recorded-exactly}
 use Rattle.tape_rules.proofs.RecordLaws.{command-own}
+use Rattle.tape_rules.proofs.TailLaws.{changed-size}
 use Rattle.tape_rules.proofs.Unseen.{mask-heard, heard-reads, same-status}
-use Rattle.promises.specs.Days.{OfBytes}
 use Rattle.promises.specs.TapeDays.{Hiding, AlikeOpening, refunds, reversals, AlikeCall, unchanged, openings, messages, AlikeDays}
 use Rattle.promises.proofs.DemandTwo.{reply-reads-back}
 
@@ -140,8 +145,8 @@ call-hides s (message i b) a n =
     (inr (masked-hides b (k .0) n (k .1)), reply-hides i (laneAt (s .lanes) i .phase))
 call-hides s (lost i) a n = (inl refl, tt)
 
-pub run-hides : (s : State) (cs : List Call) → Accepted s cs → OfBytes cs → Hiding (entriesOf s cs)
-unfolding Hiding Accepted OfBytes entriesOf
+pub run-hides : (s : State) (cs : List Call) → Accepted s cs → Each NumbersFit cs → Hiding (entriesOf s cs)
+unfolding Hiding Accepted entriesOf
 run-hides s [] a n = tt
 run-hides s (c ∷ cs) a n =
     hiding-append (entriesBy (laneAt (s .lanes) (laneOf c)) c) (entriesOf (step s c) cs) (call-hides s c (a .0) (n .0))
@@ -200,33 +205,41 @@ module _ (c e : Call) (a : Agree c e) where
   bytes-agree s = rw (a .lane, a .entries (laneAt (s .lanes) (laneOf e)))
 
   module _ (t : Taped) where
-    decide-taped-agree : (room size : ℕ) → decideTaped t c room size ≡ decideTaped t e room size
+    decide-taped-agree : (out room : ℕ) → decideTaped t c out room ≡ decideTaped t e out room
     unfolding decideTaped
-    decide-taped-agree room size = rw (decide-agree (view (t .desk)) room, bytes-agree (view (t .desk)))
+    decide-taped-agree out room = rw (decide-agree (view (t .desk)) out, bytes-agree (view (t .desk)))
 
     answer-agree : (x : Decision) → tapedBy x t c ≡ tapedBy x t e
-    unfolding tapedBy usedBy answerBy
+    unfolding tapedBy answerBy
     answer-agree (refuse n) = refl
     answer-agree accept =
         let l = laneAt (t .desk .lanes) (laneOf e) in
         rw (a .lane, a .size l, a .move l (linesOfDesk (t .desk)), bytes-agree (view (t .desk)))
 
-    tape-agree : (x : Decision) (tape : List ℕ) → tapeBy x t c tape ≡ tapeBy x t e tape
-    unfolding tapeBy
-    tape-agree (refuse n) tape = refl
-    tape-agree accept tape = rw (bytes-agree (view (t .desk)))
+    -- the blocks of the one are those of the other, and nothing else of a room comes into the file
+    file-agree : (x : Decision) (room other file : List ℕ)
+        → filed (tapedBy x t c) (roomBy x t c room) file ≡ filed (tapedBy x t e) (roomBy x t e other) file
+    unfolding filed laid tapedBy roomBy
+    file-agree (refuse n) room other file = refl
+    file-agree accept room other file =
+        let r = recordsOf t e in
+        let w = changedBlocks (t .tail) r in
+        let size = length (changedPieces (t .tail) r) * blockSize in
+        let first : (rest : List ℕ) → take size (w ++ rest) ≡ w = λ rest. take-at w rest size (changed-size (t .tail) r) in
+        rw (bytes-agree (view (t .desk)))
+        (ap (λ (s : List ℕ). laid ((t .tail .full + 1 - 1) * blockSize) s file) (first (drop (length w) room) ∙ sym (first (drop (length w) other))))
 
-turn-agree : (d : Day) (u v : TapeTurn) → AlikeCall (u .call) (v .call) → u .room ≡ v .room → afterTurn d u ≡ afterTurn d v
-unfolding afterTurn tapedAnswer tapedLeaves
-turn-agree d u v a r =
+turn-agree : (d : Day) (u v : TapeTurn) → AlikeCall (u .call) (v .call) → u .out ≡ v .out → length (u .room) ≡ length (v .room)
+    → afterTurn d u ≡ afterTurn d v
+unfolding afterTurn tapedAnswer tapedRoom
+turn-agree d u v a o r =
     let k = agree a in
-    let x = decideTaped (d .taped) (v .call) (v .room) (length (d .tape)) in
-    rw (
-      r,
-      decide-taped-agree (u .call) (v .call) k (d .taped) (v .room) (length (d .tape)),
-      answer-agree (u .call) (v .call) k (d .taped) x,
-      tape-agree (u .call) (v .call) k (d .taped) x (d .tape),
-    )
+    let t = d .taped in
+    let x = decideTaped t (v .call) (v .out) (length (v .room)) in
+    rw (o, r, decide-taped-agree (u .call) (v .call) k t (v .out) (length (v .room)))
+    (ap₂ (λ (taped : Taped) (file : List ℕ). record { taped = taped; file = file })
+    (ap (λ (y : TapedAnswer). y .taped) (answer-agree (u .call) (v .call) k t x))
+    (file-agree (u .call) (v .call) k t x (u .room) (v .room) (d .file)))
 
 pub alike-days : (us vs : List TapeTurn) (d : Day) → AlikeDays us vs → tapedRun d us ≡ tapedRun d vs
 unfolding AlikeDays tapedRun
@@ -234,4 +247,4 @@ alike-days [] [] d a = refl
 alike-days [] (v ∷ vs) d a = absurd a
 alike-days (u ∷ us) [] d a = absurd a
 alike-days (u ∷ us) (v ∷ vs) d a =
-    alike-days us vs (afterTurn d u) (a .2) ∙ ap (λ (e : Day). tapedRun e vs) (turn-agree d u v (a .0) (a .1))
+    alike-days us vs (afterTurn d u) (a .3) ∙ ap (λ (e : Day). tapedRun e vs) (turn-agree d u v (a .0) (a .1) (a .2))

@@ -1,32 +1,39 @@
 -- What an answer of the tape's functions says of the reading or the decision behind it. Assumes nothing.
 use mathlib.Core.Path.{_≡_, refl, sym, ap, _∙_}
-use mathlib.Core.Logic.{_↔_}
-use mathlib.Core.List.{List, [], _∷_, _++_}
-use Prim.Native.Nat.{ℕ, _+_}
+use mathlib.Core.Logic.{_↔_, inr}
+use mathlib.Core.List.{List, []}
+use Prim.Native.Nat.{ℕ, _+_, _<_, _≤_}
+use native.Mathlib.Omega.{arith}
 use lib.ListN.{length, take, drop}
 use Rattle.zvt_rules.specs.Reading.{Reading, got, refused}
+use Rattle.zvt_rules.specs.Buffers.{writtenLeaves}
 use Rattle.desk_rules.specs.declared.Reply.{Reply}
 use Rattle.desk_rules.specs.declared.Reply.the-variants.{Written, Refused}
-use Rattle.desk_rules.specs.Course.{Call, NumbersFit}
-use Rattle.desk_rules.specs.Desk.{fresh, Decision, refuse, accept, decide, Accepted, run, wrote}
-use Rattle.desk_rules.specs.Runs.{replies}
 use Rattle.desk_rules.specs.declared.Answer.{Answer}
-use Rattle.desk_rules.specs.Memory.{view, Valid, answerOf, leavesOf}
-use Rattle.desk_rules.proofs.Memory.{accepted-answer, accepted-leaves}
+use Rattle.desk_rules.specs.declared.Phase.the-variants.{Idle}
+use Rattle.desk_rules.specs.declared.Lane.{Lane}
+use Rattle.desk_rules.specs.declared.Line.{Line}
+use Rattle.desk_rules.specs.declared.Desk.{Desk}
+use Rattle.desk_rules.specs.Course.{Call, lost, NumbersFit, writes}
+use Rattle.desk_rules.specs.Desk.{State, Decision, refuse, accept, decide}
+use Rattle.desk_rules.specs.Memory.{view, Valid, refusedAnswer, answerOf, leavesOf, closeAnswer}
+use Rattle.desk_rules.specs.believed.Table.{Given, Row, idle, phaseAt}
+use Rattle.desk_rules.specs.believed.Answers.{Makes, broken}
+use Rattle.desk_rules.proofs.Rows.{table}
+use Rattle.desk_rules.proofs.Answers.{leaves}
+use Rattle.desk_rules.proofs.Memory.{refused-same, accepted-answer, accepted-leaves, follows}
 use Rattle.tape_rules.specs.declared.Taped.{Taped}
 use Rattle.tape_rules.specs.declared.TapedAnswer.{TapedAnswer}
-use Rattle.tape_rules.specs.Records.{Record, entriesOf, recorded}
-use Rattle.zvt_rules.specs.Buffers.{writtenLeaves}
-use Rattle.tape_rules.specs.Recording.{blockAnswer, writtenAnswer, callBytes, decideTaped, tapedAnswer, tapedOut, tapedLeaves, usedAfter, closeTaped, freshTaped}
-use Rattle.tape_rules.proofs.RecordLaws.{joined-once, records-exactly, payload-exactly}
-use Rattle.tape_rules.specs.Taping.{TapeTurn, Day, freshDay, decideTurn, afterTurn, tapedRun, keptIf, keptCalls}
-use Rattle.tape_rules.specs.believed.Recorded.{Joined, DayRecords}
-use Rattle.tape_rules.proofs.Masks.{Each}
-use Rattle.tape_rules.proofs.Taping.{taped-taken, taped-refused, taped-accepted, TurnFits, tape-follows}
-use Rattle.promises.specs.Days.{OfBytes}
-use Rattle.promises.specs.TapeDays.{callsPlayed}
+use Rattle.tape_rules.specs.declared.ClosedAnswer.{ClosedAnswer}
+use Rattle.tape_rules.specs.Tape.{blocksFor}
+use Rattle.tape_rules.specs.Tails.{Tidy}
+use Rattle.tape_rules.specs.Recording.{freshTaped, ValidTaped, blockAnswer, writtenAnswer, decideTaped, tapedAnswer, tapedOut, tapedRoom}
+use Rattle.tape_rules.specs.Recording.{heldBytes, closeTaped}
+use Rattle.tape_rules.proofs.Taping.{taped-taken, taped-refused, taped-accepted, ten-blocks, tape-enough, closed, close-kept}
 use Rattle.promises.specs.Answers.{no, yes, replySays, tapedSays, blockSays, Open}
-use Rattle.promises.proofs.Answers.{No, no-same, no-yes, said, said-no, said-yes, left-same, left-first, left-beyond, closing-no, closing-yes, closing-same}
+use Rattle.promises.specs.TapeDays.{ClosedRow, still-open, all-ended}
+use Rattle.promises.proofs.Answers.{No, no-same, yes-same, no-yes, said, said-no, said-yes}
+use Rattle.promises.proofs.Answers.{left-same, left-first, left-beyond, closing-no, closing-yes}
 
 -- ---- what is written into a buffer
 written-said : (x : Reading (List ℕ)) → replySays (writtenAnswer x) ≡ said length x
@@ -71,132 +78,131 @@ pub block-holds : (x : Reading (List ℕ)) (k : ℕ) → (blockSays (blockAnswer
 block-holds x = said-yes length x (block-said x)
 
 -- ---- a call of a desk with its tape
-module _ (t : Taped) (c : Call) (out tape : List ℕ) where
+module _ (t : Taped) (c : Call) (out room : List ℕ) where
   abbrev answer : TapedAnswer
-  answer = tapedAnswer t c (length out) (length tape)
+  answer = tapedAnswer t c (length out) (length room)
 
   abbrev decision : Decision
-  decision = decideTaped t c (length out) (length tape)
-
-  decision-no : (n : ℕ) → (tapedSays answer ≡ no n) ↔ (decision ≡ refuse n)
-  decision-no n = (to decision refl, λ e. ap tapedSays (taped-refused t c out tape n e .0))
-    where
-      to : (x : Decision) → decision ≡ x → tapedSays answer ≡ no n → decision ≡ refuse n
-      to (refuse m) e h = e ∙ ap refuse (no-same (rw (taped-refused t c out tape m e .0) at h))
-      to accept e h = absurd (no-yes (sym (rw (taped-accepted t c out tape e .0) at h)))
-
-  decision-yes : ((k : ℕ) × (tapedSays answer ≡ yes k)) ↔ (decision ≡ accept)
-  decision-yes = (to decision refl, λ e. (_, ap tapedSays (taped-accepted t c out tape e .0)))
-    where
-      to : (x : Decision) → decision ≡ x → (k : ℕ) × (tapedSays answer ≡ yes k) → decision ≡ accept
-      to (refuse m) e h = absurd (no-yes (sym (ap tapedSays (taped-refused t c out tape m e .0)) ∙ h .1))
-      to accept e h = e
+  decision = decideTaped t c (length out) (length room)
 
   abbrev deskSays : Answer
   deskSays = answerOf (t .desk) c (length out)
 
+  decision-no : (n : ℕ) → tapedSays answer ≡ no n → decision ≡ refuse n
+  decision-no n = to decision refl
+    where
+      to : (x : Decision) → decision ≡ x → tapedSays answer ≡ no n → decision ≡ refuse n
+      to (refuse m) e h = e ∙ ap refuse (no-same (rw (taped-refused t c out room m e .0) at h))
+      to accept e h = absurd (no-yes (sym (rw (taped-accepted t c out room e .0) at h)))
+
+  decision-yes : (k : ℕ) → tapedSays answer ≡ yes k → decision ≡ accept
+  decision-yes k = to decision refl
+    where
+      to : (x : Decision) → decision ≡ x → tapedSays answer ≡ yes k → decision ≡ accept
+      to (refuse m) e h = absurd (no-yes (sym (ap tapedSays (taped-refused t c out room m e .0)) ∙ h))
+      to accept e h = e
+
   pub taped-same : (n : ℕ) → tapedSays answer ≡ no n
-      → (answer .taped ≡ t) × (tapedOut t c (length tape) out ≡ out) × (tapedLeaves t c (length out) tape ≡ tape)
+      → (answer .taped ≡ t) × (tapedOut t c (length room) out ≡ out) × (tapedRoom t c (length out) room ≡ room)
   taped-same n h =
-      let k = taped-refused t c out tape n (decision-no n .0 h) in
+      let k = taped-refused t c out room n (decision-no n h) in
       (ap (λ (a : TapedAnswer). a .taped) (k .0), k .1, k .2)
 
-  module _ (k : ℕ) (h : tapedSays answer ≡ yes k) where
-    taken : decision ≡ accept
-    taken = decision-yes .0 (k, h)
+  -- what the desk without a tape answers and leaves
+  abbrev AsDesk : Type 0
+  AsDesk = (answer .reply ≡ deskSays .reply) × (answer .taped .desk ≡ deskSays .desk) × (tapedOut t c (length room) out ≡ leavesOf (t .desk) c out)
 
-    pub owned : decide (view (t .desk)) c (length out) ≡ accept
-    owned = taped-taken t c (length out) (length tape) taken .0
-
-    -- what the desk without a tape answers and leaves
-    pub taped-as-desk : (answer .reply ≡ deskSays .reply) × (answer .taped .desk ≡ deskSays .desk) × (tapedOut t c (length tape) out ≡ leavesOf (t .desk) c out)
-    taped-as-desk =
-        let a = taped-accepted t c out tape taken in (
-          ap (λ (x : TapedAnswer). x .reply) (a .0) ∙ sym (ap (λ (x : Answer). x .reply) (accepted-answer (t .desk) c (length out) owned)),
-          ap (λ (x : TapedAnswer). x .taped .desk) (a .0),
-          a .1 ∙ sym (accepted-leaves (t .desk) c out owned),
-        )
-
-    pub taped-records : (answer .taped .used ≡ t .used + length (callBytes (view (t .desk)) c))
-        × (tapedLeaves t c (length out) tape ≡ take (t .used) tape ++ (callBytes (view (t .desk)) c ++ drop (t .used + length (callBytes (view (t .desk)) c)) tape))
-    taped-records = let a = taped-accepted t c out tape taken in (ap (λ (x : TapedAnswer). x .taped .used) (a .0), a .2)
-
--- ---- closing
-
--- a tape is used as it was where closing is refused, and else empty
-kept-used : (r : Reply) (n used : ℕ) → replySays r ≡ no n → usedAfter r used ≡ used
-unfolding usedAfter
-kept-used (Written k) n used h = absurd (no-yes (sym h))
-kept-used (Refused r) n used h = refl
-
-none-used : (r : Reply) (k used : ℕ) → replySays r ≡ yes k → usedAfter r used ≡ 0
-unfolding usedAfter
-none-used (Written j) k used h = refl
-none-used (Refused r) k used h = absurd (no-yes h)
-
-module _ (t : Taped) (v : Valid (t .desk)) where
-  pub close-taped-no : (n : ℕ) → (tapedSays (closeTaped t) ≡ no n) ↔ (Open (t .desk) × (19 ≡ n))
-  unfolding closeTaped
-  close-taped-no = closing-no (t .desk) v
-
-  pub close-taped-yes : ((tapedSays (closeTaped t) ≡ yes 0) × (closeTaped t .taped ≡ freshTaped)) ↔ (Open (t .desk) → ⊥)
-  unfolding closeTaped
-  close-taped-yes = (
-    λ e o. no-yes (sym (close-taped-no 19 .1 (o, refl)) ∙ e .0),
-    λ n. let k = closing-yes (t .desk) v .1 n in (k .0, rw (k .1, none-used _ 0 (t .used) (k .0))),
-  )
-
-  pub close-taped-same : (n : ℕ) → tapedSays (closeTaped t) ≡ no n → closeTaped t .taped ≡ t
-  unfolding closeTaped
-  close-taped-same n h = rw (closing-same (t .desk) v n h, kept-used _ n (t .used) h)
-
--- ---- the calls of a day
-turns-fit : (us : List TapeTurn) → OfBytes (callsPlayed us) → Each TurnFits us
-unfolding OfBytes callsPlayed
-turns-fit [] b = tt
-turns-fit (u ∷ us) b = (b .0, turns-fit us (b .1))
-
-calls-fit : (cs : List Call) → OfBytes cs → Each NumbersFit cs
-unfolding OfBytes
-calls-fit [] b = tt
-calls-fit (c ∷ cs) b = (b .0, calls-fit cs (b .1))
-
-pub kept-bytes : (d : Day) (us : List TapeTurn) → OfBytes (callsPlayed us) → OfBytes (keptCalls d us)
-unfolding OfBytes callsPlayed keptCalls keptIf
-kept-bytes d [] b = tt
-kept-bytes d (u ∷ us) b = go (decideTurn d u) (kept-bytes (afterTurn d u) us (b .1))
-  where
-    go : (x : Decision) → OfBytes (keptCalls (afterTurn d u) us) → OfBytes (keptIf x (u .call) (keptCalls (afterTurn d u) us))
-    go (refuse n) more = more
-    go accept more = (b .0, more)
-
-module _ (us : List TapeTurn) (tape : List ℕ) (b : OfBytes (callsPlayed us)) where
-  abbrev kept : List Call
-  kept = keptCalls (freshDay tape) us
-
-  abbrev day : Day
-  day = tapedRun (freshDay tape) us
-
-  pub day-kept : Accepted fresh kept × (view (day .taped .desk) ≡ run fresh kept)
-  day-kept = let k = tape-follows us tape (turns-fit us b) in (k .0, k .1)
-
-  pub day-payload : (take (day .taped .used) (day .tape) ≡ recorded fresh kept) × (drop (day .taped .used) (day .tape) ≡ drop (day .taped .used) tape)
-  day-payload = let k = tape-follows us tape (turns-fit us b) in (k .4, k .5)
-
-  -- its records, joined, and those that it can be taken apart into
-  kept-fit : Each NumbersFit kept
-  kept-fit = calls-fit kept (kept-bytes (freshDay tape) us b)
-
-  pub day-joined : (rs : List Record) × DayRecords (replies kept (wrote fresh kept)) rs × Joined rs (take (day .taped .used) (day .tape))
-  day-joined = payload-exactly fresh kept (day-kept .0) kept-fit _ .1 (sym (day-payload .0))
-
-  pub day-records : (rs : List Record) → Joined rs (take (day .taped .used) (day .tape)) ↔ DayRecords (replies kept (wrote fresh kept)) rs
-  day-records rs =
-      let k = day-joined in
-      let same = records-exactly fresh kept (day-kept .0) kept-fit in (
-        λ j. rw (joined-once rs (k .0) _ j (k .2)) (k .1),
-        λ d. rw (sym (same rs .0 d) ∙ same (k .0) .0 (k .1)) (k .2),
+  accepted-as-desk : decision ≡ accept → AsDesk
+  accepted-as-desk e =
+      let a = taped-accepted t c out room e in
+      let own = taped-taken t c (length out) (length room) e .0 in (
+        ap (λ (x : TapedAnswer). x .reply) (a .0) ∙ sym (ap (λ (x : Answer). x .reply) (accepted-answer (t .desk) c (length out) own)),
+        ap (λ (x : TapedAnswer). x .taped .desk) (a .0),
+        a .1 ∙ sym (accepted-leaves (t .desk) c out own),
       )
 
-  pub day-entries : (rs : List Record) → Joined rs (take (day .taped .used) (day .tape)) → entriesOf fresh kept ≡ rs
-  day-entries rs j = records-exactly fresh kept (day-kept .0) kept-fit rs .0 (day-records rs .0 j)
+  pub taped-as-desk : (k : ℕ) → tapedSays answer ≡ yes k → AsDesk
+  taped-as-desk k h = accepted-as-desk (decision-yes k h)
+
+  module _ (v : ValidTaped t) (n : NumbersFit c) where
+    tidy : Tidy (t .tail)
+    unfolding ValidTaped
+    tidy = v .1
+
+    pub blocks-most : answer .blocks ≤ 10
+    blocks-most = go decision refl
+      where
+        go : (x : Decision) → decision ≡ x → answer .blocks ≤ 10
+        go (refuse m) e = rw (taped-refused t c out room m e .0) (omega arith)
+        go accept e = ten-blocks t c tidy n (length out) (length room) e
+
+    pub room-enough : t .tail .full + 10 ≤ 4_294_967_295 → 5_120 ≤ length room → answer .reply ≡ deskSays .reply
+    unfolding refusedAnswer
+    room-enough few much = go (decide (view (t .desk)) c (length out)) refl
+      where
+        same : decision ≡ decide (view (t .desk)) c (length out)
+        same = tape-enough t c tidy n (length out) (length room) few much
+
+        go : (x : Decision) → decide (view (t .desk)) c (length out) ≡ x → answer .reply ≡ deskSays .reply
+        go (refuse m) e = rw (taped-refused t c out room m (same ∙ e) .0, refused-same (t .desk) c (length out) m e)
+        go accept e = accepted-as-desk (same ∙ e) .0
+
+-- a lost link on an open lane is taken by the desk, and so with 5,120 bytes lent; its lane is idle then
+broken-idle : {s : State} {i at : ℕ} {l : Lane} {new : List Line} → Makes s (lost i) at l new → (at ≡ i) × (l ≡ idle)
+broken-idle (broken e) = (refl, refl)
+
+lost-idle : (d : Desk) (i : ℕ) → Valid d → decide (view d) (lost i) 0 ≡ accept → phaseAt (view (answerOf d (lost i) 0 .desk)) i ≡ Idle
+unfolding view NumbersFit
+lost-idle d i v e =
+    let k = leaves (view d) (lost i) 0 (v .lanes) tt e in
+    let m = broken-idle (k .makes) in
+    ap (λ (s : State). phaseAt s i) (follows d (lost i) 0 v e) ∙ ap (λ (l : Lane). l .phase) (rw (m .0) at (m .1))
+
+pub lost-taken : (t : Taped) → ValidTaped t → (i : ℕ) (room : List ℕ) → i < 8 → (phaseAt (view (t .desk)) i ≡ Idle → ⊥)
+    → t .tail .full + 10 ≤ 4_294_967_295 → 5_120 ≤ length room → let a = tapedAnswer t (lost i) 0 (length room) in
+    (tapedSays a ≡ yes 0) × (phaseAt (view (a .taped .desk)) i ≡ Idle)
+unfolding Given NumbersFit writes ValidTaped
+lost-taken t v i room l busy few much =
+    let row : Row (view (t .desk)) (lost i) 0 accept = inr (λ n g. omega (arith, g .0), inr (λ n g. busy (g .0), refl)) in
+    let e = table (view (t .desk)) (lost i) 0 accept .1 row in
+    let says = ap replySays (room-enough t (lost i) [] room v tt few much ∙ ap (λ (a : Answer). a .reply) (accepted-answer (t .desk) (lost i) 0 e)) in
+    (says, rw (taped-as-desk t (lost i) [] room 0 says .1) (lost-idle (t .desk) i (v .0) e))
+
+-- ---- closing
+reply-no : (r : Reply) (n : ℕ) → replySays r ≡ no n → r ≡ Refused (record { number = n })
+reply-no (Written k) n h = absurd (no-yes (sym h))
+reply-no (Refused r) n h = ap (λ (m : ℕ). Refused (record { number = m })) (no-same h)
+
+reply-yes : (r : Reply) (k : ℕ) → replySays r ≡ yes k → r ≡ Written k
+reply-yes (Written j) k h = ap Written (yes-same h)
+reply-yes (Refused r) k h = absurd (no-yes h)
+
+module _ (t : Taped) (v : ValidTaped t) where
+  valid : Valid (t .desk)
+  unfolding ValidTaped
+  valid = v .0
+
+  kept : Open (t .desk) → closeTaped t ≡ record { reply = Refused (record { number = 19 }); blocks = 0; bytes = 0; taped = t }
+  kept o = close-kept t _ (reply-no _ 19 (closing-no (t .desk) valid 19 .1 (o, refl)))
+
+  ended : (Open (t .desk) → ⊥)
+      → closeTaped t ≡ record { reply = Written 0; blocks = blocksFor (heldBytes (t .tail)); bytes = heldBytes (t .tail); taped = freshTaped }
+  ended n = closed t 0 (reply-yes _ 0 (closing-yes (t .desk) valid .1 n .0))
+
+  row-closed : {a : ClosedAnswer} → ClosedRow t a → closeTaped t ≡ a
+  row-closed (still-open o) = kept o
+  row-closed (all-ended {blocks} {bytes} n held least most) =
+      let pieces : blocksFor (heldBytes (t .tail)) ≡ blocks = omega arith in
+      ended n ∙ rw (pieces, ← held)
+
+  closed-row : ClosedRow t (closeTaped t)
+  closed-row = go (closeAnswer (t .desk) .reply) refl
+    where
+      go : (r : Reply) → closeAnswer (t .desk) .reply ≡ r → ClosedRow t (closeTaped t)
+      go (Written k) e =
+          let n : Open (t .desk) → ⊥ = λ o. no-yes (sym (closing-no (t .desk) valid 19 .1 (o, refl)) ∙ ap replySays e) in
+          rw (ended n) (all-ended {blocks = blocksFor (heldBytes (t .tail))} n refl (omega arith) (omega arith))
+      go (Refused r) e = let o = closing-no (t .desk) valid (r .number) .0 (ap replySays e) .0 in rw (kept o) (still-open o)
+
+  pub close-exactly : (a : ClosedAnswer) → (closeTaped t ≡ a) ↔ ClosedRow t a
+  close-exactly a = (λ e. rw e at closed-row, row-closed)

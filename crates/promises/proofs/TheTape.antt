@@ -1,10 +1,11 @@
--- The tape, rule by rule: blocks, whole tapes, the tape of a day, what must not be on it; then the numbers of refusal. That writing, or
--- reading a tape, gives `got w` says that it puts w into the buffer (got-is-written). Assumes nothing.
+-- The tape, rule by rule: blocks, whole tapes, a call of a desk with its tape, a day and its file, closing, what must not be on a tape;
+-- then the numbers of refusal. That writing, or reading a tape, gives `got w` says that it puts w into the buffer (got-is-written).
+-- Assumes nothing.
 use mathlib.Core.Path.{_≡_, refl, sym, ap, _∙_}
 use mathlib.Core.Bool.{Bool, false}
 use mathlib.Core.Logic.{_↔_, Iff·trans}
 use mathlib.Core.List.{List, [], _++_}
-use Prim.Native.Nat.{ℕ, _+_, _*_, _<_, _≤_}
+use Prim.Native.Nat.{ℕ, _+_, _-_, _*_, _<_, _≤_}
 use native.Mathlib.Omega.{arith}
 use lib.ListN.{length, getD, take, drop, set, length-take, length-drop, drop-of-length-le}
 use lib.Seq.{ext-getD}
@@ -17,21 +18,26 @@ use Rattle.zvt_rules.specs.Listed.{fieldAnswer}
 use Rattle.zvt_rules.specs.Buffers.{writtenLeaves}
 use Rattle.zvt_rules.proofs.Readings.{then-stop}
 use Rattle.zvt_rules.proofs.MessageBytes.{read-sound}
+use Rattle.desk_rules.specs.declared.Phase.the-variants.{Idle}
 use Rattle.desk_rules.specs.declared.Lane.{Lane}
-use Rattle.desk_rules.specs.declared.Reply.{Reply}
-use Rattle.desk_rules.specs.Course.{Call, heard, NumbersFit}
-use Rattle.desk_rules.specs.Desk.{fresh, Accepted, run, wrote}
-use Rattle.desk_rules.specs.Memory.{view, Valid, answerOf, leavesOf}
-use Rattle.desk_rules.specs.Runs.{Exchange, replies}
+use Rattle.desk_rules.specs.declared.Reply.the-variants.{Written}
+use Rattle.desk_rules.specs.Course.{Call, lost, heard, NumbersFit}
+use Rattle.desk_rules.specs.Desk.{fresh}
+use Rattle.desk_rules.specs.Memory.{view, answerOf, leavesOf}
+use Rattle.desk_rules.specs.believed.Table.{phaseAt}
 use Rattle.tape_rules.specs.declared.Taped.{Taped}
+use Rattle.tape_rules.specs.declared.TapedAnswer.{TapedAnswer}
+use Rattle.tape_rules.specs.declared.ClosedAnswer.{ClosedAnswer}
 use Rattle.tape_rules.specs.Block.{blockBytes, writeBlock, readBlock}
-use Rattle.tape_rules.specs.Records.{Record, masked}
-use Rattle.tape_rules.specs.Recording.{freshTaped, blockAnswer, writtenAnswer, writeTape, readTape, tapedAnswer, tapedOut, tapedLeaves, closeTaped}
-use Rattle.tape_rules.specs.Taping.{TapeTurn, Day, freshDay, tapedRun, keptCalls}
-use Rattle.tape_rules.specs.believed.Blocks.{Drawn, Outside, WriteNo, BlockNo}
-use Rattle.tape_rules.specs.believed.Tapes.{pieceAt, Pieces, DrawnTape, TapeWriteNo, TapeReadNo}
+use Rattle.tape_rules.specs.Records.{Record, masked, recorded}
+use Rattle.tape_rules.specs.Recording.{freshTaped, ValidTaped, blockAnswer, writtenAnswer, writeTape, readTape}
+use Rattle.tape_rules.specs.Recording.{tapedAnswer, tapedOut, tapedRoom, closeTaped}
+use Rattle.tape_rules.specs.Taping.{TapeTurn, Day, freshDay}
+use Rattle.tape_rules.specs.believed.Blocks.{usedOf, Drawn, Outside, WriteNo, BlockNo}
+use Rattle.tape_rules.specs.believed.Tapes.{pieceAt, blockAt, Pieces, DrawnTape, TapeWriteNo, TapeReadNo}
 use Rattle.tape_rules.specs.believed.Masking.{OnTape}
-use Rattle.tape_rules.specs.believed.Recorded.{Joined, DayRecords, DayTape, CallBytes, TapedRow}
+use Rattle.tape_rules.specs.believed.Recorded.{Joined, DayRecords, DayTape, TapedRow}
+use Rattle.tape_rules.specs.believed.Filed.{Filed, Played}
 use Rattle.tape_rules.proofs.BlockLaws as block
 use Rattle.tape_rules.proofs.Changed.{changed-byte, tape-changed}
 use Rattle.tape_rules.proofs.BlockRows as rows
@@ -39,11 +45,12 @@ use Rattle.tape_rules.proofs.TapeRows as tapes
 use Rattle.tape_rules.proofs.Masks.{mask-size, masked-twice}
 use Rattle.tape_rules.proofs.Places.{on-tape}
 use Rattle.tape_rules.proofs.Unseen.{mask-heard}
-use Rattle.tape_rules.proofs.Taping.{call-bytes, taped-table, taped-valid, close-taped-valid}
-use Rattle.promises.specs.Days.{OfBytes}
-use Rattle.promises.specs.TapeDays.{callsPlayed, Hiding, AlikeDays}
-use Rattle.promises.specs.Answers.{no, yes, replySays, tapedSays, blockSays, Open}
+use Rattle.tape_rules.proofs.Taping.{taped-table, taped-valid, close-taped-valid}
+use Rattle.tape_rules.proofs.Playing.{fresh-whole}
+use Rattle.promises.specs.TapeDays.{LentBytes, exchanges, DeskAlone, ClosedRow, Hiding, AlikeDays}
+use Rattle.promises.specs.Answers.{no, yes, replySays, tapedSays, closedSays, blockSays}
 use Rattle.promises.proofs.TapeAnswers as answers
+use Rattle.promises.proofs.TapeDays as days
 use Rattle.promises.proofs.Secrets as secrets
 
 -- ---- T1 to T8: a block
@@ -69,7 +76,8 @@ block-laid-out = rows.written-drawn
 
 -- Of a block exactly the payload is read that is drawn in it, for the number due, a full one where another block follows.
 pub block-read-exactly : (due : ℕ) (last : Bool) (s : List ℕ) (k : ℕ)
-    → (blockSays (blockAnswer (readBlock due last s)) ≡ yes k) ↔ ((p : List ℕ) × (Drawn due p s × (Outside due p → ⊥) × (last ≡ false → length p ≡ 504)) × (length p ≡ k))
+    → (blockSays (blockAnswer (readBlock due last s)) ≡ yes k)
+    ↔ ((p : List ℕ) × (Drawn due p s × (Outside due p → ⊥) × (last ≡ false → length p ≡ 504)) × (length p ≡ k))
 block-read-exactly due last s k = (
   λ h. let r = answers.block-holds (readBlock due last s) k .0 h in (r .0, rows.block-drawn due last s (r .0) .0 (r .1), r .2),
   λ h. answers.block-holds (readBlock due last s) k .1 (h .0, rows.block-drawn due last s (h .0) .1 (h .1), h .2),
@@ -144,55 +152,97 @@ tape-read-exactly = tapes.read-tape-drawn
 pub tape-reads-back : (p : List ℕ) (room back : ℕ) (s : List ℕ) → writeTape p room ≡ got s → length p ≤ back → readTape s back ≡ got p
 tape-reads-back p room back s w h = tape-read-exactly s p back .1 (tapes.payload-drawn s p .0 (tapes.tape-joins-again p room s w), h)
 
--- ---- T12, T13, T21: what is recorded
-module _ (t : Taped) (c : Call) (out tape : List ℕ) (k : ℕ) (h : tapedSays (tapedAnswer t c (length out) (length tape)) ≡ yes k) where
-  -- A desk with its tape does with an accepted call what the desk alone does.
-  pub as-without-tape : let a = tapedAnswer t c (length out) (length tape) in
+-- ---- T21: a call of a desk with its tape
+
+-- What is answered, and what is left of the room for blocks, is what one row says: refused as the desk alone refuses, else with 16 or 11
+-- where its blocks find no number or no room, with desk, tape and room as they were; or taken, and the room holds the blocks that changed.
+pub taped-answered-exactly : (t : Taped) (c : Call) (out room : List ℕ) → NumbersFit c → (a : TapedAnswer) (left : List ℕ) → Bytes left
+    → ((tapedAnswer t c (length out) (length room) ≡ a) × (tapedRoom t c (length out) room ≡ left)) ↔ TapedRow t c (length out) room a left
+taped-answered-exactly t c out room n = taped-table t c n (length out) room
+
+module _ (t : Taped) (c : Call) (out room : List ℕ) where
+  -- With an accepted call a desk with its tape does what the desk alone does.
+  pub as-without-tape : (k : ℕ) → let a = tapedAnswer t c (length out) (length room) in
       let b = answerOf (t .desk) c (length out) in
-      (a .reply ≡ b .reply) × (a .taped .desk ≡ b .desk) × (tapedOut t c (length tape) out ≡ leavesOf (t .desk) c out)
-  as-without-tape = answers.taped-as-desk t c out tape k h
+      tapedSays a ≡ yes k → (a .reply ≡ b .reply) × (a .taped .desk ≡ b .desk) × (tapedOut t c (length room) out ≡ leavesOf (t .desk) c out)
+  as-without-tape = answers.taped-as-desk t c out room
 
-  -- And its records stand directly behind those before it, with nothing else of the payload changed.
-  pub records-behind : NumbersFit c → (w : List ℕ) → CallBytes t c w
-      → (tapedAnswer t c (length out) (length tape) .taped .used ≡ t .used + length w)
-      × (tapedLeaves t c (length out) tape ≡ take (t .used) tape ++ (w ++ drop (t .used + length w) tape))
-  records-behind n w b = rw (← (call-bytes t c n (length out) (answers.owned t c out tape k h) w .0 b)) (answers.taped-records t c out tape k h)
+  module _ (v : ValidTaped t) (n : NumbersFit c) where
+    -- Whoever lends 5,120 bytes for blocks is answered as by the desk alone: refused exactly where that refuses, with the same number. The
+    -- one exception is a day of over 4,294,967,285 full blocks, two million million bytes: there a block number may need a fifth byte (16).
+    pub enough : t .tail .full + 10 ≤ 4_294_967_295 → 5_120 ≤ length room
+        → tapedAnswer t c (length out) (length room) .reply ≡ answerOf (t .desk) c (length out) .reply
+    enough = answers.room-enough t c out room v n
 
--- A day is any list of calls, each with the room lent to it, on a fresh desk and an empty tape.
-module _ (day : List TapeTurn) (tape : List ℕ) (b : OfBytes (callsPlayed day)) where
-  abbrev calls : List Call
-  calls = keptCalls (freshDay tape) day
+    -- That is room for ten blocks, and no call changes more.
+    pub ten-blocks : tapedAnswer t c (length out) (length room) .blocks ≤ 10
+    ten-blocks = answers.blocks-most t c out room v n
 
-  -- its accepted calls, each with what it wrote
-  abbrev exchanges : List Exchange
-  exchanges = replies calls (wrote fresh calls)
+-- So no payment stays open for its tape's sake: a lost link on an open lane is taken, and the lane is idle then.
+pub lost-link-taken : (t : Taped) → ValidTaped t → (i : ℕ) (room : List ℕ) → i < 8 → (phaseAt (view (t .desk)) i ≡ Idle → ⊥)
+    → t .tail .full + 10 ≤ 4_294_967_295 → 5_120 ≤ length room → let a = tapedAnswer t (lost i) 0 (length room) in
+    (tapedSays a ≡ yes 0) × (phaseAt (view (a .taped .desk)) i ≡ Idle)
+lost-link-taken = answers.lost-taken
 
-  abbrev atEnd : Day
-  atEnd = tapedRun (freshDay tape) day
+-- ---- T12, T13, T23: a day and its file
 
-  abbrev payload : List ℕ
-  payload = take (atEnd .taped .used) (atEnd .tape)
+-- Every day is played, and in one way: what was called and lent settles which calls are accepted, and desk, tape and file at its end.
+pub one-day : (day : List TapeTurn) → LentBytes day → (atEnd : Day) × (calls : List Call) × Played freshDay day atEnd calls
+    × ((e : Day) (cs : List Call) → Played freshDay day e cs → (atEnd ≡ e) × (calls ≡ cs))
+one-day day b = (_, _, days.played-is day b _ _ .1 (refl, refl), λ e cs. days.played-is day b e cs .0)
 
-  -- At its end the desk is what its accepted calls make of it: refused ones leave no trace.
-  pub desk-of-day : Accepted fresh calls × (view (atEnd .taped .desk) ≡ run fresh calls)
-  desk-of-day = answers.day-kept day tape b
+-- A day is any list of calls, each with the room lent to it, on a fresh desk and an empty file, up to any moment before it is closed.
+module _ (day : List TapeTurn) (b : LentBytes day) (atEnd : Day) (calls : List Call) (played : Played freshDay day atEnd calls) where
+  known : days.Known atEnd calls (recorded fresh calls)
+  known = days.a-day day b atEnd calls played
 
-  -- And what is used of the payload is exactly the records of the accepted calls, with the rest of the buffer as it was.
-  pub tape-of-day : ((rs : List Record) × DayRecords exchanges rs × Joined rs payload)
-      × (drop (atEnd .taped .used) (atEnd .tape) ≡ drop (atEnd .taped .used) tape)
-  tape-of-day = (answers.day-joined day tape b, answers.day-payload day tape b .1)
+  -- The desk is what its accepted calls alone make of it: refused ones leave no trace, and what the demands and the questions say of a day at
+  -- the desk holds of it.
+  pub desk-of-day : DeskAlone calls (atEnd .taped .desk)
+  desk-of-day = days.alone played known
 
-  -- Whoever takes the payload apart into records finds those of the calls and replies of the day in their order, and no others.
-  pub day-reads-back : (rs : List Record) → Joined rs payload ↔ DayRecords exchanges rs
-  day-reads-back = answers.day-records day tape b
+  -- And the till's file is exactly the tape of the accepted calls and their replies, whatever rooms were lent to them.
+  pub tape-of-day : DayTape (exchanges calls) (atEnd .file)
+  tape-of-day = let r = days.its-records known in (r .0, recorded fresh calls, _, r .1, r .2, known .drawn)
 
-  -- The blocks alone tell the whole day: a tape that is written of it is its tape, and reads back as its payload.
-  pub day-from-tape : (room : ℕ) (s : List ℕ) → writeTape payload room ≡ got s → DayTape exchanges s × (readTape s (length payload) ≡ got payload)
-  day-from-tape room s w =
-      let r = tape-of-day .0 in
-      let e = tape-reads-back payload room (length payload) s w (omega arith) in
-      let k = tape-read-exactly s payload (length payload) .0 e .0 in
-      ((r .0, payload, k .0, r .1, r .2, k .1), e)
+  -- Whoever reads the file and takes its payload apart into records finds those of the calls and replies, in their order, and no others.
+  pub day-reads-back : (p : List ℕ) × ((room : ℕ) → length p ≤ room → readTape (atEnd .file) room ≡ got p)
+      × ((rs : List Record) → Joined rs p ↔ DayRecords (exchanges calls) rs)
+  day-reads-back = (recorded fresh calls, days.file-reads known, days.records-are known)
+
+  -- A block of the file that is full is the same at every later moment of the day: only the end changes.
+  pub only-the-end-changes : (more : List TapeTurn) → LentBytes more → (later : Day) (all : List Call) → Played freshDay (day ++ more) later all
+      → (k : ℕ) → usedOf (blockAt k (atEnd .file)) ≡ 504 → blockAt k (later .file) ≡ blockAt k (atEnd .file)
+  only-the-end-changes more c later all = days.full-is-kept day more b c atEnd later calls all played
+
+  -- One more call that is accepted, and what the till's file is after it.
+  module _ (u : TapeTurn) (a : TapedAnswer) (left : List ℕ) (n : ℕ) (row : TapedRow (atEnd .taped) (u .call) (u .out) (u .room) a left)
+      (reply : a .reply ≡ Written n) where
+    -- Its blocks are the last of the file, from the first that changed on. All before them stay, and at most one of them was there already:
+    -- a short one.
+    pub where-blocks-lie : (after : List ℕ) → Filed a left (atEnd .file) after
+        → (take ((a .first - 1) * 512) after ≡ take ((a .first - 1) * 512) (atEnd .file))
+        × (length after ≡ (a .first - 1 + a .blocks) * 512)
+        × (length (atEnd .file) ≤ a .first * 512)
+        × (usedOf (blockAt (a .first - 1) (atEnd .file)) < 504)
+    where-blocks-lie after = days.at-the-end known row reply
+
+    -- So a write that is torn off, whatever it leaves from there on, can harm the last, short block alone: each full one is as it was.
+    pub torn-write : (torn : List ℕ) → take ((a .first - 1) * 512) torn ≡ take ((a .first - 1) * 512) (atEnd .file)
+        → (k : ℕ) → usedOf (blockAt k (atEnd .file)) ≡ 504 → blockAt k torn ≡ blockAt k (atEnd .file)
+    torn-write = days.torn-off known row reply
+
+  -- What closing says of the day's tape, its blocks and the bytes that they hold, is what the file has; and a new, empty one begins.
+  pub closing-says : (n : ℕ) → let a = closeTaped (atEnd .taped) in
+      closedSays a ≡ yes n → (p : List ℕ) × DrawnTape p (atEnd .file) (a .blocks) × (length p ≡ a .bytes) × (a .taped ≡ freshTaped)
+  closing-says n h =
+      let k = days.closing-tells known (answers.close-exactly (atEnd .taped) (known .valid) _ .0 refl) h in
+      (recorded fresh calls, k .0, k .1, k .2)
+
+-- What is answered to a closing, and left, is what one row says: refused with 19 exactly where a payment is open, and then all stays; else
+-- the bytes that the tape holds, as many blocks as they take, and a fresh desk with an empty tape.
+pub close-taped-exactly : (t : Taped) → ValidTaped t → (a : ClosedAnswer) → (closeTaped t ≡ a) ↔ ClosedRow t a
+close-taped-exactly = answers.close-exactly
 
 -- ---- T14 to T17: what must not be on the tape
 
@@ -202,12 +252,12 @@ pub recorded-byte-by-byte : (s : List ℕ) (m : Message) → Bytes s → readOf 
     → (length (masked s) ≡ length s) × ((i v : ℕ) → i < length s → OnTape m s i v ↔ (getD (masked s) i 0 ≡ v))
 recorded-byte-by-byte s m b e = (mask-size s b, on-tape s m e (read-sound s m b e .0))
 
--- No record of a day holds a digit of a password or a value byte of field 22, 23, 24 or 2D of a list.
-pub nothing-secret : (day : List TapeTurn) (tape : List ℕ) (b : OfBytes (callsPlayed day)) (rs : List Record) → Joined rs (payload day tape b)
-    → Hiding rs
-nothing-secret day tape b rs j =
-    rw (← (answers.day-entries day tape b rs j))
-    (secrets.run-hides fresh (calls day tape b) (desk-of-day day tape b .0) (answers.kept-bytes (freshDay tape) day b))
+-- No record that can be read of a day's file holds a digit of a password or a value byte of field 22, 23, 24 or 2D of a list.
+pub nothing-secret : (day : List TapeTurn) → LentBytes day → (atEnd : Day) (calls : List Call) → Played freshDay day atEnd calls
+    → (room : ℕ) (p : List ℕ) (rs : List Record) → readTape (atEnd .file) room ≡ got p → Joined rs p → Hiding rs
+nothing-secret day b atEnd calls played room p rs h j =
+    let k = days.a-day day b atEnd calls played in
+    rw (← (days.entries-are k rs (rw (days.read-is k room p h) j))) (secrets.run-hides fresh calls (k .accepted) (k .fit))
 
 -- The reader says of a recorded message what it said of the message: pair, length of the body, shortness, number of objects, the ids and
 -- places of its fields, and what a status information tells.
@@ -235,10 +285,11 @@ alike-one-record s t m n b d e f long same =
     let k = same i h in
     ms .1 i (k .0) h .0 (k .1) ∙ sym (mt .1 i (k .0) (omega arith) .0 (k .2)))
 
--- So are whole days: nobody can tell from the tape and the book which password was typed or what stood in these fields.
-pub alike-days-one-tape : (day other : List TapeTurn) (tape : List ℕ) → AlikeDays day other
-    → tapedRun (freshDay tape) day ≡ tapedRun (freshDay tape) other
-alike-days-one-tape day other tape a = secrets.alike-days day other (freshDay tape) a
+-- So are whole days: nobody can tell from desk, tape and file which password was typed or what stood in these fields.
+pub alike-days-one-tape : (day other : List TapeTurn) → LentBytes day → LentBytes other → AlikeDays day other → (d e : Day) (cs ds : List Call)
+    → Played freshDay day d cs → Played freshDay other e ds → d ≡ e
+alike-days-one-tape day other b c a d e cs ds p q =
+    sym (days.played-is day b d cs .0 p .0) ∙ secrets.alike-days day other freshDay a ∙ days.played-is other c e ds .0 q .0
 
 -- ---- R30: "one is given exactly where its row holds and none before it there does."
 
@@ -260,21 +311,6 @@ tape-write-refused-exactly p room n = Iff·trans (answers.written-says (writeTap
 pub tape-read-refused-exactly : (s : List ℕ) (room n : ℕ) → (replySays (writtenAnswer (readTape s room)) ≡ no n) ↔ TapeReadNo s room n
 tape-read-refused-exactly s room n = Iff·trans (answers.written-says (readTape s room) n) (tapes.read-tape-no s room n)
 
--- A desk with its tape refuses a call as the desk does, and with 11 one that the desk would take and whose records find no room (T21); every
--- other call is taken, with the desk's own answer.
-pub taped-answered-exactly : (t : Taped) (c : Call) (out tape : List ℕ) → NumbersFit c → (r : Reply)
-    → (tapedAnswer t c (length out) (length tape) .reply ≡ r) ↔ TapedRow t c (length out) (length tape) r
-taped-answered-exactly t c out tape n = taped-table t c n (length out) (length tape)
-
-module _ (t : Taped) (v : Valid (t .desk)) where
-  -- R19: "a payment is open at closing", and nothing else keeps the day from being closed.
-  pub close-taped-refused-exactly : (n : ℕ) → (tapedSays (closeTaped t) ≡ no n) ↔ (Open (t .desk) × (19 ≡ n))
-  close-taped-refused-exactly = answers.close-taped-no t v
-
-  -- A day that is closed is followed by one with a fresh desk and an empty tape (P36, T22).
-  pub close-taped-exactly : ((tapedSays (closeTaped t) ≡ yes 0) × (closeTaped t .taped ≡ freshTaped)) ↔ (Open (t .desk) → ⊥)
-  close-taped-exactly = answers.close-taped-yes t v
-
 -- ---- R32: "A refusal leaves the desk and all lent buffers as they were."
 
 -- Where writing a block or a tape, or reading a tape, is refused, the buffer stays as it was.
@@ -282,13 +318,9 @@ pub write-unchanged : (x : Reading (List ℕ)) (out : List ℕ) (n : ℕ) → re
 write-unchanged = answers.written-same
 
 -- A refused call leaves desk, tape and both buffers as they were: it can be made again.
-pub taped-unchanged : (t : Taped) (c : Call) (out tape : List ℕ) (n : ℕ) → tapedSays (tapedAnswer t c (length out) (length tape)) ≡ no n
-    → (tapedAnswer t c (length out) (length tape) .taped ≡ t) × (tapedOut t c (length tape) out ≡ out) × (tapedLeaves t c (length out) tape ≡ tape)
+pub taped-unchanged : (t : Taped) (c : Call) (out room : List ℕ) (n : ℕ) → tapedSays (tapedAnswer t c (length out) (length room)) ≡ no n
+    → (tapedAnswer t c (length out) (length room) .taped ≡ t) × (tapedOut t c (length room) out ≡ out) × (tapedRoom t c (length out) room ≡ room)
 taped-unchanged = answers.taped-same
-
--- So does a refused closing.
-pub close-taped-unchanged : (t : Taped) → Valid (t .desk) → (n : ℕ) → tapedSays (closeTaped t) ≡ no n → closeTaped t .taped ≡ t
-close-taped-unchanged = answers.close-taped-same
 
 -- ---- R33: "Success leaves the bytes of a lent buffer behind those written as they were."
 
@@ -297,15 +329,19 @@ pub got-is-written : (x : Reading (List ℕ)) (out w : List ℕ)
     → (x ≡ got w) ↔ ((replySays (writtenAnswer x) ≡ yes (length w)) × (take (length w) (writtenLeaves x out) ≡ w))
 got-is-written = answers.written-got
 
--- Beyond it the buffer stays as it was; of a call, as-without-tape and records-behind say so.
-pub write-beyond-unchanged : (x : Reading (List ℕ)) (out : List ℕ) (k : ℕ) → replySays (writtenAnswer x) ≡ yes k → drop k (writtenLeaves x out) ≡ drop k out
+-- Beyond it the buffer stays as it was; of a call, as-without-tape and taped-answered-exactly say so.
+pub write-beyond-unchanged : (x : Reading (List ℕ)) (out : List ℕ) (k : ℕ) → replySays (writtenAnswer x) ≡ yes k
+    → drop k (writtenLeaves x out) ≡ drop k out
 write-beyond-unchanged = answers.written-beyond
 
--- ---- P37: all that a function presumes of its desk is kept by every call
+-- ---- P37: all that a function presumes of a desk with its tape holds of the fresh one, and every call keeps it
 
 -- A desk with its tape that these functions gave out may be handed to any of them.
-pub taped-fit : (t : Taped) (c : Call) (room size : ℕ) → Valid (t .desk) → NumbersFit c → Valid (tapedAnswer t c room size .taped .desk)
+pub fresh-taped-fit : ValidTaped freshTaped
+fresh-taped-fit = fresh-whole .0
+
+pub taped-fit : (t : Taped) (c : Call) (out room : ℕ) → ValidTaped t → NumbersFit c → ValidTaped (tapedAnswer t c out room .taped)
 taped-fit = taped-valid
 
-pub close-taped-fit : (t : Taped) → Valid (t .desk) → Valid (closeTaped t .taped .desk)
+pub close-taped-fit : (t : Taped) → ValidTaped t → ValidTaped (closeTaped t .taped)
 close-taped-fit = close-taped-valid

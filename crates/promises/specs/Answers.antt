@@ -16,6 +16,12 @@ use Rattle.zvt_rules.specs.declared.FirstAnswer.{FirstAnswer}
 use Rattle.zvt_rules.specs.declared.FirstAnswer.the-variants.{Accepted as first-accepted, Refused as first-refused}
 use Rattle.zvt_rules.specs.declared.ShortenAnswer.{ShortenAnswer}
 use Rattle.zvt_rules.specs.declared.ShortenAnswer.the-variants.{Written as short-written, Refused as short-refused}
+use Rattle.zvt_rules.specs.declared.Heard.{Heard}
+use Rattle.zvt_rules.specs.declared.HearAnswer.{HearAnswer}
+use Rattle.zvt_rules.specs.declared.HearAnswer.the-variants.{Heard as heard, Refused as unheard}
+use Rattle.zvt_rules.specs.declared.ToldBody.{ToldBody}
+use Rattle.zvt_rules.specs.declared.ToldAnswer.{ToldAnswer}
+use Rattle.zvt_rules.specs.declared.ToldAnswer.the-variants.{Told as told, Refused as body-refused}
 use Rattle.zvt_rules.specs.declared.ListPlace.{ListPlace}
 use Rattle.zvt_rules.specs.declared.ListPlace.the-variants.{Nowhere, Between}
 use Rattle.zvt_rules.specs.declared.FieldAnswer.{FieldAnswer}
@@ -42,6 +48,7 @@ use Rattle.desk_rules.specs.Memory.{view}
 use Rattle.tape_rules.specs.declared.BlockAnswer.{BlockAnswer}
 use Rattle.tape_rules.specs.declared.BlockAnswer.the-variants.{Payload, Refused as block-refused}
 use Rattle.tape_rules.specs.declared.TapedAnswer.{TapedAnswer}
+use Rattle.tape_rules.specs.declared.ClosedAnswer.{ClosedAnswer}
 
 -- R31: "A refusal answers its number and nothing else.": refused with that number, or these values
 pub data Said (A : Type 0) : Type 0 where
@@ -71,6 +78,15 @@ firstSays (first-refused r) = no (r .number)
 abbrev pub shortSays : ShortenAnswer → Said ℕ
 shortSays (short-written k) = yes k
 shortSays (short-refused r) = no (r .number)
+
+-- what a desk asks of a message: its header, and what the body behind it tells
+abbrev pub heardSays : HearAnswer → Said Heard
+heardSays (heard h) = yes h
+heardSays (unheard r) = no (r .number)
+
+abbrev pub toldSays : ToldAnswer → Said ToldBody
+toldSays (told t) = yes t
+toldSays (body-refused r) = no (r .number)
 
 -- where a list lies, from and to, and a field of it: what is not there is none, and not refused
 abbrev pub placeSays : ListPlace → Said (Option (ℕ × ℕ))
@@ -106,6 +122,9 @@ answerSays a = replySays (a .reply)
 
 abbrev pub tapedSays : TapedAnswer → Said ℕ
 tapedSays a = replySays (a .reply)
+
+abbrev pub closedSays : ClosedAnswer → Said ℕ
+closedSays a = replySays (a .reply)
 
 -- a line asked for: behind the last there is none, which is not refused
 abbrev pub lineSays : LineAnswer → Said (Option Line)

@@ -23,4 +23,4 @@ nothing e = tt
 
 -- where two buffers are lent, the one content is the pair of them
 abbrev pub contents : RefT (List ℕ) → RefT (List ℕ) → List ℕ × List ℕ
-contents out payload = (now out, now payload)
+contents out room = (now out, now room)
