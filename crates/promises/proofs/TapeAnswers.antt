@@ -126,7 +126,6 @@ module _ (t : Taped) (c : Call) (out room : List ℕ) where
 
   module _ (v : ValidTaped t) (n : NumbersFit c) where
     tidy : Tidy (t .tail)
-    unfolding ValidTaped
     tidy = v .1
 
     pub blocks-most : answer .blocks ≤ 10
@@ -161,7 +160,7 @@ lost-idle d i v e =
 pub lost-taken : (t : Taped) → ValidTaped t → (i : ℕ) (room : List ℕ) → i < 8 → (phaseAt (view (t .desk)) i ≡ Idle → ⊥)
     → t .tail .full + 10 ≤ 4_294_967_295 → 5_120 ≤ length room → let a = tapedAnswer t (lost i) 0 (length room) in
     (tapedSays a ≡ yes 0) × (phaseAt (view (a .taped .desk)) i ≡ Idle)
-unfolding Given NumbersFit writes ValidTaped
+unfolding Given NumbersFit writes
 lost-taken t v i room l busy few much =
     let row : Row (view (t .desk)) (lost i) 0 accept = inr (λ n g. omega (arith, g .0), inr (λ n g. busy (g .0), refl)) in
     let e = table (view (t .desk)) (lost i) 0 accept .1 row in
@@ -179,7 +178,6 @@ reply-yes (Refused r) k h = absurd (no-yes h)
 
 module _ (t : Taped) (v : ValidTaped t) where
   valid : Valid (t .desk)
-  unfolding ValidTaped
   valid = v .0
 
   kept : Open (t .desk) → closeTaped t ≡ record { reply = Refused (record { number = 19 }); blocks = 0; bytes = 0; taped = t }

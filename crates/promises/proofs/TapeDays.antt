@@ -82,7 +82,6 @@ pub record Known (e : Day) (cs : List Call) (p : List ℕ) : Type 0 where
   pub ends : EndsBehind 0 p (e .taped .tail)
 
 pub a-day : (us : List TapeTurn) → LentBytes us → (e : Day) (cs : List Call) → Played freshDay us e cs → Known e cs (recorded fresh cs)
-unfolding ValidTaped
 a-day us b e cs played =
     let k = played-is us b e cs .0 played in
     rw (k .0, k .1) at computed
