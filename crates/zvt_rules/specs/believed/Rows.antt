@@ -34,8 +34,7 @@ NoLength b = (b ≡ 0x80) ⊎ (0x83 ≤ b)
 -- a length and a value behind an id or a tag. R42, R43: "length 1 or 4, value 1"; the value may be cut by the end of a run or container
 -- around it, R44: "also where more bytes follow that"
 pub data SizedNo : ℕ → List ℕ → Fault → Type 0 where
-  short : {at : ℕ} {s : List ℕ} (form : Form) (value : List ℕ) → FormOk form (length value) → Cut s (sized form value)
-      → SizedNo at s (no 1 (at + length s))
+  short : {at : ℕ} {s : List ℕ} (form : Form) (value : List ℕ) → FormOk form (length value) → Cut s (sized form value) → SizedNo at s (no 1 (at + length s))
   wrong : {at b : ℕ} {s : List ℕ} → NoLength b → SizedNo at (b ∷ s) (no 4 at)
 
 -- O10: "A message has at most 64 objects", n of them before this one. O9: "down to depth 4", left levels with this one's
