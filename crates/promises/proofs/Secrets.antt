@@ -4,20 +4,17 @@ use mathlib.Core.Path.{_≡_, refl, sym, ap, ap₂, _∙_}
 use mathlib.Core.Logic.{inl, inr}
 use mathlib.Core.List.{List, [], _∷_, _++_}
 use Prim.Native.Nat.{ℕ, _+_, _-_, _*_}
-use lib.ListN.{length, take, drop, replicate, length-append, length-replicate}
+use lib.ListN.{length, take, drop}
 use lib.Seq.{take-at}
 use borrow.Author.Tests.{le-leb}
-use Rattle.zvt_rules.specs.Reading.{Reading, got, refused, pick}
-use Rattle.zvt_rules.specs.Fields.{Field, plain, container, fieldId}
-use Rattle.zvt_rules.specs.Message.{Body, bytes, listed, Message, readOf, headerSize}
-use Rattle.zvt_rules.specs.believed.Writing.{fieldBytes, bodyBytes, lengthBytes, messageBytes, fieldValue}
+use Rattle.zvt_rules.specs.Reading.{Reading, got, refused}
+use Rattle.zvt_rules.specs.Message.{bytes, Message, readOf}
+use Rattle.zvt_rules.specs.believed.Writing.{bodyBytes, lengthBytes, messageBytes}
 use Rattle.zvt_rules.specs.believed.Grammar.{Bytes}
 use Rattle.zvt_rules.specs.Values.{statusFields, statusOf, isStatus, statusIn, bodyFields}
-use Rattle.zvt_rules.proofs.Tests.{pick-test}
 use Rattle.zvt_rules.proofs.Readings.{got-same}
 use Rattle.zvt_rules.specs.Answers.{outlineOf, asReadAnswer, readAnswer}
-use Rattle.zvt_rules.specs.Listed.{listedAt, listedFrom, listedBody, listedMessage, nthListed, fieldAnswer}
-use Rattle.zvt_rules.specs.declared.Listed.{Listed}
+use Rattle.zvt_rules.specs.Listed.{listedMessage, nthListed, fieldAnswer}
 use Rattle.desk_rules.specs.declared.Phase.{Phase}
 use Rattle.desk_rules.specs.declared.Phase.the-variants.{Idle, Waiting, Running}
 use Rattle.desk_rules.specs.declared.Lane.{Lane}
@@ -32,7 +29,7 @@ use Rattle.desk_rules.specs.Desk.{State, laneAt, Decision, refuse, accept, deci
 use Rattle.desk_rules.specs.Memory.{linesOfDesk, view, answerBy}
 use Rattle.desk_rules.proofs.Commands.{command-size, command-reads}
 use Rattle.tape_rules.specs.declared.Taped.{Taped}
-use Rattle.tape_rules.specs.Records.{secret, maskField, maskList, maskBody, maskMessage, masked, Record, replyEntry, entriesBy, entriesOf}
+use Rattle.tape_rules.specs.Records.{secret, maskBody, maskMessage, masked, Record, replyEntry, entriesBy, entriesOf}
 use Rattle.tape_rules.specs.declared.TapedAnswer.{TapedAnswer}
 use Rattle.tape_rules.specs.Block.{blockSize}
 use Rattle.tape_rules.specs.Cuts.{laid}
@@ -40,7 +37,7 @@ use Rattle.tape_rules.specs.Tails.{changedPieces, changedBlocks}
 use Rattle.tape_rules.specs.Recording.{callBytes, recordsOf, decideTaped, tapedBy, tapedAnswer, roomBy, tapedRoom}
 use Rattle.tape_rules.specs.Taping.{TapeTurn, Day, filed, afterTurn, tapedRun}
 use Rattle.tape_rules.specs.believed.Masking.{RecordedAs}
-use Rattle.tape_rules.proofs.Masks.{Each, mask-same, mask-reads, masked-got, masked-refused, masked-twice, withoutPassword, opening-masked}
+use Rattle.tape_rules.proofs.Masks.{Each, mask-same, mask-reads, masked-got, masked-refused, masked-twice, withoutPassword, opening-masked, alike-listed, mask-alike}
 use Rattle.tape_rules.proofs.Places.{recorded-own, recorded-exactly}
 use Rattle.tape_rules.proofs.RecordLaws.{command-own}
 use Rattle.tape_rules.proofs.TailLaws.{changed-size}
@@ -49,31 +46,6 @@ use Rattle.promises.specs.TapeDays.{Hiding, AlikeOpening, refunds, rever
 use Rattle.promises.proofs.DemandTwo.{reply-reads-back}
 
 -- ---- what the reader says of a masked message
-field-place : (at : ℕ) (f : Field) → (listedAt at (maskField f) ≡ listedAt at f) × (length (fieldBytes (maskField f)) ≡ length (fieldBytes f))
-unfolding listedAt maskField fieldBytes fieldId fieldValue
-field-place at (plain id value) = go (pick (secret id) (replicate (length value) 0xEE) value) size
-  where
-    size : length (pick (secret id) (replicate (length value) 0xEE) value) ≡ length value
-    size = pick-test (λ (w : List ℕ). length w ≡ length value) (secret id) (λ _. length-replicate (length value) 0xEE) (λ _. refl)
-
-    go : (w : List ℕ) → length w ≡ length value
-        → (listedAt at (plain id w) ≡ listedAt at (plain id value)) × (length (fieldBytes (plain id w)) ≡ length (fieldBytes (plain id value)))
-    go w e = (simp (length-append, e), simp (length-append, e))
-field-place at (container form os) = (refl, refl)
-
-list-places : (at : ℕ) (fs : List Field) → listedFrom at (maskList fs) ≡ listedFrom at fs
-unfolding listedFrom maskList
-list-places at [] = refl
-list-places at (f ∷ fs) =
-    let k = field-place at f in
-    ap₂ (λ (l : Listed) (ls : List Listed). l ∷ ls) (k .0)
-    (list-places (at + length (fieldBytes (maskField f))) fs ∙ ap (λ (n : ℕ). listedFrom (at + n) fs) (k .1))
-
-body-places : (at : ℕ) (b : Body) → listedBody at (maskBody b) ≡ listedBody at b
-unfolding listedBody maskBody
-body-places at (bytes s) = refl
-body-places at (listed password fs) = rw (length-replicate {A = ℕ} (length password) 0) (list-places (at + length password) fs)
-
 told-same : (m : Message) → outlineOf (maskMessage m) ≡ outlineOf m
 unfolding outlineOf
 told-same m = let k = mask-same m in rw (k .count, k .short, k .size, k .class, k .instruction, k .long)
@@ -93,8 +65,8 @@ module _ (s : List ℕ) (b : Bytes s) where
   masked-read = of-masked asReadAnswer (λ m. rw (told-same m)) s b
 
   pub masked-field : (k : ℕ) → fieldAnswer k (masked s) ≡ fieldAnswer k s
-  unfolding fieldAnswer listedMessage maskMessage
-  masked-field k = ap (nthListed k) (of-masked listedMessage (λ m. body-places (headerSize (m .long)) (m .body)) s b)
+  unfolding fieldAnswer
+  masked-field k = ap (nthListed k) (of-masked listedMessage (λ m. alike-listed (maskMessage m) m (mask-alike m)) s b)
 
   pub masked-status : statusOf (masked s) ≡ statusOf s
   unfolding statusOf statusFields maskMessage
