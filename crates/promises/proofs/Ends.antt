@@ -73,6 +73,7 @@ pub every-call-ends : {M : Type 1}
     × tape_rules.Block.at_end.Statement.statement M
     × tape_rules.Block.number_ok.Statement.statement M
     × tape_rules.Block.payload_ok.Statement.statement M
+    × tape_rules.Block.room_ok.Statement.statement M
     × tape_rules.Tail.empty.Statement.statement M
     × tape_rules.Taped.fresh.Statement.statement M
     × tape.write_block.Statement.statement M
@@ -155,6 +156,7 @@ every-call-ends = (
   tape_rules.Block.at_end.Met.met,
   tape_rules.Block.number_ok.Met.met,
   tape_rules.Block.payload_ok.Met.met,
+  tape_rules.Block.room_ok.Met.met,
   tape_rules.Tail.empty.Met.met,
   tape_rules.Taped.fresh.Met.met,
   tape.write_block.Met.met,
@@ -241,6 +243,7 @@ pub nothing-to-test :
     × ((κs : _) (a : _) → tape_rules.Block.at_end.Reads.Asked κs a ≡ Unit {0})
     × ((κs : _) (a : _) → tape_rules.Block.number_ok.Reads.Asked κs a ≡ Unit {0})
     × ((κs : _) (a : _) → tape_rules.Block.payload_ok.Reads.Asked κs a ≡ Unit {0})
+    × ((κs : _) (a : _) → tape_rules.Block.room_ok.Reads.Asked κs a ≡ Unit {0})
     × ((κs : _) (a : _) → tape_rules.Tail.empty.Reads.Asked κs a ≡ Unit {0})
     × ((κs : _) (a : _) → tape_rules.Taped.fresh.Reads.Asked κs a ≡ Unit {0})
     × ((κs : _) (a : _) → tape.write_block.Reads.Asked κs a ≡ Unit {0})
@@ -263,6 +266,7 @@ pub nothing-to-test :
     × ((κs : _) (a : _) → buffers.add_decimal.Reads.Asked κs a ≡ Unit {0})
     × ((κs : _) (a : _) → buffers.hex_value.Reads.Asked κs a ≡ Unit {0})
 nothing-to-test = (
+  λ κs a. refl,
   λ κs a. refl,
   λ κs a. refl,
   λ κs a. refl,

@@ -202,6 +202,9 @@ block-number-ok-one κs a = only _ _ (λ r e h. (h, refl))
 pub block-payload-ok-one : (κs : _) (a : _) → Only itself nothing (tape_rules.Block.payload_ok.Reads.Learnt κs a)
 block-payload-ok-one κs a = only _ _ (λ r e h. (h, refl))
 
+pub block-room-ok-one : (κs : _) (a : _) → Only itself nothing (tape_rules.Block.room_ok.Reads.Learnt κs a)
+block-room-ok-one κs a = only _ _ (λ r e h. (h, refl))
+
 pub tail-empty-one : (κs : _) (a : _) → Only itself nothing (tape_rules.Tail.empty.Reads.Learnt κs a)
 tail-empty-one κs a = only _ _ (λ r e h. (h, refl))
 
