@@ -182,7 +182,7 @@ module _ (s : List ℕ) (b : Bytes s) where
     place-found k f l st i = heard.place-named ids s j h ∙ ap spanOf (found.named-exactly s b (getD ids j 0) l .1 (k, f, st, i))
 
     -- and nowhere, from 0 to 0, exactly where none stands.
-    pub no-place-found : (getD (placesAnswer ids s .fields) j nowhere ≡ nowhere)
+    pub no-place-found : (getD (placesAnswer ids s .fields) j nowhere ≡ record { from = 0; to = 0 })
         ↔ ((k : ℕ) (f : Field) (l : Listed) → Stands s k f l → l .id ≡ getD ids j 0 → ⊥)
     no-place-found =
         let id = getD ids j 0 in

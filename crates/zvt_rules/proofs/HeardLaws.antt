@@ -125,11 +125,11 @@ message-to id (got m) l e = go (m .body) e
     go (bytes w) h = absurd (let z : _≡_ {A = ℕ} 0 1 = cc in omega arith)
     go (listed password fs) h = named-to id (headerSize (m .long) + length password) fs l h
 
-pub nowhere-exactly : (id : ℕ) (s : List ℕ) → (spanOf (namedAnswer id s) ≡ nowhere) ↔ (namedAnswer id s ≡ End)
+pub nowhere-exactly : (id : ℕ) (s : List ℕ) → (spanOf (namedAnswer id s) ≡ record { from = 0; to = 0 }) ↔ (namedAnswer id s ≡ End)
 unfolding spanOf namedAnswer
 nowhere-exactly id s = (go (namedListed id (listedMessage (readOf s))) refl, λ e. ap spanOf e)
   where
-    go : (x : FieldAnswer) → namedListed id (listedMessage (readOf s)) ≡ x → spanOf x ≡ nowhere → x ≡ End
+    go : (x : FieldAnswer) → namedListed id (listedMessage (readOf s)) ≡ x → spanOf x ≡ record { from = 0; to = 0 } → x ≡ End
     go End q e = refl
     go (listed-field l) q e = absurd (omega (arith, message-to id (readOf s) l q, ap (λ (p : Span). p .to) e))
 
