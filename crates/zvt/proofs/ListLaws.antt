@@ -10,7 +10,7 @@ use lib.Seq.{getD-set-same, getD-set-other, getD-drop, drop-drop, length-take-le
 use lib.Dec.{eqb}
 use borrow.Author.Tests.{eqb-true, eqb-false}
 use Rattle.zvt_rules.specs.declared.Fault.{Fault}
-use Rattle.zvt_rules.specs.Reading.{Reading, got, refused, andThen, among}
+use Rattle.zvt_rules.specs.Reading.{got, among}
 use Rattle.zvt_rules.specs.Fields.{Field, FieldRead, ListRead, fieldOf, listOf}
 use Rattle.zvt_rules.specs.believed.Writing.{fieldBytes, listBytes}
 use Rattle.zvt_rules.specs.Shortest.{shortField, shortList}
@@ -26,7 +26,7 @@ use Rattle.zvt.specs.declared.objects.PartRead.{PartRead}
 use Rattle.zvt.specs.declared.objects.PartRead.the-variants.{Part, Refused as part-refused}
 use Rattle.zvt.specs.ObjectSteps.{asPart}
 use Rattle.zvt.specs.FieldSteps.{spareField, spareList, fieldTally, listTally, fieldWhen, fieldPart, listAnswer}
-use Rattle.zvt.proofs.RunLaws.{part-got, part-stopped}
+use Rattle.zvt.proofs.RunLaws.{part-got, part-stopped, part-alike, part-then, spared}
 
 -- ---- the marks: at each id, whether it is one of those that came
 abbrev pub Marks : List Bool → List ℕ → Type 0
@@ -56,23 +56,7 @@ spare-more f fs ids a b =
       length-append (fieldBytes (shortField f)) (listBytes (shortList fs)),
     )
 
--- ---- what is known of a tally goes by what was read
-part-alike : {A : Type 0} (f g : A → Tally) (x : Reading A) → ((a : A) → f a ≡ g a) → asPart f x ≡ asPart g x
-unfolding asPart
-part-alike f g (got a) h = ap Part (h a)
-part-alike f g (refused r) h = refl
-
-part-then : {A B : Type 0} (f : B → Tally) (g : A → Tally) (x : Reading A) (y : A → B) → ((a : A) → x ≡ got a → f (y a) ≡ g a)
-    → asPart f (andThen x λ a. got (y a)) ≡ asPart g x
-unfolding asPart andThen
-part-then f g (got a) y h = ap Part (h a refl)
-part-then f g (refused r) y h = refl
-
 -- the tally of a list of which so many bytes are saved already
-spared : (size objects : ℕ) {x y : ℕ} → x ≡ y
-    → _≡_ {A = Tally} (record { size = size; objects = objects; spare = x }) (record { size = size; objects = objects; spare = y })
-spared size objects e = rw e
-
 abbrev tallyFrom : ℕ → ℕ → ListRead → Tally
 tallyFrom size spare r = record { size = size; objects = r .count; spare = spare + spareList (r .fields) }
 

@@ -3,9 +3,10 @@ use mathlib.Core.Path.{_≡_, refl, ap, _∙_, subst}
 use mathlib.Core.Bool.{true, false}
 use mathlib.Core.List.{List}
 use Prim.Native.Nat.{ℕ, _+_, _-_, _<_, _≤_}
+use native.Mathlib.Nat.{add-zero, add-assoc}
 use native.Mathlib.Omega.{arith}
-use lib.ListN.{length, getD, take, drop, length-append}
-use lib.Seq.{length-take-le}
+use lib.ListN.{length, getD, take, drop, length-append, length-drop}
+use lib.Seq.{drop-drop, length-take-le}
 use borrow.Author.Tests.{le-leb, lt-leb, eq-eqb, ne-eqb}
 use Rattle.zvt_rules.specs.declared.Fault.{Fault}
 use Rattle.zvt_rules.specs.Reading.{Reading, got, refused, no, unless, andThen, part}
@@ -93,59 +94,97 @@ pub tally-fits : (b : Bounds) (form : Form) (v saved : ℕ) → FormOk form v �
     → Fits b saved
 tally-fits b form v saved ok e f l = (omega (arith, form-shorter form v (b .to - b .from - saved) ok (omega arith)), omega arith)
 
+-- ---- what is known of a tally goes by what was read
+pub part-alike : {A : Type 0} (f g : A → Tally) (x : Reading A) → ((a : A) → f a ≡ g a) → asPart f x ≡ asPart g x
+unfolding asPart
+part-alike f g (got a) h = ap Part (h a)
+part-alike f g (refused r) h = refl
+
+pub part-then : {A B : Type 0} (f : B → Tally) (g : A → Tally) (x : Reading A) (y : A → B) → ((a : A) → x ≡ got a → f (y a) ≡ g a)
+    → asPart f (andThen x λ a. got (y a)) ≡ asPart g x
+unfolding asPart andThen
+part-then f g (got a) y h = ap Part (h a refl)
+part-then f g (refused r) y h = refl
+
+pub spared : (size objects : ℕ) {x y : ℕ} → x ≡ y
+    → _≡_ {A = Tally} (record { size = size; objects = objects; spare = x }) (record { size = size; objects = objects; spare = y })
+spared size objects e = rw e
+
 -- ---- a run
-pub run-empty : (left n at : ℕ) (s : List ℕ) → length s ≡ 0 → runAnswer left n at s ≡ Part (record { size = 0; objects = n; spare = 0 })
-unfolding runAnswer asPart runTally spareRun runBytes shortRun
-run-empty left n at s h = rw (run-none left n at s h, h)
-
--- the answer for what is left behind the first object
-abbrev after : ℕ → ℕ → List ℕ → Tally → PartRead
-after left at s o = runAnswer left (o .objects) (at + o .size) (take (length s - o .size) (drop (o .size) s))
-
-abbrev pub Goes : ℕ → ℕ → ℕ → List ℕ → Tally → Tally → Type 0
-Goes left n at s o r =
-    (o .spare + r .spare ≤ length s)
-    × (runAnswer left n at s ≡ Part (record { size = length s; objects = r .objects; spare = o .spare + r .spare }))
+-- its tally, when so many bytes are saved before it
+abbrev tallyFrom : ℕ → ℕ → RunRead → Tally
+tallyFrom size spare r = record { size = size; objects = r .count; spare = spare + spareRun (r .objs) }
 
 module _ (left n at : ℕ) (s : List ℕ) (some : 0 < length s) where
-  pub run-no-first : (r : Fault) → oneAnswer left n at s ≡ part-refused r → runAnswer left n at s ≡ part-refused r
-  unfolding oneAnswer runAnswer asPart
-  run-no-first r e = ap (asPart (runTally s)) (run-step left n at s some ∙ then-stop _ r (part-stopped _ _ r e))
+  run-no-first : (r : Fault) → oneAnswer left n at s ≡ part-refused r → (f : RunRead → Tally) → asPart f (runOf left n at s) ≡ part-refused r
+  unfolding oneAnswer asPart
+  run-no-first r e f = ap (asPart f) (run-step left n at s some ∙ then-stop _ r (part-stopped _ _ r e))
 
-  pub run-no-rest : (o : Tally) → oneAnswer left n at s ≡ Part o → (r : Fault) → after left at s o ≡ part-refused r
-      → runAnswer left n at s ≡ part-refused r
-  unfolding oneAnswer runAnswer asPart oneTally
-  run-no-rest =
-      part-got oneTally (oneOf left n at s) (λ o. (r : Fault) → after left at s o ≡ part-refused r → runAnswer left n at s ≡ part-refused r)
-      (λ o e r f.
-      ap (asPart (runTally s)) (run-step left n at s some ∙ then-on _ o e ∙ then-stop _ r (part-stopped _ _ r (rw tail at f))))
+  abbrev Goes : ℕ → ℕ → Tally → Type 0
+  Goes size spare t =
+      (2 ≤ t .size) × (t .size ≤ length s) × (t .spare ≤ t .size)
+      × (asPart (tallyFrom size spare) (runOf left n at s)
+      ≡ asPart (tallyFrom size (spare + t .spare)) (runOf left (t .objects) (at + t .size) (drop (t .size) s)))
 
-  module _ (b : Bytes s) where
-    goes : (o : OneRead) → oneOf left n at s ≡ got o
-        → (r : RunRead) → runOf left (o .count) (at + o .size) (drop (o .size) s) ≡ got r
-        → Goes left n at s (oneTally o) (runTally (drop (o .size) s) r)
-    unfolding runAnswer asPart oneTally runTally
-    goes o e r f =
-        let g = one-sound left n at s o b e in
-        let i = run-sound left (o .count) (at + o .size) (drop (o .size) s) r (bytes-drop (o .size) s b) f in
-        let whole = run-step left n at s some ∙ then-on _ o e ∙ then-on _ r f in
-        let sum = spare-more (o .obj) (r .objs) left (g .1) (i .1) in (
-          omega (arith, spare-read left n at s _ b whole),
-          rw (whole, sum),
-        )
+  goes : Bytes s → (size spare : ℕ) (o : OneRead) → oneOf left n at s ≡ got o → Goes size spare (oneTally o)
+  unfolding oneTally spareObj
+  goes b size spare o e =
+      let i = one-in left n at s o e in
+      let g = one-sound left n at s o b e in
+      let size-is : length (objBytes (o .obj)) ≡ o .size = ap length (g .0) ∙ length-take-le (o .size) s (i .1) in
+      let rest = drop (o .size) s in (
+        i .0,
+        i .1,
+        omega arith,
+        ap (asPart (tallyFrom size spare)) (run-step left n at s some ∙ then-on _ o e)
+            ∙ part-then (tallyFrom size spare) (tallyFrom size (spare + spareObj (o .obj))) (runOf left (o .count) (at + o .size) rest)
+            (λ r. record { objs = more (o .obj) (r .objs); count = r .count })
+            (λ r h.
+            let k = run-sound left (o .count) (at + o .size) rest r (bytes-drop (o .size) s b) h in
+            spared size (r .count) (omega (arith, spare-more (o .obj) (r .objs) left (g .1) (k .1)))),
+      )
 
-    pub run-goes : (o : Tally) → oneAnswer left n at s ≡ Part o → (r : Tally) → after left at s o ≡ Part r → Goes left n at s o r
-    unfolding oneAnswer runAnswer oneTally
-    run-goes =
-        part-got oneTally (oneOf left n at s) (λ o. (r : Tally) → after left at s o ≡ Part r → Goes left n at s o r)
-        (λ o e r f.
-        part-got (runTally (drop (o .size) s)) (runOf left (o .count) (at + o .size) (drop (o .size) s)) (Goes left n at s (oneTally o))
-        (goes o e) r (rw tail at f))
+  run-goes : Bytes s → (size spare : ℕ) (t : Tally) → oneAnswer left n at s ≡ Part t → Goes size spare t
+  unfolding oneAnswer
+  run-goes b size spare = part-got oneTally (oneOf left n at s) (Goes size spare) (goes b size spare)
 
--- the object that a run begins with
-pub first-in : (left n at : ℕ) (s : List ℕ) (o : Tally) → oneAnswer left n at s ≡ Part o → (2 ≤ o .size) × (o .size ≤ length s)
-unfolding oneAnswer oneTally
-first-in left n at s = part-got oneTally (oneOf left n at s) (λ o. (2 ≤ o .size) × (o .size ≤ length s)) (λ o e. one-in left n at s o e)
+-- ---- a run from the i-th byte on, with so many bytes saved before
+module _ (left at : ℕ) (s : List ℕ) where
+  abbrev pub runFrom : ℕ → ℕ → ℕ → PartRead
+  runFrom n i spare = asPart (tallyFrom (length s) spare) (runOf left n (at + i) (drop i s))
+
+  pub run-begins : (n : ℕ) → runAnswer left n at s ≡ runFrom n 0 0
+  unfolding runAnswer runTally
+  run-begins n = rw add-zero (part-alike _ _ (runOf left n at s) (λ r. spared (length s) (r .count) (omega arith)))
+
+  module _ (n i spare : ℕ) where
+    pub run-ends : i ≤ length s → length s ≤ i → runFrom n i spare ≡ Part (record { size = i; objects = n; spare = spare })
+    unfolding asPart spareRun runBytes shortRun
+    run-ends l h =
+        let e : length s ≡ i = omega arith in
+        rw (run-none left n (at + i) (drop i s) (omega (arith, length-drop i s)), add-zero, e)
+
+    -- behind the next object, with that tally
+    abbrev pub GoesOn : Tally → Type 0
+    GoesOn t =
+        (2 ≤ t .size) × (i + t .size ≤ length s) × (t .spare ≤ t .size)
+        × (runFrom n i spare ≡ runFrom (t .objects) (i + t .size) (spare + t .spare))
+
+    module _ (l : i < length s) where
+      -- the answer for the object that is next
+      abbrev next : PartRead
+      next = oneAnswer left n (at + i) (take (length s - i) (drop i s))
+
+      some : 0 < length (drop i s)
+      some = omega (arith, length-drop i s)
+
+      pub run-stops : (r : Fault) → next ≡ part-refused r → runFrom n i spare ≡ part-refused r
+      run-stops r e = run-no-first left n (at + i) (drop i s) some r (rw tail at e) _
+
+      pub run-goes-on : Bytes s → (t : Tally) → next ≡ Part t → GoesOn t
+      run-goes-on b t e =
+          let g = run-goes left n (at + i) (drop i s) some (bytes-drop i s b) (length s) spare t (rw tail at e) in
+          (g .0, omega (arith, length-drop i s), g .2, g .3 ∙ rw (drop-drop (t .size) i s, add-assoc at i (t .size)))
 
 -- ---- an object
 pub one-full : (left n at : ℕ) (s : List ℕ) → mostObjects ≤ n → oneAnswer left n at s ≡ part-refused (no 10 at)

@@ -199,30 +199,24 @@ pub(crate) fn read_run(s: &[u8], at: usize, left: u8, n: u8) -> PartRead
     requires { ⌜ at + length (now s) ≤ mostMessage ⌝ }
     ensures { λ r. ⌜ r ≡ runAnswer left n at (now (s .entry)) ⌝ }
 {
-    if s.len() == 0 {
-        return PartRead::Part(Tally {
-            size: 0,
-            objects: n,
-            spare: 0,
-        });
-    }
-    match read_one(s, at, left, n) {
-        PartRead::Refused(f) => PartRead::Refused(f),
-        PartRead::Part(o) => {
-            let e = o.size;
-            match read_run(&s[e..], at + e, left, o.objects) {
-                PartRead::Refused(f) => PartRead::Refused(f),
-                PartRead::Part(r) => {
-                    let spare = o.spare + r.spare;
-                    PartRead::Part(Tally {
-                        size: s.len(),
-                        objects: r.objects,
-                        spare,
-                    })
-                }
+    let mut i: usize = 0;
+    let mut objects = n;
+    let mut spare: usize = 0;
+    while i < s.len() {
+        match read_one(&s[i..], at + i, left, objects) {
+            PartRead::Refused(f) => return PartRead::Refused(f),
+            PartRead::Part(o) => {
+                i += o.size;
+                objects = o.objects;
+                spare += o.spare;
             }
         }
     }
+    PartRead::Part(Tally {
+        size: i,
+        objects,
+        spare,
+    })
 }
 
 // Reads the object that s begins with.

@@ -1,7 +1,8 @@
 -- `zvt::objects::read_one` and `zvt::objects::read_run` meet their contracts. The measure is the length, twice, and one more for a
--- run, which asks for an object of the same bytes. Assumes nothing.
+-- run, which asks for an object of the same bytes. The invariant of a run: the bytes from i on, with what is spared before, answer
+-- as the whole run does; the measure is what is left of the bytes. Assumes nothing.
 use mathlib.Core.Path.{_≡_, sym, ap, _∙_}
-use Prim.Native.Nat.{ℕ, _<_, _+_, _*_}
+use Prim.Native.Nat.{ℕ, _<_, _≤_, _+_, _-_, _*_}
 use native.Mathlib.Omega.{arith}
 use lib.ListN.{length}
 use borrow.Author.Needs.{needs}
@@ -9,12 +10,12 @@ use borrow.Author.Tests.{not-true, not-false}
 use borrow.Fn.Kinds.{In}
 use borrow.Fn.PlainCycle.{Measures, is, falls, and}
 use Rattle.zvt_rules.specs.believed.Grammar.{Bytes}
-use Rattle.zvt.specs.ObjectSteps.{headAnswer, oneAnswer}
+use Rattle.zvt.specs.ObjectSteps.{headAnswer, runAnswer}
 use Rattle.zvt.specs.declared.objects.Bounds.{Bounds}
 use Rattle.zvt.specs.declared.objects.BoundsRead.the-variants.{Bounds as bounds-read}
 use Rattle.zvt.specs.declared.objects.PartRead.the-variants.{Part}
 use Rattle.zvt.proofs.Slices.{bytes-known}
-use Rattle.zvt.proofs.RunLaws.{run-empty, run-no-first, run-no-rest, Goes, run-goes, first-in}
+use Rattle.zvt.proofs.RunLaws.{runFrom, GoesOn, run-begins, run-ends, run-stops, run-goes-on}
 use Rattle.zvt.proofs.RunLaws.{one-full, one-deep, value-in, Answered, one-no-head, one-leaf, one-no-inner, one-branch}
 use Rattle.zvt.proofs.objects.read_one.Reads as read-one
 use Rattle.zvt.proofs.objects.read_one.Kinds as read-one-kinds
@@ -33,6 +34,12 @@ abbrev μ-one : Measures 1 read-one-kinds.ps ℕ
 abbrev μ-run : Measures 1 read-run-kinds.ps ℕ
 μ-run κs a = length (a .0 .now) * 2 + 1
 
+abbrev Inv-loop : read-run-lts.InvT-loop
+Inv-loop s at left n i₀ objects₀ spare₀ i objects spare = (i ≤ length s) × (spare ≤ i) × (runAnswer left n at s ≡ runFrom left at s objects i spare)
+
+abbrev μ-loop : read-run-lts.MeasureT-loop
+μ-loop s at left n i₀ objects₀ spare₀ i objects spare = length s - i
+
 module _ (t : ℕ) where
   abbrev one-at : In 1 read-one-kinds.ps
   one-at = and 1 read-one-kinds.ps (is 1 read-one-kinds.ps μ-one t) read-one.Pre
@@ -50,7 +57,7 @@ module _ (t : ℕ) where
   one-claims = (head-of-reads.Asked, head-of-reads.Learnt, tally-of-reads.Asked, tally-of-reads.Learnt, run-below, read-run.Post)
 
   abbrev run-claims : read-run-lts.Claims
-  run-claims = (one-below, read-one.Post, run-below, read-run.Post)
+  run-claims = (one-below, read-one.Post)
 
   -- ---- an object
   abbrev One : Type 0
@@ -139,50 +146,49 @@ module _ (t : ℕ) where
   one-returns-6 c = ap Part (c .tally-of2 .ensures) ∙ sym (is-branch (c .before) .1)
 
   -- ---- a run
-  abbrev Run : Type 0
-  Run = read-run-lts.Start run-claims run-at read-run.Post
+  -- where an object is read, and how the function began
+  abbrev AtObject : Type 0
+  AtObject = read-run-lts.After-read-one-arg run-claims run-at read-run.Post Inv-loop μ-loop
 
-  -- that is not empty, and has read its first object
-  abbrev First : Type 0
-  First = read-run-lts.After-known-told2 run-claims run-at read-run.Post
+  abbrev started : AtObject → read-run-lts.Start run-claims run-at read-run.Post Inv-loop μ-loop
+  started c = c .before .before .before .before
 
-  abbrev started : First → Run
-  started c = c .before .before .before .before .before .before
-
-  first : (c : First)
-      → oneAnswer (started c .args .left) (started c .args .n) (started c .args .at) (started c .args .s .now) ≡ Part (c .before .o .given .0 .0)
-  first c = sym (c .before .before .before .read-one .ensures) ∙ c .before .o .given .1
-
-  run-bytes : (c : First) → Bytes (started c .args .s .now)
-  run-bytes c = bytes-known _ (c .before .before .before .before .before .shared-slice-known .given)
-
-  abbrev before-rest : read-run-lts.After-struct-known2 run-claims run-at read-run.Post → First
-  before-rest c = c .before .before .before .before .before .before .before
-
-  goes : (c : read-run-lts.After-struct-known2 run-claims run-at read-run.Post)
-      → let a = started (before-rest c) .args in
-      Goes (a .left) (a .n) (a .at) (a .s .now) (before-rest c .before .o .given .0 .0) (c .before .before .before .r .given .0 .0)
+  -- what the object that was read says of the run
+  goes : (c : read-run-lts.After-known-told2 run-claims run-at read-run.Post Inv-loop μ-loop)
+      → (let d = c .before .before .before .before in let l = d .before .before .loop in
+      let a = started d .args in
+      GoesOn (a .left) (a .at) (a .s .now) (l .objects) (l .i) (l .spare) (c .before .o .given .0 .0))
   goes c =
-      let d = before-rest c in
-      run-goes _ _ _ _ (omega arith) (run-bytes d) _ (first d) _
-      (sym (c .before .before .before .before .before .read-run .ensures) ∙ c .before .before .before .r .given .1)
+      let d = c .before .before .before .before in
+      let l = d .before .before .loop in
+      let a = started d .args in
+      run-goes-on (a .left) (a .at) (a .s .now) (l .objects) (l .i) (l .spare) (d .before .loop-test .taken)
+      (bytes-known _ (d .before .before .before .shared-slice-known .given)) _
+      (sym (c .before .before .before .read-one .ensures) ∙ c .before .o .given .1)
 
-  run-read-one-requires : read-run-lts.Need-read-one-requires run-claims run-at read-run.Post
-  run-read-one-requires c κs = (omega (arith, c .before .before .pre .0), omega arith)
+  run-read-one-requires : read-run-lts.Need-read-one-requires run-claims run-at read-run.Post Inv-loop μ-loop
+  run-read-one-requires c κs = (omega (arith, c .read-one-arg .given .2, started c .pre .0), omega (arith, c .read-one-arg .given .2))
 
-  run-read-run-requires : read-run-lts.Need-read-run-requires run-claims run-at read-run.Post
-  run-read-run-requires c κs =
-      let h = first-in _ _ _ _ _ (first (c .before)) in
-      (omega (arith, c .read-run-arg .given .2, started (c .before) .pre .0), omega arith)
+  run-returns : read-run-lts.Need-returns run-claims run-at read-run.Post Inv-loop μ-loop
+  run-returns c =
+      let d = c .before .before .before .before in
+      let l = d .before .before .loop in
+      let a = started d .args in
+      sym (l .inv .2
+      ∙ run-stops (a .left) (a .at) (a .s .now) (l .objects) (l .i) (l .spare) (d .before .loop-test .taken) _
+      (sym (c .before .before .before .read-one .ensures) ∙ c .before .f .given .1))
 
-  run-returns-2 : read-run-lts.Need-returns-2 run-claims run-at read-run.Post
+  run-loop-again : read-run-lts.Need-loop-again run-claims run-at read-run.Post Inv-loop μ-loop
+  run-loop-again c =
+      let h = goes (c .before .before) in
+      let l = c .before .before .before .before .before .before .before .before .loop in
+      (h .1, omega arith, l .inv .2 ∙ h .3)
+
+  run-returns-2 : read-run-lts.Need-returns-2 run-claims run-at read-run.Post Inv-loop μ-loop
   run-returns-2 c =
-      sym (run-no-first _ _ _ _ (omega arith) _ (sym (c .before .before .before .read-one .ensures) ∙ c .before .f .given .1))
-
-  run-returns-3 : read-run-lts.Need-returns-3 run-claims run-at read-run.Post
-  run-returns-3 c =
-      sym (run-no-rest _ _ _ _ (omega arith) _ (first (c .before .before .before .before .before)) _
-      (sym (c .before .before .before .read-run .ensures) ∙ c .before .f2 .given .1))
+      let l = c .before .loop in
+      let a = c .before .before .before .args in
+      sym (l .inv .2 ∙ run-ends (a .left) (a .at) (a .s .now) (l .objects) (l .i) (l .spare) (l .inv .0) (c .loop-test .left))
 
 pub +read-one+read-run-spec : {M : Type 1} → statement M
 +read-one+read-run-spec =
@@ -194,9 +200,8 @@ pub +read-one+read-run-spec : {M : Type 1} → statement M
     (λ c. let h = room t (c .before .before .before) .if2 .left in omega arith) (one-read-run-requires t)
     (λ c. search needs) (λ c. search needs) (λ c κs. is-branch t c .0) (one-returns-4 t) (one-returns-5 t)
     (one-returns-6 t))
-    (λ t. read-run-lts.spec (run-claims t) (run-at t) read-run.Post (λ c. sym (run-empty _ _ _ _ (c .if1 .taken)))
-    (run-read-one-requires t) (λ c. search needs) (λ c. search needs) (λ c. first-in _ _ _ _ _ (first t c) .1)
-    (λ c. first-in _ _ _ _ _ (first t c) .1) (λ c. search needs)
-    (λ c. let h = first-in _ _ _ _ _ (first t (c .before)) in omega arith) (run-read-run-requires t) (λ c. search needs)
-    (λ c. search needs) (λ c. let h = goes t c .0 in omega arith) (run-returns-2 t) (run-returns-3 t)
-    (λ c. sym (goes t c .1)))
+    (λ t. read-run-lts.spec (run-claims t) (run-at t) read-run.Post Inv-loop μ-loop
+    (λ c. (omega arith, omega arith, run-begins _ _ _ _)) (λ c. search needs) (λ c. search needs) (λ c. search needs)
+    (λ c. search needs) (run-read-one-requires t) (λ c. search needs) (run-returns t) (λ c. search needs)
+    (λ c. let h = goes t (c .before) in omega arith) (λ c. let h = goes t (c .before .before) in omega arith)
+    (λ c. let h = goes t (c .before .before) in omega arith) (run-loop-again t) (run-returns-2 t))
