@@ -188,10 +188,16 @@ module _ (s : List ℕ) (b : Bytes s) where
         let id = getD ids j 0 in
         rw (heard.place-named ids s j h) (Iff·trans (heard.nowhere-exactly id s) (found.named-end s b id))
 
-  -- The password is placed where it lies.
+  -- The password is placed where it lies,
   pub password-found : (ids : List ℕ) (m : Message) (password : List ℕ) (fs : List Field) → Is s m → m .body ≡ listed password fs
       → let p = placesAnswer ids s .password in part (p .from) (p .to) s ≡ password
   password-found ids m password fs = heard.password-part ids s m password fs b
+
+  -- and nowhere, from 0 to 0, exactly where the message has none.
+  pub no-password-found : (ids : List ℕ)
+      → (placesAnswer ids s .password ≡ record { from = 0; to = 0 })
+      ↔ ((m : Message) (password : List ℕ) (fs : List Field) → Is s m → m .body ≡ listed password fs → password ≡ [])
+  no-password-found ids = heard.no-password-exactly ids s b
 
   -- The list itself is found where it stands.
   pub list-found : (from to : ℕ) → (placeSays (listPlace s) ≡ yes (some (from, to))) ↔ ListStands s from to

@@ -33,6 +33,7 @@ use Rattle.zvt_rules.specs.Answers.{headerIn, asHeaderAnswer, headerAnsw
 use Rattle.zvt_rules.specs.Listed.{listedAt, listedFrom, listedBody, listedMessage, nthListed, namedListed, fieldAnswer, namedAnswer, idsListed, idsAnswer, nowhere, spanOf, spansIn, passwordIn, passwordSpan, placesAnswer}
 use Rattle.zvt_rules.specs.Heard.{firstOf, toldIn, toldAnswer, asHearAnswer, hearAnswer}
 use Rattle.zvt_rules.proofs.Tests.{pick-test}
+use Rattle.zvt_rules.proofs.Readings.{got-same, got-not-refused}
 use Rattle.zvt_rules.proofs.Found.{stands-read}
 
 -- ---- what a desk asks: the header as it is answered alone
@@ -132,6 +133,33 @@ nowhere-exactly id s = (go (namedListed id (listedMessage (readOf s))) refl, λ 
     go : (x : FieldAnswer) → namedListed id (listedMessage (readOf s)) ≡ x → spanOf x ≡ record { from = 0; to = 0 } → x ≡ End
     go End q e = refl
     go (listed-field l) q e = absurd (omega (arith, message-to id (readOf s) l q, ap (λ (p : Span). p .to) e))
+
+password-none : (at : ℕ) (x : Body)
+    → (passwordIn at x ≡ record { from = 0; to = 0 }) ↔ ((password : List ℕ) (fs : List Field) → x ≡ listed password fs → password ≡ [])
+unfolding passwordIn
+password-none at (bytes s) = (λ e w fs q. absurd (let z : _≡_ {A = ℕ} 0 1 = cc in omega arith), λ h. refl)
+password-none at (listed [] fs) = (λ e w gs q. cc, λ h. refl)
+password-none at (listed (b ∷ w) fs) = (
+  λ e. absurd (omega (arith, ap (λ (p : Span). p .to) e)),
+  λ h. absurd (let q = h (b ∷ w) fs refl in let z : _≡_ {A = ℕ} 0 1 = cc in omega arith),
+)
+
+pub no-password-exactly : (ids s : List ℕ) → Bytes s
+    → (placesAnswer ids s .password ≡ record { from = 0; to = 0 })
+    ↔ ((m : Message) (password : List ℕ) (fs : List Field) → Is s m → m .body ≡ listed password fs → password ≡ [])
+unfolding placesAnswer passwordSpan
+no-password-exactly ids s b = go (readOf s) refl
+  where
+    go : (x : Reading Message) → readOf s ≡ x
+        → (passwordSpan x ≡ record { from = 0; to = 0 })
+        ↔ ((m : Message) (password : List ℕ) (fs : List Field) → Is s m → m .body ≡ listed password fs → password ≡ [])
+    go (got m) e = (
+      λ q n w fs is f.
+          let same : m ≡ n = got-same (sym e ∙ stands-read s b n .0 is) in
+          password-none (headerSize (m .long)) (m .body) .0 q w fs (ap (λ (x : Message). x .body) same ∙ f),
+      λ h. password-none (headerSize (m .long)) (m .body) .1 (λ w fs f. h m w fs (stands-read s b m .1 e) f),
+    )
+    go (refused r) e = (λ q n w fs is f. absurd (got-not-refused (sym (stands-read s b n .0 is) ∙ e)), λ h. refl)
 
 behind : (long : Bool) (c i v : ℕ) (w : List ℕ) → drop (headerSize long) (c ∷ (i ∷ (lengthBytes long v ++ w))) ≡ w
 unfolding lengthBytes
