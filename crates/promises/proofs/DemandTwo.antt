@@ -28,7 +28,7 @@ use Rattle.zvt_rules.specs.believed.Writing.{messageBytes, fieldValue}
 use Rattle.zvt_rules.specs.believed.Grammar.{Bytes, MessageOk}
 use Rattle.zvt_rules.specs.believed.Shortest.{SameValues, Shortens}
 use Rattle.zvt_rules.specs.believed.Answers.{Framed, inBody, Reported, FirstReported, Over}
-use Rattle.zvt_rules.specs.believed.Values.{Is, TellsCode, TellsAmount, TellsReceipt}
+use Rattle.zvt_rules.specs.believed.Values.{Is, Tells, TellsNumber}
 use Rattle.zvt_rules.specs.believed.Found.{Stands, ListStands}
 use Rattle.zvt_rules.specs.believed.Names.{UpToZero, Shown}
 use Rattle.zvt_rules.proofs.Readings.{got-same, then-on}
@@ -204,13 +204,13 @@ module _ (s : List ℕ) (b : Bytes s) where
   list-found from to = Iff·trans (place-is (listPlace s) from to) (found.list-exactly s b from to)
 
   -- P20: "code (27), amount (04) and receipt (87)": each is told exactly where a status information has that field.
-  pub code-exactly : (c : ℕ) → (codeSays (statusOf s .code) ≡ some c) ↔ TellsCode s c
+  pub code-exactly : (c : ℕ) → (codeSays (statusOf s .code) ≡ some c) ↔ Tells s 0x27 (c ∷ [])
   code-exactly c = Iff·trans (code-is (statusOf s .code) c) (status.code-exactly s b c)
 
-  pub amount-exactly : (n : ℕ) → (amountSays (statusOf s .amount) ≡ some n) ↔ TellsAmount s n
+  pub amount-exactly : (n : ℕ) → (amountSays (statusOf s .amount) ≡ some n) ↔ TellsNumber s 0x04 n
   amount-exactly n = Iff·trans (amount-is (statusOf s .amount) n) (status.amount-exactly s b n)
 
-  pub receipt-exactly : (n : ℕ) → (receiptSays (statusOf s .receipt) ≡ some n) ↔ TellsReceipt s n
+  pub receipt-exactly : (n : ℕ) → (receiptSays (statusOf s .receipt) ≡ some n) ↔ TellsNumber s 0x87 n
   receipt-exactly n = Iff·trans (receipt-is (statusOf s .receipt) n) (status.receipt-exactly s b n)
 
 -- ---- the card name

@@ -129,24 +129,6 @@ fn full_line(s: &[u8], count: usize, added: &[u8], full: &mut [u8]) -> usize
     upto(size, full)
 }
 
-// The line s of a case that goes on.
-fn played(
-    turn: Turn,
-    s: &[u8],
-    file: &mut [u8],
-    room: &mut [u8],
-    added: &mut [u8],
-    out: &mut [u8],
-) -> Turn
-    requires { ⌜ ValidTaped (turn .taped) ⌝ }
-    ensures { λ r. ⌜ ValidTaped (r .taped) ⌝ }
-{
-    let mut full = [0u8; LINE];
-    let at = turn.at;
-    let n = full_line(s, at.added, added, &mut full);
-    turns::line(turn, &full[..n], file, room, added, out)
-}
-
 // The next line of a file. One that is blank ends a case, and behind it stands a fresh desk.
 fn passed(
     turn: Turn,
@@ -162,7 +144,10 @@ fn passed(
     if s.len() == 0 {
         return turns::fresh(true);
     }
-    played(turn, s, file, room, added, out)
+    let mut full = [0u8; LINE];
+    let at = turn.at;
+    let n = full_line(s, at.added, added, &mut full);
+    turns::line(turn, &full[..n], file, room, added, out)
 }
 
 // An answer is compared with what the file has for it, counted, and told where it differs.

@@ -17,7 +17,8 @@ use Rattle.zvt_rules.specs.Objects.{Form, formSize, lenOf, runOf}
 use Rattle.zvt_rules.specs.Fields.{formatOf, unknown, lengthDigit, digitsOf, decimal, unlessUndecimal, holdsDigits, digitsIn, Field, plain, fieldId, countField, valueOf, plainOf, containerOf, fieldBy, fieldOf, listOf}
 use Rattle.zvt_rules.specs.believed.Writing.{lenBytes, sized, digitBytes, lengthIn, fieldBytes}
 use Rattle.zvt_rules.specs.believed.Grammar.{Bytes, FormOk, Decimals, SizeOk, FieldOk}
-use Rattle.zvt_rules.specs.believed.Rows.{Cut, RunNo, New, LengthDigits, Undecimal, ListNo, noField, twice, short, noDigit, undecimal, sizedIn, inside, behind}
+use Rattle.zvt_rules.specs.believed.Digits.{Number, Says}
+use Rattle.zvt_rules.specs.believed.Rows.{Cut, RunNo, New, Undecimal, ListNo, noField, twice, short, noDigit, undecimal, sizedIn, inside, behind}
 use Rattle.zvt_rules.proofs.Tests.{by-test, pick-true, leb-test, leb-fails, and-test, nand-test, fails}
 use Rattle.zvt_rules.proofs.Readings.{unless-on, then-on, then-stop}
 use Rattle.zvt_rules.proofs.ObjectReading.{part-length}
@@ -58,6 +59,23 @@ undecimal-stops at [] b s x h e = let z : at ≡ at + 0 = omega arith in rw (dec
 undecimal-stops at (c ∷ front) b s x h e =
     let z : at + 1 + length front ≡ at + suc (length front) = omega arith in
     rw (h .0) (undecimal-stops (at + 1) front b s x (h .1) e ∙ moved 6 z)
+
+-- length digits throughout: those that say some length
+unfoldable LengthDigits : List ℕ → Type 0
+LengthDigits [] = Unit {0}
+LengthDigits (b ∷ s) = ((0xF0 ≤ b) × (b ≤ 0xF9)) × LengthDigits s
+
+digits-said : (s : List ℕ) → LengthDigits s → (v : ℕ) × Says s v
+unfolding LengthDigits Number
+digits-said [] h = (0, refl)
+digits-said (b ∷ s) h =
+    let (m, k) = digits-said s (h .1) in
+    ((b - 0xF0) * 10 ^ length s + m, (b - 0xF0, m, (omega arith, omega arith), refl, k))
+
+said-digits : (s : List ℕ) (v : ℕ) → Says s v → LengthDigits s
+unfolding LengthDigits Number
+said-digits [] v e = tt
+said-digits (b ∷ s) v (d, m, k, e, r) = ((omega arith, omega arith), said-digits s m r)
 
 -- the first byte that is no length digit, and length digits that break off
 digits-stop : (d v at : ℕ) (front : List ℕ) (b : ℕ) (s : List ℕ) → LengthDigits front → length front < d → ((b < 0xF0) ⊎ (0xF9 < b))
@@ -214,10 +232,10 @@ list-refused {seen} {n} {at} (twice {id = id} {s = s} known e) =
 list-refused {seen} {n} {at} (short {id = id} {s = s} value new ok c) =
     list-by seen n at id s (no 1 (at + length (id ∷ s))) (sized-known (formatOf id) (length value) ok) new
     (by-short id n at s (formatOf id) value (c .missing) ok (c .some) (c .joined))
-list-refused {seen} {n} {at} (noDigit {id = id} {d = d} front b s new f l h e) =
+list-refused {seen} {n} {at} (noDigit {id = id} {d = d} front v b s new f l h e) =
     let z : at + 1 + length front ≡ at + suc (length front) = omega arith in
     list-by seen n at id (front ++ (b ∷ s)) (no 4 (at + length (id ∷ front))) (rw f) new
-    (rw f (then-stop _ _ (digits-stop d 0 (at + 1) front b s h l e ∙ moved 4 z)))
+    (rw f (then-stop _ _ (digits-stop d 0 (at + 1) front b s (said-digits front v h) l e ∙ moved 4 z)))
 list-refused {seen} {n} {at} (undecimal id front b tail s new ok h ds e) =
     list-by seen n at id _ _ (sized-known (formatOf id) (length (front ++ (b ∷ tail))) ok) new
     (by-undecimal id n at (formatOf id) front b tail s ok h ds e)
@@ -372,7 +390,7 @@ digits-row {seen} {n} {at} {id} d e new (out {s = s} h l) =
     placed (ListNo seen n at (id ∷ s)) 1 z (short {s = s} (r .0) new (rw e (r .1)) (rw e (r .2)))
 digits-row {seen} {n} {at} {id} d e new (bad front b s h l f) =
     let z : at + suc (length front) ≡ at + 1 + length front = omega arith in
-    placed (ListNo seen n at (id ∷ (front ++ (b ∷ s)))) 4 z (noDigit front b s new e l h f)
+    placed (ListNo seen n at (id ∷ (front ++ (b ∷ s)))) 4 z (noDigit front _ b s new e l (digits-said front h .1) f)
 
 -- a container
 container-told : (seen : List ℕ) (n at : ℕ) (t : List ℕ) → New seen 0x06 → Bytes (0x06 ∷ t)

@@ -16,7 +16,7 @@ use Rattle.zvt_rules.specs.Objects.{longTag, topBit, nested, secondTag, 
 use Rattle.zvt_rules.specs.Objects.{from, to, headWith, headOf, Obj, runOf, oneOf, countObj}
 use Rattle.zvt_rules.specs.believed.Writing.{lenBytes, sized, objBytes}
 use Rattle.zvt_rules.specs.believed.Grammar.{Bytes, TagOk, FormOk, ObjOk}
-use Rattle.zvt_rules.specs.believed.Rows.{NoLength, SizedNo, short, wrong, Room, RunNo, tooMany, tooDeep, tagShort, tagWrong, sizedIn, inside, behind}
+use Rattle.zvt_rules.specs.believed.Rows.{SizedNo, short, wrong, Room, RunNo, tooMany, tooDeep, tagShort, tagWrong, sizedIn, inside, behind}
 use Rattle.zvt_rules.proofs.Tests.{pick-true}
 use Rattle.zvt_rules.proofs.Readings.{then-on, then-stop}
 use Rattle.zvt_rules.proofs.ObjectReading.{part-length, tag-in, len-in, head-in, one-in, run-none, run-step, one-step}
@@ -144,7 +144,7 @@ run-refused {left} {n} {at} {r = r} (behind {s = s} o ok few h) =
 
 -- ---- what is refused a row says
 -- the first length bytes that are none
-other : (b : ℕ) → 0x80 ≤ b → (b ≡ 0x81 → ⊥) → (b ≡ 0x82 → ⊥) → NoLength b
+other : (b : ℕ) → 0x80 ≤ b → (b ≡ 0x81 → ⊥) → (b ≡ 0x82 → ⊥) → (b ≡ 0x80) ⊎ (0x83 ≤ b)
 other b h i j =
     ⊎-elim (λ e. inl (sym e))
     (λ l. ⊎-elim (λ e. absurd (i (sym e))) (λ m. ⊎-elim (λ e. absurd (j (sym e))) inr (eq-or-lt-of-le m)) (eq-or-lt-of-le l)) (eq-or-lt-of-le h)

@@ -22,7 +22,7 @@ use Rattle.zvt_rules.specs.believed.Grammar.{Bytes, SizeOk, FieldOk, Lis
 use Rattle.zvt_rules.specs.Digits.{numberOf}
 use Rattle.zvt_rules.specs.Values.{isStatus, Found, missing, found, valueIn, codeOf, amountOf, receiptOf, codeIn, amountIn, receiptIn, statusIn, bodyFields, statusFields, statusOf}
 use Rattle.zvt_rules.specs.believed.Digits.{Spells, Says, SaysLength}
-use Rattle.zvt_rules.specs.believed.Values.{In, Tells, TellsCode, TellsAmount, TellsReceipt}
+use Rattle.zvt_rules.specs.believed.Values.{In, Tells, TellsNumber}
 use Rattle.zvt_rules.proofs.Tests.{pick-true, pick-false, pick-test, neither}
 use Rattle.zvt_rules.proofs.Lists.{in-none, in-first, in-more}
 use Rattle.zvt_rules.proofs.Spelling.{spells-exactly, digits-say, said-once, length-said}
@@ -220,21 +220,21 @@ module _ (s : List ℕ) (b : Bytes s) where
     λ k. (k .0, in-status s id (k .0) b h .1 (k .1), spells-exactly (k .0) n .0 (k .2) .1),
   )
 
-  pub code-exactly : (c : ℕ) → (statusOf s .code ≡ Code c) ↔ TellsCode s c
+  pub code-exactly : (c : ℕ) → (statusOf s .code ≡ Code c) ↔ Tells s 0x27 (c ∷ [])
   unfolding statusOf statusIn codeIn codeOf FieldOk SizeOk formatOf among
   code-exactly c = (to (valueIn 0x27 (statusFields (readOf s))) refl, λ k. rw (in-status s 0x27 (c ∷ []) b (λ e. omega arith) .1 k))
     where
-      to : (x : Found) → valueIn 0x27 (statusFields (readOf s)) ≡ x → codeOf x ≡ Code c → TellsCode s c
+      to : (x : Found) → valueIn 0x27 (statusFields (readOf s)) ≡ x → codeOf x ≡ Code c → Tells s 0x27 (c ∷ [])
       to missing e h = absurd (let z : _≡_ {A = ℕ} 0 1 = cc in omega arith)
       to (found value) e h =
           let k = in-status s 0x27 value b (λ e. omega arith) .0 e in
           let first : getD value 0 0 ≡ c = cc in
           rw (one-byte value (told-ok s 0x27 value k .0), first) at k
 
-  pub amount-exactly : (n : ℕ) → (statusOf s .amount ≡ Amount n) ↔ TellsAmount s n
+  pub amount-exactly : (n : ℕ) → (statusOf s .amount ≡ Amount n) ↔ TellsNumber s 0x04 n
   unfolding statusOf statusIn amountIn among
   amount-exactly n = Iff·trans (amount-from _ n) (digits-told 0x04 n (λ e. omega arith) refl)
 
-  pub receipt-exactly : (n : ℕ) → (statusOf s .receipt ≡ Receipt n) ↔ TellsReceipt s n
+  pub receipt-exactly : (n : ℕ) → (statusOf s .receipt ≡ Receipt n) ↔ TellsNumber s 0x87 n
   unfolding statusOf statusIn receiptIn among
   receipt-exactly n = Iff·trans (receipt-from _ n) (digits-told 0x87 n (λ e. omega arith) refl)

@@ -52,7 +52,8 @@ running l status = record { phase = Running; kind = l .kind; asked = l .asked; n
 -- the lane that an accepted call makes of its lane, and the lines that it puts into the book. What the line of an end says is told in Due
 pub data Makes (s : State) : Call → ℕ → Lane → List Line → Type 0 where
   -- P8: "makes the idle lane waiting", for what the opening asks
-  opened : {i : ℕ} {o : Opening} {kind : Kind} {asked named : ℕ} → Asks i (s .lines) o kind asked named → Makes s (opening i o) i (waiting kind asked named) []
+  opened : {i : ℕ} {o : Opening} {kind : Kind} {asked named : ℕ} → Asks i (s .lines) o kind asked named
+      → Makes s (opening i o) i (waiting kind asked named) []
   -- P15: "80 00 with an empty body makes the lane running."
   taken : {i : ℕ} {b : List ℕ} → Reads b 0x80 0x00 (bytes []) → Makes s (message i b) i (running (laneIn s i) (laneIn s i .status)) []
   -- P19: "04 FF, 06 D1 and 06 D3 change nothing."
@@ -62,7 +63,8 @@ pub data Makes (s : State) : Call → ℕ → Lane → List Line → Type 0 wher
   told : {i : ℕ} {b : List ℕ} {body : Body} {value : List ℕ} {status : Status} → Reads b 0x04 0x0F body
       → valueIn 0x27 (bodyFields body) ≡ found value → StatusIs (bodyFields body) status → Makes s (message i b) i (running (laneIn s i) status) []
   -- P20: "Without field 27 it changes nothing."
-  untold : {i : ℕ} {b : List ℕ} {body : Body} → Reads b 0x04 0x0F body → valueIn 0x27 (bodyFields body) ≡ missing → Makes s (message i b) i (laneIn s i) []
+  untold : {i : ℕ} {b : List ℕ} {body : Body} → Reads b 0x04 0x0F body → valueIn 0x27 (bodyFields body) ≡ missing
+      → Makes s (message i b) i (laneIn s i) []
   -- P29: "Every end puts one line into the book; the lane is idle then and remembers nothing."
   ended : {i : ℕ} {b : List ℕ} {line : Line} → Ending (message i b) → Makes s (message i b) i idle (line ∷ [])
   broken : {i : ℕ} {line : Line} → Ending (lost i) → Makes s (lost i) i idle (line ∷ [])

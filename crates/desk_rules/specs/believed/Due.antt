@@ -65,7 +65,8 @@ pub data Asks (i : ℕ) (before : List Line) : Opening → Kind → ℕ → ℕ 
   by-sale : {amount : ℕ} → Asks i before (sale amount) Sale amount 0
   by-refund : {password amount : ℕ} → Asks i before (refund password amount) Refund amount 0
   -- P13: "A reversal asks for the settled amount of that sale, which may be 0."
-  by-reversal : {password receipt : ℕ} {sold : Line} → Named i receipt before sold → Asks i before (reversal password receipt) Reversal (sold .settled) receipt
+  by-reversal : {password receipt : ℕ} {sold : Line} → Named i receipt before sold
+      → Asks i before (reversal password receipt) Reversal (sold .settled) receipt
 
 -- the outcome, the settled amount and the code of a payment, by the call that ends it. P31: "Only an approved line has a settled
 -- amount; in others it is 0."
@@ -87,7 +88,8 @@ pub data Ended (i : ℕ) (kind : Kind) (asked : ℕ) (status : List Field) : Cal
   other-code : {s : List ℕ} {body : Body} {code : ℕ} → Reads s 0x06 0x0F body → CodeIs status code → (code ≡ 0 → ⊥)
       → Ended i kind asked status (message i s) Unclear 0 code
   -- P26: "or no remembered status, means unclear". P33: "or 0 where nothing is remembered"
-  no-status : {s : List ℕ} {body : Body} → Reads s 0x06 0x0F body → valueIn 0x27 status ≡ missing → Ended i kind asked status (message i s) Unclear 0 0
+  no-status : {s : List ℕ} {body : Body} → Reads s 0x06 0x0F body → valueIn 0x27 status ≡ missing
+      → Ended i kind asked status (message i s) Unclear 0 0
 
 -- a call that ends a payment. P16: "84 xx". P21: "06 1E". P22: "06 0F". P27: "Where the link is lost"
 pub data Ending : Call → Type 0 where
@@ -105,7 +107,8 @@ pub data ReceiptIs (status : List Field) (named : ℕ) : Kind → ℕ → Type 0
 -- ---- a payment
 
 -- an open payment of lane i after those lines: its opening, then messages of its terminal that do not end it, and what they say
-pub record Open (i : ℕ) (before : List Line) (calls : List Call) (kind : Kind) (asked named : ℕ) (told : List (List ℕ)) (status : List Field) : Type 0 where
+pub record Open (i : ℕ) (before : List Line) (calls : List Call) (kind : Kind) (asked named : ℕ) (told : List (List ℕ)) (status : List Field)
+    : Type 0 where
   pub first : Opening
   pub in-order : calls ≡ opening i first ∷ map (message i) told
   pub still-open : None (λ s. Ending (message i s)) told

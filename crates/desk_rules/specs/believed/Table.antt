@@ -146,4 +146,5 @@ money amount = plain 0x04 amount ∷ plain 0x49 (0x09 ∷ 0x78 ∷ []) ∷ []
 abbrev pub Commands : Opening → Message → Type 0
 Commands (sale amount) m = (a : List ℕ) × (numberOf a ≡ amount) × (m ≡ said 0x01 [] (money a))
 Commands (refund password amount) m = (w : List ℕ) × (a : List ℕ) × (numberOf w ≡ password) × (numberOf a ≡ amount) × (m ≡ said 0x31 w (money a))
-Commands (reversal password receipt) m = (w : List ℕ) × (r : List ℕ) × (numberOf w ≡ password) × (numberOf r ≡ receipt) × (m ≡ said 0x30 w (plain 0x87 r ∷ []))
+Commands (reversal password receipt) m =
+    (w : List ℕ) × (r : List ℕ) × (numberOf w ≡ password) × (numberOf r ≡ receipt) × (m ≡ said 0x30 w (plain 0x87 r ∷ []))

@@ -18,6 +18,7 @@ use Rattle.zvt_rules.specs.Fields.{formatOf, holdsDigits, Field, plain, 
 use Rattle.zvt_rules.specs.Message.{layoutOf}
 use Rattle.zvt_rules.specs.believed.Writing.{lenBytes, sized, objBytes, lengthIn, fieldBytes, lengthBytes}
 use Rattle.zvt_rules.specs.believed.Grammar.{TagOk, FormOk, ObjOk, Decimals, SizeOk, FieldOk, LengthOk}
+use Rattle.zvt_rules.specs.believed.Digits.{Says}
 use Rattle.zvt_rules.specs.believed.Values.{In}
 use Rattle.zvt_rules.specs.believed.Shortest.{Shortens}
 
@@ -27,15 +28,12 @@ pub record Cut (s whole : List ℕ) : Type 0 where
   pub some : 0 < length missing
   pub joined : s ++ missing ≡ whole
 
--- R4: "a first length byte is 80 or 83 to FF (O8)"
-abbrev pub NoLength : ℕ → Type 0
-NoLength b = (b ≡ 0x80) ⊎ (0x83 ≤ b)
-
 -- a length and a value behind an id or a tag. R42, R43: "length 1 or 4, value 1"; the value may be cut by the end of a run or container
--- around it, R44: "also where more bytes follow that"
+-- around it, R44: "also where more bytes follow that". R4: "a first length byte is 80 or 83 to FF (O8)"
 pub data SizedNo : ℕ → List ℕ → Fault → Type 0 where
-  short : {at : ℕ} {s : List ℕ} (form : Form) (value : List ℕ) → FormOk form (length value) → Cut s (sized form value) → SizedNo at s (no 1 (at + length s))
-  wrong : {at b : ℕ} {s : List ℕ} → NoLength b → SizedNo at (b ∷ s) (no 4 at)
+  short : {at : ℕ} {s : List ℕ} (form : Form) (value : List ℕ) → FormOk form (length value) → Cut s (sized form value)
+      → SizedNo at s (no 1 (at + length s))
+  wrong : {at b : ℕ} {s : List ℕ} → (b ≡ 0x80) ⊎ (0x83 ≤ b) → SizedNo at (b ∷ s) (no 4 at)
 
 -- O10: "A message has at most 64 objects", n of them before this one. O9: "down to depth 4", left levels with this one's
 abbrev pub Room : ℕ → ℕ → Type 0
@@ -62,11 +60,6 @@ pub data RunNo : ℕ → ℕ → ℕ → List ℕ → Fault → Type 0 where
 abbrev pub New : List ℕ → ℕ → Type 0
 New seen id = In id seen → ⊥
 
--- F3: "A length digit is one of the bytes F0 to F9". R4: "a byte that is no length digit stands where one is due"
-unfoldable pub LengthDigits : List ℕ → Type 0
-LengthDigits [] = Unit {0}
-LengthDigits (b ∷ s) = ((0xF0 ≤ b) × (b ≤ 0xF9)) × LengthDigits s
-
 -- R6: "a half of a byte is no decimal digit"
 abbrev pub Undecimal : ℕ → Type 0
 Undecimal b = (9 < b / 16) ⊎ (9 < b % 16)
@@ -77,8 +70,9 @@ pub data ListNo : List ℕ → ℕ → ℕ → List ℕ → Fault → Type 0 whe
   twice : {seen : List ℕ} {n at id : ℕ} {s : List ℕ} → (formatOf id ≡ Unknown → ⊥) → In id seen → ListNo seen n at (id ∷ s) (no 7 at)
   short : {seen : List ℕ} {n at id : ℕ} {s : List ℕ} (value : List ℕ) → New seen id → SizeOk (formatOf id) (length value)
       → Cut s (lengthIn (formatOf id) (length value) ++ value) → ListNo seen n at (id ∷ s) (no 1 (at + length (id ∷ s)))
-  noDigit : {seen : List ℕ} {n at id d : ℕ} (front : List ℕ) (b : ℕ) (s : List ℕ) → New seen id → formatOf id ≡ Digits d
-      → length front < d → LengthDigits front → (b < 0xF0) ⊎ (0xF9 < b) → ListNo seen n at (id ∷ (front ++ (b ∷ s))) (no 4 (at + length (id ∷ front)))
+  -- R4: "a byte that is no length digit stands where one is due (F3)"; the digits before it say some length
+  noDigit : {seen : List ℕ} {n at id d : ℕ} (front : List ℕ) (v b : ℕ) (s : List ℕ) → New seen id → formatOf id ≡ Digits d
+      → length front < d → Says front v → (b < 0xF0) ⊎ (0xF9 < b) → ListNo seen n at (id ∷ (front ++ (b ∷ s))) (no 4 (at + length (id ∷ front)))
   undecimal : {seen : List ℕ} {n at : ℕ} (id : ℕ) (front : List ℕ) (b : ℕ) (back s : List ℕ) → New seen id
       → SizeOk (formatOf id) (length (front ++ (b ∷ back))) → holdsDigits id ≡ true → Decimals front → Undecimal b
       → ListNo seen n at (fieldBytes (plain id (front ++ (b ∷ back))) ++ s)

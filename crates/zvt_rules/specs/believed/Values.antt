@@ -22,12 +22,6 @@ unfoldable pub Tells : List ℕ → ℕ → List ℕ → Type 0
 Tells s id value = (long : Bool) × (fs : List Field) × Is s (record { class = 0x04; instruction = 0x0F; long = long; body = listed [] fs })
     × In (plain id value) fs
 
--- P20: "code (27), amount (04) and receipt (87)"
-abbrev pub TellsCode : List ℕ → ℕ → Type 0
-TellsCode s code = Tells s 0x27 (code ∷ [])
-
-abbrev pub TellsAmount : List ℕ → ℕ → Type 0
-TellsAmount s amount = (value : List ℕ) × Tells s 0x04 value × Spells value amount
-
-abbrev pub TellsReceipt : List ℕ → ℕ → Type 0
-TellsReceipt s receipt = (value : List ℕ) × Tells s 0x87 value × Spells value receipt
+-- P20: "amount (04) and receipt (87)": the number that such a field spells
+abbrev pub TellsNumber : List ℕ → ℕ → ℕ → Type 0
+TellsNumber s id n = (value : List ℕ) × Tells s id value × Spells value n
