@@ -12,6 +12,7 @@ use borrow.Author.Tests.{le-leb, lt-leb, lt-ltb, le-ltb}
 use denote.Enum.Declared.{tagOf}
 use types.Run.{OneOf}
 use Rattle.zvt_rules.specs.declared.Refusal.{Refusal}
+use Rattle.zvt_rules.specs.Reading.{unplaced}
 use Rattle.zvt_rules.specs.Buffers.{front}
 use Rattle.desk_rules.specs.declared.Outcome.{Outcome}
 use Rattle.desk_rules.specs.declared.Outcome.the-variants.{Unclear}
@@ -64,22 +65,22 @@ lost-open l e = rw e
 -- ---- the decision
 
 module _ (d : Desk) (c : Call) (room : ℕ) where
-  pub no-lane : laneCount ≤ laneOf c → decide (view d) c room ≡ refuse 12
+  pub no-lane : laneCount ≤ laneOf c → decide (view d) c room ≡ refuse (unplaced 12)
   unfolding decide
   no-lane h = rw (le-leb laneCount (laneOf c) h)
 
   module _ (h : laneOf c < laneCount) where
-    pub not-moved : (r : Refusal) → moveOf d c ≡ Refused r → decide (view d) c room ≡ refuse (r .number)
+    pub not-moved : (r : Refusal) → moveOf d c ≡ Refused r → decide (view d) c room ≡ refuse r
     unfolding decide view unlessRefused
     not-moved r e = rw (lt-leb laneCount (laneOf c) h, e)
 
     module _ (p : Passes (moveOf d c)) where
-      pub no-place : needsPlace c && leb bookLines (load (view d)) ≡ true → decide (view d) c room ≡ refuse 18
+      pub no-place : needsPlace c && leb bookLines (load (view d)) ≡ true → decide (view d) c room ≡ refuse (unplaced 18)
       unfolding decide view
       no-place q = rw (lt-leb laneCount (laneOf c) h, passing (moveOf d c) _ p, q)
 
       module _ (q : needsPlace c && leb bookLines (load (view d)) ≡ false) where
-        pub no-room : room < length (writes (laneFor d c) c) → decide (view d) c room ≡ refuse 11
+        pub no-room : room < length (writes (laneFor d c) c) → decide (view d) c room ≡ refuse (unplaced 11)
         unfolding decide view
         no-room k = rw (lt-leb laneCount (laneOf c) h, passing (moveOf d c) _ p, q, lt-ltb room (length (writes (laneFor d c) c)) k)
 
@@ -96,7 +97,7 @@ module _ (d : Desk) (v : Valid d) (c : Call) (n : NumbersFit c) (out : List ℕ)
   valid : r ≡ answerOf d c (length out) → Valid (r .desk)
   valid e = rw e (answer-valid d c (length out) v n)
 
-  pub refused-as : (k : ℕ) → decide (view d) c (length out) ≡ refuse k → r ≡ refusedAnswer d k → Answers d c out r out
+  pub refused-as : (k : Refusal) → decide (view d) c (length out) ≡ refuse k → r ≡ refusedAnswer d k → Answers d c out r out
   refused-as k e f =
       let same = f ∙ sym (refused-same d c (length out) k e) in
       (same, (sym (refused-leaves d c out k e), valid same))
@@ -113,6 +114,6 @@ module _ (d : Desk) (v : Valid d) (c : Call) (n : NumbersFit c) (out : List ℕ)
 pub written : {n m : ℕ} {d e : Desk} → n ≡ m → d ≡ e → _≡_ {A = Answer} (record { reply = Written n; desk = d }) (record { reply = Written m; desk = e })
 written p q = rw (p, q)
 
-pub valid-refused : (d : Desk) (r : Answer) (n : ℕ) → Valid d → r ≡ refusedAnswer d n → Valid (r .desk)
+pub valid-refused : (d : Desk) (r : Answer) (n : Refusal) → Valid d → r ≡ refusedAnswer d n → Valid (r .desk)
 unfolding refusedAnswer
 valid-refused d r n v e = rw e v

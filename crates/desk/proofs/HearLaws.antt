@@ -15,7 +15,7 @@ use Rattle.zvt_rules.specs.declared.Refusal.{Refusal}
 use Rattle.zvt_rules.specs.declared.Status.{Status}
 use Rattle.zvt_rules.specs.declared.ToldCode.the-variants.{Code}
 use Rattle.zvt_rules.specs.Reading.{Reading, got, refused, pick, among}
-use Rattle.zvt_rules.specs.Message.{Heading, wholeHeader, Message, readOf}
+use Rattle.zvt_rules.specs.Message.{Heading, headerSize, start, wholeHeader, Message, readOf}
 use Rattle.zvt_rules.specs.believed.Writing.{messageBytes}
 use Rattle.zvt_rules.specs.believed.Grammar.{Bytes}
 use Rattle.zvt_rules.proofs.MessageBytes.{read-sound}
@@ -23,7 +23,6 @@ use Rattle.zvt_rules.specs.declared.ToldBody.{ToldBody}
 use Rattle.zvt_rules.specs.declared.ToldAnswer.{ToldAnswer}
 use Rattle.zvt_rules.specs.declared.Heard.{Heard}
 use Rattle.zvt_rules.specs.declared.HearAnswer.the-variants.{Heard as header-heard, Refused as header-refused}
-use Rattle.zvt_rules.specs.Answers.{refusalOf}
 use Rattle.zvt_rules.specs.Heard.{toldIn, toldAnswer, asHearAnswer, hearAnswer}
 use Rattle.zvt.proofs.Tables.{allIn, at-key}
 use Rattle.desk_rules.specs.declared.Kind.{Kind}
@@ -94,37 +93,40 @@ pub reported-code : (l : Lane) (status : Status) (code : ℕ) → status .code �
 unfolding reportedAs reportedBy
 reported-code l status code e = rw e
 
-pub running-allowed : (x : Said) (l : Lane) (told : ToldAnswer) → (x ≡ NotAllowed → ⊥) → runningFor x l told ≡ afterTold x l told
+pub running-allowed : (x : Said) (l : Lane) (start : ℕ) (told : ToldAnswer) → (x ≡ NotAllowed → ⊥)
+    → runningFor x l start told ≡ afterTold x l start told
 unfolding runningFor
-running-allowed Completion l told n = refl
-running-allowed Abort l told n = refl
-running-allowed Report l told n = refl
-running-allowed Passing l told n = refl
-running-allowed NotAllowed l told n = absurd (n refl)
+running-allowed Completion l start told n = refl
+running-allowed Abort l start told n = refl
+running-allowed Report l start told n = refl
+running-allowed Passing l start told n = refl
+running-allowed NotAllowed l start told n = absurd (n refl)
 
 -- what the pairs of the course say, one after another
 acting : Bool → Bool → Bool → Said
 acting a b c = pick a Completion (pick b Abort (pick c Report Passing))
 
-running-pick : (x : ℕ) (l : Lane) (told : ToldAnswer)
-    → runningFor (saidBy x) l told ≡ pick (among runningPairs x) (afterTold (acting (eqb x 0x060F) (eqb x 0x061E) (eqb x 0x040F)) l told) (noMove 15)
+running-pick : (x : ℕ) (l : Lane) (start : ℕ) (told : ToldAnswer)
+    → runningFor (saidBy x) l start told
+    ≡ pick (among runningPairs x) (afterTold (acting (eqb x 0x060F) (eqb x 0x061E) (eqb x 0x040F)) l start told) (noMove 15)
 unfolding runningFor saidBy acting
-running-pick x l told = go (among runningPairs x) (eqb x 0x060F) (eqb x 0x061E) (eqb x 0x040F)
+running-pick x l start told = go (among runningPairs x) (eqb x 0x060F) (eqb x 0x061E) (eqb x 0x040F)
   where
-    go : (t a b c : Bool) → runningFor (pick t (acting a b c) NotAllowed) l told ≡ pick t (afterTold (acting a b c) l told) (noMove 15)
+    go : (t a b c : Bool) → runningFor (pick t (acting a b c) NotAllowed) l start told ≡ pick t (afterTold (acting a b c) l start told) (noMove 15)
     go true true b c = refl
     go true false true c = refl
     go true false false true = refl
     go true false false false = refl
     go false a b c = refl
 
-moved-pick : (a b c : Bool) (l : Lane) (t : ToldBody)
-    → movedFor (acting a b c) l t ≡ pick a (completedBy l (l .status .code)) (pick b (abortedBy (t .first)) (pick c (reportedAs l (t .status)) Stays))
+moved-pick : (a b c : Bool) (l : Lane) (start : ℕ) (t : ToldBody)
+    → movedFor (acting a b c) l start t
+    ≡ pick a (completedBy l (l .status .code)) (pick b (abortedBy start (t .first)) (pick c (reportedAs l (t .status)) Stays))
 unfolding movedFor acting
-moved-pick true b c l t = refl
-moved-pick false true c l t = refl
-moved-pick false false true l t = refl
-moved-pick false false false l t = refl
+moved-pick true b c l start t = refl
+moved-pick false true c l start t = refl
+moved-pick false false true l start t = refl
+moved-pick false false false l start t = refl
 
 -- the instruction of a message that was read is a byte
 second-byte : (s : List ℕ) (t : Message) → Bytes s → readOf s ≡ got t → t .instruction < 256
@@ -133,24 +135,24 @@ second-byte s t b e = let k = read-sound s t b e .0 in rw (← k) at (b 1)
 
 -- what is heard of a message with that header
 heardAs : Heading → List ℕ → Heard
-heardAs g s = record { class = g .class; instruction = g .instruction; length = g .size; told = toldAnswer (readOf s) }
+heardAs g s = record { class = g .class; instruction = g .instruction; start = start g; length = g .size; told = toldAnswer (readOf s) }
 
 -- a running lane does by what a message tells what the course says
 module _ (l : Lane) (s : List ℕ) (b : Bytes s) (g : Heading) (w : wholeHeader s ≡ got g) where
   told-moved : (r : Reading Message) → readOf s ≡ r → let x = g .class * 256 + g .instruction in
-      afterTold (acting (eqb x 0x060F) (eqb x 0x061E) (eqb x 0x040F)) l (toldAnswer r) ≡ afterBody l r
-  unfolding afterTold toldAnswer refusalOf afterBody movedBy reportedAs
+      afterTold (acting (eqb x 0x060F) (eqb x 0x061E) (eqb x 0x040F)) l (start g) (toldAnswer r) ≡ afterBody l r
+  unfolding afterTold toldAnswer afterBody movedBy reportedAs
   told-moved (refused f) e = refl
   told-moved (got m) e =
       let p = same-pair s g m w e in
       let small = second-byte s m b e in
       let pair : (c k : ℕ) → k < 256 → _ = λ c k less. pair-same (m .class) (m .instruction) c k small less in
-      rw (← (p .0), ← (p .1), pair 0x06 0x0F (omega arith), pair 0x06 0x1E (omega arith), pair 0x04 0x0F (omega arith))
-      (moved-pick _ _ _ l (toldIn m))
+      rw (← (p .0), ← (p .1), ← (p .2), pair 0x06 0x0F (omega arith), pair 0x06 0x1E (omega arith), pair 0x04 0x0F (omega arith))
+      (moved-pick _ _ _ l (headerSize (m .long)) (toldIn m))
 
   told-running : runningMoved l (heardAs g s) ≡ heardRunning l s g
   unfolding runningMoved heardRunning heardAs
-  told-running = running-pick _ l (toldAnswer (readOf s)) ∙ rw (told-moved (readOf s) refl)
+  told-running = running-pick _ l (start g) (toldAnswer (readOf s)) ∙ rw (told-moved (readOf s) refl)
 
 -- ---- a lane that is not idle
 is-waiting : (p : Phase) → isIdle p ≡ false → OneOf (0 ∷ 1 ∷ []) (tagOf phase.the-type p) → p ≡ Waiting
@@ -161,7 +163,7 @@ is-waiting Running h k = absurd (false≢true (at-key (λ t. not (eqb t 2)) (0 �
 
 -- what is heard, by the header
 unheard : (hears : Heading → Moved) (s : List ℕ) (r : Refusal) → hearAnswer s ≡ header-refused r → afterHeader hears (wholeHeader s) ≡ Refused r
-unfolding hearAnswer asHearAnswer refusalOf afterHeader
+unfolding hearAnswer asHearAnswer afterHeader
 unheard hears s r e = go (wholeHeader s) e
   where
     go : (x : Reading Heading) → asHearAnswer (readOf s) x ≡ header-refused r → afterHeader hears x ≡ Refused r

@@ -35,27 +35,27 @@ waitingMoved l h = heardWaiting l (headerBy h)
 unfoldable pub reportedAs : Lane → Status → Moved
 reportedAs l status = reportedBy l status (status .code)
 
-unfoldable pub movedFor : Said → Lane → ToldBody → Moved
-movedFor Completion l t = completedBy l (l .status .code)
-movedFor Abort l t = abortedBy (t .first)
-movedFor Report l t = reportedAs l (t .status)
-movedFor Passing l t = Stays
-movedFor NotAllowed l t = noMove 15
+unfoldable pub movedFor : Said → Lane → ℕ → ToldBody → Moved
+movedFor Completion l start t = completedBy l (l .status .code)
+movedFor Abort l start t = abortedBy start (t .first)
+movedFor Report l start t = reportedAs l (t .status)
+movedFor Passing l start t = Stays
+movedFor NotAllowed l start t = noMove 15
 
-unfoldable pub afterTold : Said → Lane → ToldAnswer → Moved
-afterTold said l (body-refused r) = Refused r
-afterTold said l (Told t) = movedFor said l t
+unfoldable pub afterTold : Said → Lane → ℕ → ToldAnswer → Moved
+afterTold said l start (body-refused r) = Refused r
+afterTold said l start (Told t) = movedFor said l start t
 
 -- a pair that is not allowed is refused before the body (15)
-unfoldable pub runningFor : Said → Lane → ToldAnswer → Moved
-runningFor NotAllowed l told = noMove 15
-runningFor Completion l told = afterTold Completion l told
-runningFor Abort l told = afterTold Abort l told
-runningFor Report l told = afterTold Report l told
-runningFor Passing l told = afterTold Passing l told
+unfoldable pub runningFor : Said → Lane → ℕ → ToldAnswer → Moved
+runningFor NotAllowed l start told = noMove 15
+runningFor Completion l start told = afterTold Completion l start told
+runningFor Abort l start told = afterTold Abort l start told
+runningFor Report l start told = afterTold Report l start told
+runningFor Passing l start told = afterTold Passing l start told
 
 unfoldable pub runningMoved : Lane → Heard → Moved
-runningMoved l h = runningFor (saidBy (h .class * 256 + h .instruction)) l (h .told)
+runningMoved l h = runningFor (saidBy (h .class * 256 + h .instruction)) l (h .start) (h .told)
 
 -- what a reply of so many bytes leaves in the output
 unfoldable pub replied : ℕ → List ℕ → List ℕ

@@ -8,6 +8,7 @@ use desk_rules::Outcome;
 use desk_rules::Phase;
 use zvt_rules::HearAnswer;
 use zvt_rules::Heard;
+use zvt_rules::Place;
 use zvt_rules::Refusal;
 use zvt_rules::Status;
 use zvt_rules::ToldAmount;
@@ -35,7 +36,7 @@ pub(crate) enum Said {
 fn refused(number: u8) -> Moved
     ensures { λ r. ⌜ r ≡ noMove number ⌝ }
 {
-    Moved::Refused(Refusal { number })
+    Moved::Refused(Refusal::unplaced(number))
 }
 
 // An opening that refers to that line: 13, 16, and the number for a line that is not there.
@@ -129,12 +130,15 @@ pub(crate) fn completed(l: Lane) -> Moved
     }
 }
 
-// 06 1E: the first body byte is the code.
-pub(crate) fn aborted(first: ToldCode) -> Moved
-    ensures { λ r. ⌜ r ≡ abortedBy first ⌝ }
+// 06 1E: the first body byte is the code. An empty body ends where it starts.
+pub(crate) fn aborted(start: usize, first: ToldCode) -> Moved
+    ensures { λ r. ⌜ r ≡ abortedBy start first ⌝ }
 {
     match first {
-        ToldCode::Missing => refused(1),
+        ToldCode::Missing => Moved::Refused(Refusal {
+            number: 1,
+            place: Place::At(start),
+        }),
         ToldCode::Code(code) => Moved::Ends(Outcome::Declined, 0, code),
     }
 }
@@ -151,13 +155,13 @@ pub(crate) fn reported(l: Lane, status: Status) -> Moved
 }
 
 // What a message that was read does to a running lane, by what its pair says.
-pub(crate) fn moved_by(l: Lane, said: Said, t: ToldBody) -> Moved
-    ensures { λ r. ⌜ r ≡ movedFor said l t ⌝ }
+pub(crate) fn moved_by(l: Lane, said: Said, start: usize, t: ToldBody) -> Moved
+    ensures { λ r. ⌜ r ≡ movedFor said l start t ⌝ }
 {
     let first = t.first;
     match said {
         Said::Completion => completed(l),
-        Said::Abort => aborted(first),
+        Said::Abort => aborted(start, first),
         Said::Report => reported(l, t.status),
         Said::Passing => Moved::Stays,
         Said::NotAllowed => refused(15),
@@ -212,7 +216,7 @@ pub(crate) fn heard_running(l: Lane, h: Heard) -> Moved
     let told = h.told;
     match told {
         ToldAnswer::Refused(r) => Moved::Refused(r),
-        ToldAnswer::Told(t) => moved_by(l, said, t),
+        ToldAnswer::Told(t) => moved_by(l, said, h.start, t),
     }
 }
 

@@ -23,6 +23,7 @@ ghost use mathlib.Core.Path.{_≡_};
 ghost use mathlib.Core.Bool.{_&&_};
 ghost use lib.Dec.{leb};
 ghost use lib.ListN.{length};
+ghost use Rattle.zvt_rules.specs.Reading.{unplaced};
 ghost use Rattle.desk_rules.specs.Numbers.{bookLines};
 ghost use Rattle.desk_rules.specs.Kinds.{booked};
 ghost use Rattle.desk_rules.specs.Openings.{kindOf};
@@ -31,11 +32,12 @@ ghost use Rattle.desk_rules.specs.Desk.{load};
 ghost use Rattle.desk_rules.specs.Memory.{Valid, linesOfDesk, view, refusedAnswer, answerOf, leavesOf, closeAnswer, lineAnswer, laneAnswer};
 ghost use Rattle.desk_rules.specs.Turnover.{netOf};
 
+// Refused with a number that names no place.
 fn refused(desk: Desk, number: u8) -> Answer
-    ensures { λ r. ⌜ r ≡ refusedAnswer desk number ⌝ }
+    ensures { λ r. ⌜ r ≡ refusedAnswer desk (unplaced number) ⌝ }
 {
     Answer {
-        reply: Reply::Refused(Refusal { number }),
+        reply: Reply::Refused(Refusal::unplaced(number)),
         desk,
     }
 }
@@ -55,7 +57,10 @@ pub fn open(desk: Desk, lane: u8, opening: Opening, out: &mut [u8]) -> Answer
     let book = desk.book;
     let m = hear::opened(l, opening, last_line(book, lane, opening.reference()));
     if let Moved::Refused(r) = m {
-        return refused(desk, r.number);
+        return Answer {
+            reply: Reply::Refused(r),
+            desk,
+        };
     }
     if no_place(desk, opening) {
         return refused(desk, 18);
@@ -95,7 +100,10 @@ pub fn terminal(desk: Desk, lane: u8, s: &[u8], out: &mut [u8]) -> Answer
     let l = desk.lanes[at];
     let m = hear::heard(l, s);
     if let Moved::Refused(r) = m {
-        return refused(desk, r.number);
+        return Answer {
+            reply: Reply::Refused(r),
+            desk,
+        };
     }
     let size = hear::reply_size(l);
     if out.len() < size {
@@ -183,7 +191,7 @@ pub fn lane_at(desk: Desk, lane: u8) -> LaneAnswer
     ensures { λ r. ⌜ r ≡ laneAnswer lane (desk .lanes) ⌝ }
 {
     if Lane::COUNT <= lane {
-        return LaneAnswer::Refused(Refusal { number: 12 });
+        return LaneAnswer::Refused(Refusal::unplaced(12));
     }
     let at = lane as usize;
     LaneAnswer::Lane(desk.lanes[at])

@@ -58,10 +58,10 @@ unfolding amountBy toldSmall
 amount-fits no-amount asked h k = h
 amount-fits (Amount a) asked h k = k
 
-aborted-fits : (t : ToldCode) → Fits (abortedBy t)
+aborted-fits : (start : ℕ) (t : ToldCode) → Fits (abortedBy start t)
 unfolding abortedBy
-aborted-fits no-code = tt
-aborted-fits (Code b) = omega arith
+aborted-fits start no-code = tt
+aborted-fits start (Code b) = omega arith
 
 module _ (l : Lane) (h : LaneFits l) where
   completed-fits : (t : ToldCode) → Fits (completedBy l t)
@@ -84,7 +84,7 @@ module _ (l : Lane) (h : LaneFits l) where
     read-fits (refused f) e = tt
     read-fits (got m) e =
         pick-test Fits (pairIs (m .class) (m .instruction) 0x06 0x0F) (λ _. completed-fits (l .status .code))
-        (λ _. pick-test Fits (pairIs (m .class) (m .instruction) 0x06 0x1E) (λ _. aborted-fits (firstOf (m .body)))
+        (λ _. pick-test Fits (pairIs (m .class) (m .instruction) 0x06 0x1E) (λ _. aborted-fits _ (firstOf (m .body)))
         (λ _. pick-test Fits (pairIs (m .class) (m .instruction) 0x04 0x0F)
         (λ t. reported-fits (toldIn m .status) _ (rw t (told-fits (valueIn 0x04 (bodyFields (m .body))) (told-twelve s m b e))))
         (λ _. tt)))

@@ -11,9 +11,9 @@ use lib.Seq.{length-take-le, split-at, getD-at, getD-set-same, getD-set-other, e
 use lib.Dec.{eqb, ltb}
 use borrow.Author.Tests.{eqb-true, eq-eqb, ne-eqb, ltb-true, ltb-false, lt-ltb, le-ltb}
 use Rattle.zvt_rules.specs.declared.Refusal.{Refusal}
-use Rattle.zvt_rules.specs.Reading.{Reading, got, refused, pick, among}
+use Rattle.zvt_rules.specs.Reading.{Reading, got, refused, unplaced, pick, among}
 use Rattle.zvt_rules.specs.Fields.{Field}
-use Rattle.zvt_rules.specs.Message.{Heading, wholeHeader, Message, readOf, messageOf, bodyOf, layoutOf, start}
+use Rattle.zvt_rules.specs.Message.{Heading, headerSize, wholeHeader, Message, readOf, messageOf, bodyOf, layoutOf, start}
 use Rattle.zvt_rules.specs.Values.{Found, missing, found, valueIn, bodyFields, codeOf, codeIn, statusIn, statusFields}
 use Rattle.zvt_rules.specs.believed.Writing.{messageBytes}
 use Rattle.zvt_rules.specs.believed.Grammar.{Bytes}
@@ -79,7 +79,7 @@ writes-exactly s (opening i o) room w a =
 writes-exactly s (message i b) room w a = (λ e. rw e (go (phaseAt s i) refl), from-reply)
   where
     open-lane : phaseAt s i ≡ Idle → ⊥
-    open-lane e = past _ _ (past _ _ (table s (message i b) room accept .0 a) .1) .0 14 (e, refl)
+    open-lane e = past _ _ (past _ _ (table s (message i b) room accept .0 a) .1) .0 (unplaced 14) (e, refl)
 
     go : (p : Phase) → phaseAt s i ≡ p → Writes s (message i b) (answered p)
     go Idle e = absurd (open-lane e)
@@ -91,12 +91,12 @@ writes-exactly s (lost i) room w a = (λ e. rw e cut, from-cut)
 
 -- the header's pair is the message's
 pub same-pair : (b : List ℕ) (h : Heading) (m : Message) → wholeHeader b ≡ got h → readOf b ≡ got m
-    → (m .class ≡ h .class) × (m .instruction ≡ h .instruction)
+    → (m .class ≡ h .class) × (m .instruction ≡ h .instruction) × (m .long ≡ h .long)
 unfolding readOf messageOf
 same-pair b h m w r =
     let t = then-got (bodyOf (start h) _ (layoutOf (h .class) (h .instruction))) _ m (sym (then-on _ h w) ∙ r) in
     let e = sym (got-same (t .2)) in
-    (ap (λ (x : Message). x .class) e, ap (λ (x : Message). x .instruction) e)
+    (ap (λ (x : Message). x .class) e, ap (λ (x : Message). x .instruction) e, ap (λ (x : Message). x .long) e)
 
 pair-bytes : (b : List ℕ) (m : Message) → Bytes b → readOf b ≡ got m → (m .class < 256) × (m .instruction < 256)
 unfolding messageBytes Bytes
@@ -182,13 +182,13 @@ module _ (s : State) (i : ℕ) (b : List ℕ) where
           (one-of (λ e. absurd (other 0x06 0x0F (omega arith) (sym e) f1)) in-none)))))
 
   by-moved : (m : Message) → Bytes b → readOf b ≡ got m → In (m .class * 256 + m .instruction) whileRunning
-      → laneAt (s .lanes) i .phase ≡ Running → Fits s (message i b) i (movedBy (laneAt (s .lanes) i) (m .class) (m .instruction) (toldIn m))
+      → laneAt (s .lanes) i .phase ≡ Running → Fits s (message i b) i (movedBy (laneAt (s .lanes) i) (m .class) (m .instruction) (headerSize (m .long)) (toldIn m))
   unfolding movedBy toldIn statusFields
   by-moved m n r o on =
       pick-test (Fits s (message i b) i) (pairIs (m .class) (m .instruction) 0x06 0x0F)
       (λ e. let p = both (m .class) (m .instruction) 0x06 0x0F e in ends _ _ _ (λ _. ended (by-060F (reads b m 0x06 0x0F r (p .0) (p .1)))) _ (completed-closes _ _))
       (λ f1. pick-test (Fits s (message i b) i) (pairIs (m .class) (m .instruction) 0x06 0x1E)
-      (λ e. let p = both (m .class) (m .instruction) 0x06 0x1E e in ends _ _ _ (λ _. ended (by-061E (reads b m 0x06 0x1E r (p .0) (p .1)))) _ (aborted-closes _))
+      (λ e. let p = both (m .class) (m .instruction) 0x06 0x1E e in ends _ _ _ (λ _. ended (by-061E (reads b m 0x06 0x1E r (p .0) (p .1)))) _ (aborted-closes _ _))
       (λ f2. pick-test (Fits s (message i b) i) (pairIs (m .class) (m .instruction) 0x04 0x0F)
       (λ e. let p = both (m .class) (m .instruction) 0x04 0x0F e in rw e (by-report m (reads b m 0x04 0x0F r (p .0) (p .1)) on))
       (λ f3. stays _ _ _ (by-pair m n r o f1 f2 f3))))
@@ -323,7 +323,7 @@ module _ (d : Desk) (c : Call) (out : List ℕ) (v : Valid d) (n : NumbersFit c)
       → (a .reply ≡ answerOf d c (length out) .reply) × (o ≡ leavesOf d c out) × (a .desk .lanes ≡ answerOf d c (length out) .desk .lanes)
       × (length (view (a .desk) .lines) ≡ length (view (answerOf d c (length out) .desk) .lines))
   unfolding refusedAnswer view
-  answers-one (refusal {n = k} r) =
+  answers-one (refusal {r = k} r) =
       let e = table (view d) c (length out) (refuse k) .1 r in
       let s = refused-same d c (length out) k e in
       (rw s, rw (refused-leaves d c out k e), rw s, rw s)
@@ -367,8 +367,8 @@ close-exactly d v a = (λ e. subst (Closes d) e found, given)
     closes : allIdle (d .lanes) ≡ true → closeAnswer d ≡ record { reply = Written 0; desk = freshDesk }
     closes t = rw t
 
-    held : (i : ℕ) → (laneAt (d .lanes) i .phase ≡ Idle → ⊥) → closeAnswer d ≡ refusing d 19
-    held i o = pick-test (λ (x : Answer). x ≡ refusing d 19) (allIdle (d .lanes)) (λ t. absurd (o (all-are (d .lanes) i t))) (λ _. refl)
+    held : (i : ℕ) → (laneAt (d .lanes) i .phase ≡ Idle → ⊥) → closeAnswer d ≡ refusing d (unplaced 19)
+    held i o = pick-test (λ (x : Answer). x ≡ refusing d (unplaced 19)) (allIdle (d .lanes)) (λ t. absurd (o (all-are (d .lanes) i t))) (λ _. refl)
 
     found : Closes d (closeAnswer d)
     found =

@@ -7,7 +7,7 @@ use native.Mathlib.Omega.{arith}
 use lib.Dec.{eqb}
 use borrow.Author.Tests.{eqb-true, ne-eqb}
 use Rattle.zvt_rules.specs.Reading.{Reading, got, refused, andThen, part, among}
-use Rattle.zvt_rules.specs.Message.{Heading, wholeHeader, bytes, Message, readOf, messageOf, bodyOf, layoutOf, start, end}
+use Rattle.zvt_rules.specs.Message.{Heading, headerSize, wholeHeader, bytes, Message, readOf, messageOf, bodyOf, layoutOf, start, end}
 use Rattle.zvt_rules.specs.Values.{isStatus, statusOf, statusIn, statusFields, codeIn, codeOf, valueIn}
 use Rattle.zvt_rules.specs.declared.Refusal.{Refusal}
 use Rattle.zvt_rules.specs.declared.Status.{Status}
@@ -129,10 +129,10 @@ unfolding completedBy
 completed-running l no-code = refl
 completed-running l (Code c) = refl
 
-pub aborted-closes : (t : ToldCode) → Closing (abortedBy t)
+pub aborted-closes : (start : ℕ) (t : ToldCode) → Closing (abortedBy start t)
 unfolding abortedBy
-aborted-closes no-code = tt
-aborted-closes (Code b) = tt
+aborted-closes start no-code = tt
+aborted-closes start (Code b) = tt
 
 module _ (l : Lane) (i : ℕ) (s : List ℕ) where
   Goes : Moved → Type 0
@@ -186,14 +186,14 @@ module _ (l : Lane) (i : ℕ) (s : List ℕ) where
       go no-code f = stays (running-same l on ∙ ap (reportedLane (runningLane l)) (sym f))
       go (Code c) f = becomes (reportedLane l st) (ap₂ reportedLane (running-same l on) (sym f))
 
-  moved : (m : Message) → readOf s ≡ got m → l .phase ≡ Running → Goes (movedBy l (m .class) (m .instruction) (toldIn m))
+  moved : (m : Message) → readOf s ≡ got m → l .phase ≡ Running → Goes (movedBy l (m .class) (m .instruction) (headerSize (m .long)) (toldIn m))
   unfolding movedBy toldIn verdict verdictOf remembered statusOf statusFields
   moved m r on =
       pick-test Goes (pairIs (m .class) (m .instruction) 0x06 0x0F)
       (λ e. let p = both (m .class) (m .instruction) 0x06 0x0F e in
       closes (completedBy l (l .status .code)) (completed-closes l _) (rw (r, p .0, p .1) (completed-running l _)))
       (λ _. pick-test Goes (pairIs (m .class) (m .instruction) 0x06 0x1E)
-      (λ e. let p = both (m .class) (m .instruction) 0x06 0x1E e in closes (abortedBy (firstOf (m .body))) (aborted-closes _) (rw (r, p .0, p .1)))
+      (λ e. let p = both (m .class) (m .instruction) 0x06 0x1E e in closes (abortedBy (headerSize (m .long)) (firstOf (m .body))) (aborted-closes _ _) (rw (r, p .0, p .1)))
       (λ _. pick-test Goes (pairIs (m .class) (m .instruction) 0x04 0x0F)
       (λ e. reported (toldIn m .status) (rw (r, e)) on)
       (λ e. stays (running-same l on ∙ same λ k f. rw (got-same (sym f ∙ r)) e))))
@@ -272,13 +272,13 @@ module _ (l : Lane) (s : List ℕ) where
       go (refused f) e c = refl
       go (got m) e c = rw (of-header s h m (sym (then-on _ h w) ∙ e), c)
 
-  moved-ends : (m : Message) → readOf s ≡ got m → eqb (m .class) 0x84 ≡ false → Right (movedBy l (m .class) (m .instruction) (toldIn m))
+  moved-ends : (m : Message) → readOf s ≡ got m → eqb (m .class) 0x84 ≡ false → Right (movedBy l (m .class) (m .instruction) (headerSize (m .long)) (toldIn m))
   unfolding movedBy endsIn endsBy
   moved-ends m r n =
       pick-test Right (pairIs (m .class) (m .instruction) 0x06 0x0F)
       (λ e. let q = both (m .class) (m .instruction) 0x06 0x0F e in end-right _ (completed-closes l _) (ap endsBy r ∙ rw (q .0, q .1)))
       (λ a. pick-test Right (pairIs (m .class) (m .instruction) 0x06 0x1E)
-      (λ e. let q = both (m .class) (m .instruction) 0x06 0x1E e in end-right _ (aborted-closes _) (ap endsBy r ∙ rw (q .0, q .1)))
+      (λ e. let q = both (m .class) (m .instruction) 0x06 0x1E e in end-right _ (aborted-closes _ _) (ap endsBy r ∙ rw (q .0, q .1)))
       (λ b. pick-test Right (pairIs (m .class) (m .instruction) 0x04 0x0F)
       (λ e. let q = both (m .class) (m .instruction) 0x04 0x0F e in open-right _ (reported-open l _ _) (ap endsBy r ∙ rw (q .0)))
       (λ _. open-right Stays refl (ap endsBy r ∙ rw (n, b, a)))))

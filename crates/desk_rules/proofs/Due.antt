@@ -276,11 +276,12 @@ module _ (i : ℕ) (l : Lane) (fs : List Field) (same : l .status ≡ statusIn f
           (λ f. (Unclear, 0, getD v 0 0, other-code h (v, e, refl) f))
 
   module _ (outcome : Outcome) (settled code : ℕ) where
-    aborting : (s : List ℕ) (body : Body) → Reads s 0x06 0x1E body → abortedBy (firstOf body) ≡ Ends outcome settled code → Some (message i s)
+    aborting : (s : List ℕ) (start : ℕ) (body : Body) → Reads s 0x06 0x1E body → abortedBy start (firstOf body) ≡ Ends outcome settled code
+        → Some (message i s)
     unfolding Some firstOf abortedBy
-    aborting s (bytes []) h e = absurd (let q : _≡_ {A = ℕ} 0 1 = cc in omega arith)
-    aborting s (bytes (b ∷ rest)) h e = (Declined, 0, b, aborted h)
-    aborting s (listed password fields) h e = absurd (let q : _≡_ {A = ℕ} 0 1 = cc in omega arith)
+    aborting s start (bytes []) h e = absurd (let q : _≡_ {A = ℕ} 0 1 = cc in omega arith)
+    aborting s start (bytes (b ∷ rest)) h e = (Declined, 0, b, aborted h)
+    aborting s start (listed password fields) h e = absurd (let q : _≡_ {A = ℕ} 0 1 = cc in omega arith)
 
     some : (c : Call) → laneOf c ≡ i → verdict l c ≡ Ends outcome settled code → Some c
     unfolding Some verdict verdictOf laneOf
@@ -297,7 +298,7 @@ module _ (i : ℕ) (l : Lane) (fs : List Field) (same : l .status ≡ statusIn f
             let pair = both (m .class) (m .instruction) in
             pick-test P (eqb (m .class) 0x84) (λ t v. (Declined, 0, m .instruction, not-taken (reads s m 0x84 _ e (eqb-true _ _ t) refl)))
             (λ _. pick-test P (pairIs (m .class) (m .instruction) 0x06 0x1E)
-            (λ t v. aborting s (m .body) (reads s m 0x06 0x1E e (pair 0x06 0x1E t .0) (pair 0x06 0x1E t .1)) v)
+            (λ t v. aborting s _ (m .body) (reads s m 0x06 0x1E e (pair 0x06 0x1E t .0) (pair 0x06 0x1E t .1)) v)
             (λ _. pick-test P (pairIs (m .class) (m .instruction) 0x06 0x0F)
             (λ t v. completing (reads s m 0x06 0x0F e (pair 0x06 0x0F t .0) (pair 0x06 0x0F t .1)))
             (λ _ v. absurd (let q : _≡_ {A = ℕ} 0 1 = cc in omega arith))))

@@ -4,7 +4,7 @@ use Prim.Native.Nat.{ℕ}
 use mathlib.Core.List.{List, [], _∷_}
 use lib.Dec.{eqb}
 use Rattle.zvt_rules.specs.Reading.{Reading, got, refused, pick}
-use Rattle.zvt_rules.specs.Message.{Message, readOf}
+use Rattle.zvt_rules.specs.Message.{headerSize, Message, readOf}
 use Rattle.zvt_rules.specs.Values.{statusOf}
 use Rattle.zvt_rules.specs.Heard.{firstOf}
 use Rattle.zvt_rules.specs.declared.Status.{Status}
@@ -33,7 +33,7 @@ unfoldable pub verdictOf : Lane → Reading Message → Moved
 verdictOf l (refused f) = Stays
 verdictOf l (got m) =
     pick (eqb (m .class) 0x84) (Ends Declined 0 (m .instruction))
-    (pick (pairIs (m .class) (m .instruction) 0x06 0x1E) (abortedBy (firstOf (m .body)))
+    (pick (pairIs (m .class) (m .instruction) 0x06 0x1E) (abortedBy (headerSize (m .long)) (firstOf (m .body)))
     (pick (pairIs (m .class) (m .instruction) 0x06 0x0F) (completedBy l (l .status .code)) Stays))
 
 unfoldable pub verdict : Lane → Call → Moved

@@ -8,6 +8,7 @@ use lib.Dec.{eqb, leb}
 use lib.ListN.{length, getD, set, length-append, length-set}
 use lib.Seq.{getD-set-same, getD-set-other}
 use borrow.Author.Tests.{eqb-true, eqb-false, eq-eqb, ne-eqb, leb-false, lt-leb, le-ltb}
+use Rattle.zvt_rules.specs.declared.Refusal.{Refusal}
 use Rattle.zvt_rules.specs.Reading.{pick}
 use Rattle.zvt_rules.proofs.Tests.{pick-same, pick-under}
 use Rattle.desk_rules.specs.declared.Lane.{Lane}
@@ -124,7 +125,7 @@ pub record Told (s : State) (c : Call) : Type 0 where
   pub moved : Passes (moves (laneAt (s .lanes) (laneOf c)) (s .lines) c)
   pub room : needsPlace c ≡ true → load s < bookLines
 
-pub not-refused : (t : Bool) (n : ℕ) (d : Decision) → pick t (refuse n) d ≡ accept → (t ≡ false) × (d ≡ accept)
+pub not-refused : (t : Bool) (n : Refusal) (d : Decision) → pick t (refuse n) d ≡ accept → (t ≡ false) × (d ≡ accept)
 not-refused true n d e = let z : _≡_ {A = ℕ} 0 1 = cc in absurd (omega arith)
 not-refused false n d e = (refl, e)
 
@@ -153,9 +154,9 @@ room-tell false n h = refl
 pub told : (s : State) (c : Call) → Accepts s c → Told s c
 unfolding Accepts decide
 told s c h =
-    let a = not-refused (leb laneCount (laneOf c)) 12 _ h in
+    let a = not-refused (leb laneCount (laneOf c)) _ _ h in
     let b = passed (moves (laneAt (s .lanes) (laneOf c)) (s .lines) c) _ (a .1) in
-    record { lane = leb-false laneCount (laneOf c) (a .0); moved = b .0; room = room-told (needsPlace c) (load s) (not-refused (needsPlace c && leb bookLines (load s)) 18 _ (b .1) .0) }
+    record { lane = leb-false laneCount (laneOf c) (a .0); moved = b .0; room = room-told (needsPlace c) (load s) (not-refused (needsPlace c && leb bookLines (load s)) _ _ (b .1) .0) }
 
 pub tell : (s : State) (c : Call) → Told s c → Accepts s c
 unfolding Accepts decide
@@ -170,9 +171,9 @@ unfolding Accepts decide
 accepts-any s c room e =
     let l = laneAt (s .lanes) (laneOf c) in
     let n = length (writes l c) in
-    let a = not-refused (leb laneCount (laneOf c)) 12 _ e in
+    let a = not-refused (leb laneCount (laneOf c)) _ _ e in
     let b = passed (moves l (s .lines) c) _ (a .1) in
-    let f = not-refused (needsPlace c && leb bookLines (load s)) 18 _ (b .1) in
+    let f = not-refused (needsPlace c && leb bookLines (load s)) _ _ (b .1) in
     rw (a .0, passing (moves l (s .lines) c) _ (b .0), f .0, le-ltb n n (omega arith))
 
 pub places-total : (ls : List Lane) → placesTaken ls ≡ total placeTaken ls

@@ -9,6 +9,7 @@ use lib.ListN.{length, getD, set, take, replicate, length-set}
 use lib.Seq.{length-take-le, set-getD, take-suc-set}
 use lib.Dec.{ltb, leb}
 use borrow.Author.Tests.{leb-false, ltb-false}
+use Rattle.zvt_rules.specs.declared.Refusal.{Refusal}
 use Rattle.zvt_rules.specs.Reading.{pick}
 use Rattle.zvt_rules.specs.Buffers.{front}
 use Rattle.zvt_rules.proofs.Tests.{pick-test}
@@ -164,10 +165,10 @@ module _ (d : Desk) (c : Call) (room : ℕ) where
   pub taken : decide (view d) c room ≡ accept → Taken d c room
   unfolding decide view
   taken e =
-      let a = not-refused (leb laneCount (laneOf c)) 12 _ e in
+      let a = not-refused (leb laneCount (laneOf c)) _ _ e in
       let b = passed (moveOf d c) _ (a .1) in
-      let f = not-refused (needsPlace c && leb bookLines (load (view d))) 18 _ (b .1) in
-      let g = not-refused (ltb room (length (writes (laneFor d c) c))) 11 _ (f .1) in
+      let f = not-refused (needsPlace c && leb bookLines (load (view d))) _ _ (b .1) in
+      let g = not-refused (ltb room (length (writes (laneFor d c) c))) _ _ (f .1) in
       record {
         lane = leb-false laneCount (laneOf c) (a .0);
         passes = b .0;
@@ -195,7 +196,7 @@ module _ (d : Desk) (c : Call) (room : ℕ) where
 
   -- ---- an answer
 
-  pub refused-same : (n : ℕ) → decide (view d) c room ≡ refuse n → answerOf d c room ≡ refusedAnswer d n
+  pub refused-same : (n : Refusal) → decide (view d) c room ≡ refuse n → answerOf d c room ≡ refusedAnswer d n
   unfolding answerOf answerBy
   refused-same n e = rw (e, answerBy)
 
@@ -224,7 +225,7 @@ module _ (d : Desk) (c : Call) (room : ℕ) where
           (moves-fit (laneFor d c) (linesOfDesk d) c (v .asked i, v .told i) (take-all-fit (d .book .count) (d .book .lines) (v .settled)) n))
 
 module _ (d : Desk) (c : Call) (out : List ℕ) where
-  pub refused-leaves : (n : ℕ) → decide (view d) c (length out) ≡ refuse n → leavesOf d c out ≡ out
+  pub refused-leaves : (n : Refusal) → decide (view d) c (length out) ≡ refuse n → leavesOf d c out ≡ out
   unfolding leavesOf leavesBy
   refused-leaves n e = rw (e, leavesBy)
 

@@ -3,8 +3,8 @@ use Prim.Native.Nat.{ℕ, _+_, _*_}
 use mathlib.Core.Bool.{Bool, true, false, not, _&&_}
 use mathlib.Core.List.{List, [], _∷_}
 use lib.Dec.{eqb}
-use Rattle.zvt_rules.specs.Reading.{Reading, got, refused, pick, among}
-use Rattle.zvt_rules.specs.Message.{Heading, wholeHeader, Message, readOf}
+use Rattle.zvt_rules.specs.Reading.{Reading, got, refused, no, unplaced, pick, among}
+use Rattle.zvt_rules.specs.Message.{Heading, headerSize, wholeHeader, Message, readOf}
 use Rattle.zvt_rules.specs.Heard.{toldIn}
 use Rattle.zvt_rules.specs.believed.Grammar.{Bytes}
 use Rattle.zvt_rules.specs.declared.Status.{Status}
@@ -27,7 +27,7 @@ use Rattle.desk_rules.specs.Lanes.{runningLane, reportedLane}
 use Rattle.desk_rules.specs.Openings.{kindOf, withinLimits, refersTo, lastLine, stands, missingNo, openedLane, commandBytes}
 
 abbrev pub noMove : ℕ → Moved
-noMove number = Refused (record { number = number })
+noMove number = Refused (unplaced number)
 
 -- ---- from the terminal
 -- P31: "Only an approved line has a settled amount; in others it is 0.": so says every end here that is not approved
@@ -61,10 +61,10 @@ completedBy l (Code c) =
     pick (eqb c 0) (settledAs (l .kind) (l .asked) (amountBy (l .status .amount) (l .asked))) (Ends Unclear 0 c)
 
 -- P21: "06 1E ends the payment, declined. The first byte of its body is the code, the others are not read; an empty body is refused
--- (1)."
-unfoldable pub abortedBy : ToldCode → Moved
-abortedBy no-code = noMove 1
-abortedBy (Code b) = Ends Declined 0 b
+-- (1)." R48: "for an empty 06 1E (P21) the first byte behind the body": an empty body ends where it starts
+unfoldable pub abortedBy : ℕ → ToldCode → Moved
+abortedBy start no-code = Refused (no 1 start)
+abortedBy start (Code b) = Ends Declined 0 b
 
 -- P20: "04 0F with field 27 becomes the remembered status, all of it .. Without field 27 it changes nothing."
 unfoldable pub reportedBy : Lane → Status → ToldCode → Moved
@@ -72,15 +72,15 @@ reportedBy l status no-code = Stays
 reportedBy l status (Code c) = Becomes (reportedLane l status)
 
 -- P22: "06 0F ends the payment." P19: what is left of the pairs that a running lane takes changes nothing
-unfoldable pub movedBy : Lane → ℕ → ℕ → ToldBody → Moved
-movedBy l class instruction t =
+unfoldable pub movedBy : Lane → ℕ → ℕ → ℕ → ToldBody → Moved
+movedBy l class instruction start t =
     pick (pairIs class instruction 0x06 0x0F) (completedBy l (l .status .code))
-    (pick (pairIs class instruction 0x06 0x1E) (abortedBy (t .first))
+    (pick (pairIs class instruction 0x06 0x1E) (abortedBy start (t .first))
     (pick (pairIs class instruction 0x04 0x0F) (reportedBy l (t .status) (t .status .code)) Stays))
 
 unfoldable pub afterBody : Lane → Reading Message → Moved
-afterBody l (refused f) = noMove (f .number)
-afterBody l (got m) = movedBy l (m .class) (m .instruction) (toldIn m)
+afterBody l (refused r) = Refused r
+afterBody l (got m) = movedBy l (m .class) (m .instruction) (headerSize (m .long)) (toldIn m)
 
 -- P19 to P22: the six pairs that a running lane takes; any other is R15, before the body is read
 abbrev pub runningPairs : List ℕ
@@ -91,7 +91,7 @@ heardRunning l s h =
     pick (among runningPairs (h .class * 256 + h .instruction)) (afterBody l (readOf s)) (noMove 15)
 
 unfoldable pub afterHeader : (Heading → Moved) → Reading Heading → Moved
-afterHeader hears (refused f) = noMove (f .number)
+afterHeader hears (refused r) = Refused r
 afterHeader hears (got h) = hears h
 
 -- R35: "14, header, 15, body"
@@ -109,7 +109,7 @@ lostBy l = pick (isIdle (l .phase)) (noMove 14) (Ends Unclear 0 0)
 
 -- ---- opening
 
--- R34: "13, 16, 17", or another number in the place of 17 for a kind that refers to another line
+-- R34: "13, 16, 17", or another number instead of 17 for a kind that refers to another line
 unfoldable pub openedBy : Lane → Opening → Line → Moved
 openedBy l o line =
     pick (isIdle (l .phase))

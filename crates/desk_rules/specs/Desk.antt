@@ -5,7 +5,8 @@ use mathlib.Core.Bool.{Bool, true, false, _&&_}
 use mathlib.Core.List.{List, [], _∷_, _++_}
 use lib.ListN.{length, getD, set, replicate}
 use lib.Dec.{ltb, leb}
-use Rattle.zvt_rules.specs.Reading.{pick}
+use Rattle.zvt_rules.specs.declared.Refusal.{Refusal}
+use Rattle.zvt_rules.specs.Reading.{unplaced, pick}
 use Rattle.desk_rules.specs.declared.Lane.{Lane}
 use Rattle.desk_rules.specs.declared.Line.{Line}
 use Rattle.desk_rules.specs.declared.Moved.{Moved}
@@ -40,13 +41,13 @@ unfoldable pub allIdle : List Lane → Bool
 allIdle [] = true
 allIdle (l ∷ ls) = isIdle (l .phase) && allIdle ls
 
--- refused with a number, or accepted
+-- refused with a number and, where it names one, its place (R31); or accepted
 pub data Decision : Type 0 where
-  refuse : ℕ → Decision
+  refuse : Refusal → Decision
   accept : Decision
 
 unfoldable pub unlessRefused : Moved → Decision → Decision
-unlessRefused (Refused r) other = refuse (r .number)
+unlessRefused (Refused r) other = refuse r
 unlessRefused Stays other = other
 unlessRefused (Becomes l) other = other
 unlessRefused (Ends outcome settled code) other = other
@@ -56,9 +57,9 @@ unlessRefused (Ends outcome settled code) other = other
 unfoldable pub decide : State → Call → ℕ → Decision
 decide s c room =
     let l = laneAt (s .lanes) (laneOf c) in
-    pick (leb laneCount (laneOf c)) (refuse 12)
+    pick (leb laneCount (laneOf c)) (refuse (unplaced 12))
     (unlessRefused (moves l (s .lines) c)
-    (pick (needsPlace c && leb bookLines (load s)) (refuse 18) (pick (ltb room (length (writes l c))) (refuse 11) accept)))
+    (pick (needsPlace c && leb bookLines (load s)) (refuse (unplaced 18)) (pick (ltb room (length (writes l c))) (refuse (unplaced 11)) accept)))
 
 -- P29: "the lane is idle then and remembers nothing"
 unfoldable pub laneAfter : Lane → Moved → Lane

@@ -4,7 +4,8 @@ use Prim.Native.Nat.{ℕ, _+_, _≤_}
 use mathlib.Core.List.{List}
 use lib.ListN.{length, getD, set, take, replicate}
 use lib.Dec.{ltb}
-use Rattle.zvt_rules.specs.Reading.{pick}
+use Rattle.zvt_rules.specs.declared.Refusal.{Refusal}
+use Rattle.zvt_rules.specs.Reading.{unplaced, pick}
 use Rattle.zvt_rules.specs.Buffers.{front}
 use Rattle.zvt_rules.specs.declared.ToldAmount.{ToldAmount}
 use Rattle.zvt_rules.specs.declared.ToldAmount.the-variants.{Missing as no-amount, Amount}
@@ -71,12 +72,13 @@ movedDesk d i Stays = d
 movedDesk d i (Becomes l) = record { lanes = set (d .lanes) i l; book = d .book }
 movedDesk d i (Ends outcome settled code) = endedDesk d i (lineAt i (laneAt (d .lanes) i) outcome settled code)
 
-unfoldable pub refusedAnswer : Desk → ℕ → Answer
-refusedAnswer d number = record { reply = Refused (record { number = number }); desk = d }
+unfoldable pub refusedAnswer : Desk → Refusal → Answer
+refusedAnswer d r = record { reply = Refused r; desk = d }
 
--- R31: "A refusal answers its number and nothing else." R32: it "leaves the desk and all lent buffers as they were"
+-- R31: "A refusal answers its number and, where it names one (R46), its place, and nothing else." R32: it "leaves the desk and all lent
+-- buffers as they were"
 unfoldable pub answerBy : Decision → Desk → Call → Answer
-answerBy (refuse number) d c = refusedAnswer d number
+answerBy (refuse r) d c = refusedAnswer d r
 answerBy accept d c =
     let l = laneAt (d .lanes) (laneOf c) in
     record { reply = Written (length (writes l c)); desk = movedDesk d (laneOf c) (moves l (linesOfDesk d) c) }
@@ -86,7 +88,7 @@ answerOf d c room = answerBy (decide (view d) c room) d c
 
 -- R32: "all lent buffers as they were". R33: "Success leaves the bytes of a lent buffer behind those written as they were."
 unfoldable pub leavesBy : Decision → Desk → Call → List ℕ → List ℕ
-leavesBy (refuse number) d c out = out
+leavesBy (refuse r) d c out = out
 leavesBy accept d c out = front (writes (laneAt (d .lanes) (laneOf c)) c) out
 
 unfoldable pub leavesOf : Desk → Call → List ℕ → List ℕ
@@ -94,10 +96,10 @@ leavesOf d c out = leavesBy (decide (view d) c (length out)) d c out
 
 -- R19: "a payment is open at closing". P36: "Closing leaves an empty book": what is given back is a fresh desk
 unfoldable pub closeAnswer : Desk → Answer
-closeAnswer d = pick (allIdle (d .lanes)) (record { reply = Written 0; desk = freshDesk }) (refusedAnswer d 19)
+closeAnswer d = pick (allIdle (d .lanes)) (record { reply = Written 0; desk = freshDesk }) (refusedAnswer d (unplaced 19))
 
 unfoldable pub lineAnswer : ℕ → List Line → LineAnswer
 lineAnswer k ls = pick (ltb k (length ls)) (line-got (getD ls k blankLine)) End
 
 unfoldable pub laneAnswer : ℕ → List Lane → LaneAnswer
-laneAnswer i ls = pick (ltb i laneCount) (lane-got (getD ls i idleLane)) (lane-refused (record { number = 12 }))
+laneAnswer i ls = pick (ltb i laneCount) (lane-got (getD ls i idleLane)) (lane-refused (unplaced 12))

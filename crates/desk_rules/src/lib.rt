@@ -87,7 +87,7 @@ pub struct Desk {
     pub book: Book,
 }
 
-// How many bytes were written, or the number of refusal.
+// How many bytes were written, or the refusal.
 pub enum Reply {
     Written(usize),
     Refused(Refusal),

@@ -18,12 +18,13 @@ use Rattle.zvt_rules.specs.Listing.{messageText, okText, refusedText, idsOf, li
 use Rattle.zvt_rules.proofs.ObjectReading.{tail}
 use Rattle.zvt_rules.proofs.Tests.{by-test}
 use Rattle.zvt_rules.proofs.MessageBytes.{first-sound, read-complete}
+use Rattle.zvt_rules.proofs.AnswerLaws.{first-refused-exactly}
 use Rattle.zvt_rules.proofs.Text.{put-exactly, put-whole, putEnd}
 use Rattle.zvt_rules.proofs.Listing.{lines-none, lines-refused, lines-message, listing-long}
 use Rattle.zvt_rules.specs.declared.Refusal.{Refusal}
 use Rattle.zvt_rules.specs.declared.Outline.{Outline}
 use Rattle.zvt_rules.specs.declared.FirstAnswer.the-variants.{Accepted as first-accepted, Refused as first-refused}
-use Rattle.zvt_rules.specs.Answers.{refusalOf, outlineOf, asFirstAnswer, firstAnswer}
+use Rattle.zvt_rules.specs.Answers.{outlineOf, asFirstAnswer, firstAnswer}
 use Rattle.buffers.proofs.TextLaws.{addAll-append, addAll-room}
 use Rattle.listing.specs.Lines.{readText, NextLine, message, last, nextBy, nextOf, linesOf}
 
@@ -41,12 +42,8 @@ module _ (count : ℕ) (s : List ℕ) (most : length s ≤ 65536) (some : length
   next-some = rw (le-ltb 65536 (length s) most, ne-eqb (length s) 0 some)
 
   pub next-refused : (f : Refusal) → firstAnswer s ≡ first-refused f → nextOf count s ≡ last (refusedText count (f .number))
-  unfolding firstAnswer asFirstAnswer nextBy refusalOf
-  next-refused f e = next-some ∙ go (firstOf s) e
-    where
-      go : (x : Reading Message) → asFirstAnswer x ≡ first-refused f → nextBy count x ≡ last (refusedText count (f .number))
-      go (got m) k = let z : _≡_ {A = ℕ} 0 1 = cc in absurd (omega arith)
-      go (refused r) k = let same : refusalOf r ≡ f = cc in ap (λ (q : Refusal). last (refusedText count (q .number))) same
+  unfolding nextBy
+  next-refused f e = next-some ∙ rw (first-refused-exactly s f .0 e)
 
 -- the text of a message by what the reader answers
 told : (count : ℕ) (t : Message) (m : Outline) (x : Reading Message) (next : ℕ) → outlineOf t ≡ m

@@ -7,11 +7,12 @@ use Prim.Native.Nat.{ℕ}
 use native.Mathlib.Omega.{arith}
 use lib.ListN.{length, take, drop}
 use lib.Seq.{take-at, drop-at}
+use Rattle.zvt_rules.specs.declared.Refusal.{Refusal}
 use Rattle.zvt_rules.specs.declared.Outline.{Outline}
-use Rattle.zvt_rules.specs.Reading.{Reading, got, refused}
+use Rattle.zvt_rules.specs.Reading.{Reading, got, refused, unplaced}
 use Rattle.zvt_rules.specs.Message.{Heading, wholeHeader, Message, readOf, firstOf}
 use Rattle.zvt_rules.specs.believed.Writing.{messageBytes}
-use Rattle.zvt_rules.specs.Answers.{refusalOf, headerIn, asHeaderAnswer, headerAnswer, outlineOf, asReadAnswer, readAnswer}
+use Rattle.zvt_rules.specs.Answers.{headerIn, asHeaderAnswer, headerAnswer, outlineOf, asReadAnswer, readAnswer}
 use Rattle.zvt_rules.specs.Answers.{asFirstAnswer, firstAnswer, shortened, asShortenAnswer, shortenAnswer, shortenLeaves}
 use Rattle.zvt_rules.specs.Buffers.{writtenLeaves}
 use Rattle.zvt_rules.proofs.Tests.{pick-test}
@@ -24,40 +25,30 @@ use Rattle.desk_rules.specs.Memory.{freshDesk, view, laneFor, Valid, refusedAns
 use Rattle.desk_rules.proofs.Memory.{refused-same, accepted-answer, refused-leaves, accepted-leaves}
 use Rattle.promises.specs.Answers.{Said, no, yes, Takes, headerSays, readSays, firstSays, shortSays, answerSays, Open}
 use Rattle.desk_rules.proofs.Answers.{idle-or-not, all-are}
-use Rattle.zvt_rules.specs.declared.Fault.{Fault}
-use Rattle.zvt_rules.specs.believed.Rows.{Numbered}
 
--- ---- a reading is refused with a number
-abbrev pub No : {A : Type 0} → Reading A → ℕ → Type 0
-No x n = (f : Fault) × (x ≡ refused f) × (f .number ≡ n)
-
--- it is that of a row, where rows say each refusal
-pub by-rows : {A : Type 0} (x : Reading A) (Row : Fault → Type 0) → ((r : Fault) → (x ≡ refused r) ↔ Row r) → (n : ℕ) → No x n ↔ Numbered Row n
-by-rows x Row e n = (λ h. (h .0, e (h .0) .0 (h .1), h .2), λ h. (h .0, e (h .0) .1 (h .1), h .2))
-
--- ---- an answer is refused with one number, or says one value
-pub no-same : {A : Type 0} {m n : ℕ} → _≡_ {A = Said A} (no m) (no n) → m ≡ n
+-- ---- an answer is one refusal, or says one value
+pub no-same : {A : Type 0} {m n : Refusal} → _≡_ {A = Said A} (no m) (no n) → m ≡ n
 no-same e = cc
 
 pub yes-same : {A : Type 0} {a b : A} → _≡_ {A = Said A} (yes a) (yes b) → a ≡ b
 yes-same e = cc
 
-pub no-yes : {A : Type 0} {n : ℕ} {a : A} → _≡_ {A = Said A} (no n) (yes a) → ⊥
+pub no-yes : {A : Type 0} {n : Refusal} {a : A} → _≡_ {A = Said A} (no n) (yes a) → ⊥
 no-yes e = let z : _≡_ {A = ℕ} 0 1 = cc in omega arith
 
--- ---- a reading that is answered by a value of what is read, or by the number of its refusal
+-- ---- a reading that is answered by a value of what is read, or by its refusal
 unfoldable pub said : {A B : Type 0} → (A → B) → Reading A → Said B
 said value (got a) = yes (value a)
-said value (refused f) = no (f .number)
+said value (refused r) = no r
 
 module _ {A B : Type 0} {y : Said B} (value : A → B) (x : Reading A) (e : y ≡ said value x) where
-  pub said-no : (n : ℕ) → (y ≡ no n) ↔ No x n
+  pub said-no : (r : Refusal) → (y ≡ no r) ↔ (x ≡ refused r)
   unfolding said
-  said-no n = (λ h. to x refl (sym e ∙ h), λ h. e ∙ ap (said value) (h .1) ∙ ap no (h .2))
+  said-no r = (λ h. to x refl (sym e ∙ h), λ h. e ∙ ap (said value) h)
     where
-      to : (z : Reading A) → x ≡ z → said value z ≡ no n → No x n
+      to : (z : Reading A) → x ≡ z → said value z ≡ no r → x ≡ refused r
       to (got a) q h = absurd (no-yes (sym h))
-      to (refused f) q h = (f, q, no-same h)
+      to (refused f) q h = q ∙ ap refused (no-same h)
 
   pub said-yes : (b : B) → (y ≡ yes b) ↔ ((a : A) × (x ≡ got a) × (value a ≡ b))
   unfolding said
@@ -68,12 +59,12 @@ module _ {A B : Type 0} {y : Said B} (value : A → B) (x : Reading A) (e : y �
       to (refused f) q h = absurd (no-yes h)
 
 header-said : (x : Reading Heading) → headerSays (asHeaderAnswer x) ≡ said headerIn x
-unfolding asHeaderAnswer refusalOf said
+unfolding asHeaderAnswer said
 header-said (got h) = refl
 header-said (refused f) = refl
 
 read-said : (x : Reading Message) → readSays (asReadAnswer x) ≡ said outlineOf x
-unfolding asReadAnswer refusalOf said
+unfolding asReadAnswer said
 read-said (got m) = refl
 read-said (refused f) = refl
 
@@ -82,28 +73,28 @@ abbrev pub firstTold : Message → Outline × ℕ
 firstTold m = (outlineOf m, length (messageBytes m))
 
 first-said : (x : Reading Message) → firstSays (asFirstAnswer x) ≡ said firstTold x
-unfolding asFirstAnswer refusalOf said
+unfolding asFirstAnswer said
 first-said (got m) = refl
 first-said (refused f) = refl
 
 short-said : (x : Reading (List ℕ)) → shortSays (asShortenAnswer x) ≡ said length x
-unfolding asShortenAnswer refusalOf said
+unfolding asShortenAnswer said
 short-said (got w) = refl
 short-said (refused f) = refl
 
-pub header-says : (s : List ℕ) (n : ℕ) → (headerSays (headerAnswer s) ≡ no n) ↔ No (wholeHeader s) n
+pub header-says : (s : List ℕ) (r : Refusal) → (headerSays (headerAnswer s) ≡ no r) ↔ (wholeHeader s ≡ refused r)
 unfolding headerAnswer
 header-says s = said-no headerIn (wholeHeader s) (header-said (wholeHeader s))
 
-pub read-says : (s : List ℕ) (n : ℕ) → (readSays (readAnswer s) ≡ no n) ↔ No (readOf s) n
+pub read-says : (s : List ℕ) (r : Refusal) → (readSays (readAnswer s) ≡ no r) ↔ (readOf s ≡ refused r)
 unfolding readAnswer
 read-says s = said-no outlineOf (readOf s) (read-said (readOf s))
 
-pub first-says : (s : List ℕ) (n : ℕ) → (firstSays (firstAnswer s) ≡ no n) ↔ No (firstOf s) n
+pub first-says : (s : List ℕ) (r : Refusal) → (firstSays (firstAnswer s) ≡ no r) ↔ (firstOf s ≡ refused r)
 unfolding firstAnswer
 first-says s = said-no firstTold (firstOf s) (first-said (firstOf s))
 
-pub short-says : (room : ℕ) (s : List ℕ) (n : ℕ) → (shortSays (shortenAnswer room s) ≡ no n) ↔ No (shortened room s) n
+pub short-says : (room : ℕ) (s : List ℕ) (r : Refusal) → (shortSays (shortenAnswer room s) ≡ no r) ↔ (shortened room s ≡ refused r)
 unfolding shortenAnswer
 short-says room s = said-no length (shortened room s) (short-said (shortened room s))
 
@@ -118,9 +109,9 @@ short-gives room s = said-yes length (shortened room s) (short-said (shortened r
 
 -- ---- what a buffer that was lent holds at the end
 
-pub left-same : (x : Reading (List ℕ)) (out : List ℕ) (n : ℕ) → No x n → writtenLeaves x out ≡ out
+pub left-same : (x : Reading (List ℕ)) (out : List ℕ) (r : Refusal) → x ≡ refused r → writtenLeaves x out ≡ out
 unfolding writtenLeaves
-left-same x out n h = rw (h .1)
+left-same x out r e = rw e
 
 module _ (x : Reading (List ℕ)) (out w : List ℕ) (k : ℕ) (e : x ≡ got w) (size : length w ≡ k) where
   pub left-first : take k (writtenLeaves x out) ≡ w
@@ -131,7 +122,7 @@ module _ (x : Reading (List ℕ)) (out w : List ℕ) (k : ℕ) (e : x ≡ got w)
   unfolding writtenLeaves
   left-beyond = rw e (drop-at w (drop (length w) out) k size ∙ ap (λ (n : ℕ). drop n out) size)
 
-pub short-leaves : (s out : List ℕ) (n : ℕ) → shortSays (shortenAnswer (length out) s) ≡ no n → shortenLeaves s out ≡ out
+pub short-leaves : (s out : List ℕ) (n : Refusal) → shortSays (shortenAnswer (length out) s) ≡ no n → shortenLeaves s out ≡ out
 unfolding shortenLeaves
 short-leaves s out n e = left-same (shortened (length out) s) out n (short-says (length out) s n .0 e)
 
@@ -142,7 +133,7 @@ short-beyond s out k e = let g = short-gives (length out) s k .0 e in left-beyon
 -- ---- a call of the desk
 
 module _ (d : Desk) (c : Call) (room : ℕ) where
-  pub decided-no : (n : ℕ) → (answerSays (answerOf d c room) ≡ no n) ↔ (decide (view d) c room ≡ refuse n)
+  pub decided-no : (n : Refusal) → (answerSays (answerOf d c room) ≡ no n) ↔ (decide (view d) c room ≡ refuse n)
   unfolding refusedAnswer
   decided-no n = (to (decide (view d) c room) refl, λ e. rw (refused-same d c room n e))
     where
@@ -159,7 +150,7 @@ module _ (d : Desk) (c : Call) (room : ℕ) where
       to accept e h = e
 
 module _ (d : Desk) (c : Call) (out : List ℕ) where
-  pub call-same : (n : ℕ) → answerSays (answerOf d c (length out)) ≡ no n → (answerOf d c (length out) .desk ≡ d) × (leavesOf d c out ≡ out)
+  pub call-same : (n : Refusal) → answerSays (answerOf d c (length out)) ≡ no n → (answerOf d c (length out) .desk ≡ d) × (leavesOf d c out ≡ out)
   unfolding refusedAnswer
   call-same n h =
       let e = decided-no d c (length out) n .0 h in
@@ -191,11 +182,11 @@ module _ (d : Desk) (v : Valid d) where
   unfolding closeAnswer
   closed e = rw e
 
-  held : Open d → closeAnswer d ≡ refusedAnswer d 19
+  held : Open d → closeAnswer d ≡ refusedAnswer d (unplaced 19)
   unfolding Open view closeAnswer
-  held o = pick-test (λ (a : Answer). a ≡ refusedAnswer d 19) (allIdle (d .lanes)) (λ e. absurd (o .2 (all-are (d .lanes) (o .0) e))) (λ _. refl)
+  held o = pick-test (λ (a : Answer). a ≡ refusedAnswer d (unplaced 19)) (allIdle (d .lanes)) (λ e. absurd (o .2 (all-are (d .lanes) (o .0) e))) (λ _. refl)
 
-  pub closing-no : (n : ℕ) → (answerSays (closeAnswer d) ≡ no n) ↔ (Open d × (19 ≡ n))
+  pub closing-no : (n : Refusal) → (answerSays (closeAnswer d) ≡ no n) ↔ (Open d × (unplaced 19 ≡ n))
   unfolding refusedAnswer
   closing-no n = (
     λ h. ⊎-elim (λ e. absurd (no-yes (sym (rw (closed e) at h)))) (λ o. (o, no-same (rw (held o) at h))) open-or-not,
@@ -204,10 +195,10 @@ module _ (d : Desk) (v : Valid d) where
 
   pub closing-yes : ((answerSays (closeAnswer d) ≡ yes 0) × (closeAnswer d .desk ≡ freshDesk)) ↔ (Open d → ⊥)
   closing-yes = (
-    λ e o. no-yes (sym (closing-no 19 .1 (o, refl)) ∙ e .0),
+    λ e o. no-yes (sym (closing-no (unplaced 19) .1 (o, refl)) ∙ e .0),
     λ n. ⊎-elim (λ e. rw (closed e) (refl, refl)) (λ o. absurd (n o)) open-or-not,
   )
 
-  pub closing-same : (n : ℕ) → answerSays (closeAnswer d) ≡ no n → closeAnswer d .desk ≡ d
+  pub closing-same : (n : Refusal) → answerSays (closeAnswer d) ≡ no n → closeAnswer d .desk ≡ d
   unfolding refusedAnswer
   closing-same n h = ap (λ (a : Answer). a .desk) (held (closing-no n .0 h .0))

@@ -10,6 +10,7 @@ use lib.ListN.{length, getD, length-append}
 use lib.Seq.{getD-at}
 use lib.Dec.{ltb}
 use borrow.Author.Tests.{lt-ltb, le-ltb, ltb-true, ltb-false}
+use Rattle.zvt_rules.specs.declared.Refusal.{Refusal}
 use Rattle.zvt_rules.specs.declared.Header.{Header}
 use Rattle.zvt_rules.specs.declared.Outline.{Outline}
 use Rattle.zvt_rules.specs.declared.Listed.{Listed}
@@ -35,7 +36,7 @@ use Rattle.zvt_rules.specs.declared.ToldAmount.{ToldAmount}
 use Rattle.zvt_rules.specs.declared.ToldAmount.the-variants.{Missing as no-amount, Amount}
 use Rattle.zvt_rules.specs.declared.ToldReceipt.{ToldReceipt}
 use Rattle.zvt_rules.specs.declared.ToldReceipt.the-variants.{Missing as no-receipt, Receipt}
-use Rattle.zvt_rules.specs.Reading.{pick}
+use Rattle.zvt_rules.specs.Reading.{unplaced, pick}
 use Rattle.zvt_rules.specs.Fields.{Field}
 use Rattle.zvt_rules.specs.Message.{readOf}
 use Rattle.zvt_rules.specs.Answers.{headerAnswer, readAnswer}
@@ -106,7 +107,7 @@ receipt-is (Receipt r) n = (λ e. ap Receipt (some-same (ap yes e)), ap receiptS
 
 -- ---- what a desk asks of a message
 module _ (s : List ℕ) where
-  pub heard-no : (n : ℕ) → (heardSays (hearAnswer s) ≡ no n) ↔ (headerSays (headerAnswer s) ≡ no n)
+  pub heard-no : (n : Refusal) → (heardSays (hearAnswer s) ≡ no n) ↔ (headerSays (headerAnswer s) ≡ no n)
   unfolding heardBy
   heard-no n = rw (header-heard s) (go (headerAnswer s))
     where
@@ -116,31 +117,31 @@ module _ (s : List ℕ) where
 
   -- the header as it is answered alone, and behind it what is told of the body
   pub heard-yes : (h : Heard) → heardSays (hearAnswer s) ≡ yes h → (t : Header) × (headerSays (headerAnswer s) ≡ yes t)
-      × (record { class = t .class; instruction = t .instruction; length = t .length; told = toldAnswer (readOf s) } ≡ h)
+      × (record { class = t .class; instruction = t .instruction; start = t .start; length = t .length; told = toldAnswer (readOf s) } ≡ h)
   unfolding heardBy
   heard-yes h e = go (headerAnswer s) refl (rw (header-heard s) at e)
     where
       Its : Header → Type 0
-      Its t = record { class = t .class; instruction = t .instruction; length = t .length; told = toldAnswer (readOf s) } ≡ h
+      Its t = record { class = t .class; instruction = t .instruction; start = t .start; length = t .length; told = toldAnswer (readOf s) } ≡ h
 
       go : (x : HeaderAnswer) → headerAnswer s ≡ x → heardSays (heardBy (toldAnswer (readOf s)) x) ≡ yes h
           → (t : Header) × (headerSays (headerAnswer s) ≡ yes t) × Its t
       go (header-got t) q k = (t, ap headerSays q, yes-same k)
       go (header-refused r) q k = absurd (no-yes k)
 
-  pub told-no : (n : ℕ) → (toldSays (toldAnswer (readOf s)) ≡ no n) ↔ (readSays (readAnswer s) ≡ no n)
-  told-no n = (
-    λ e. ap readSays (body-refused-exactly s (record { number = n }) .0 (told-case (toldAnswer (readOf s)) e)),
-    λ e. ap toldSays (body-refused-exactly s (record { number = n }) .1 (read-case (readAnswer s) e)),
+  pub told-no : (r : Refusal) → (toldSays (toldAnswer (readOf s)) ≡ no r) ↔ (readSays (readAnswer s) ≡ no r)
+  told-no r = (
+    λ e. ap readSays (body-refused-exactly s r .0 (told-case (toldAnswer (readOf s)) e)),
+    λ e. ap toldSays (body-refused-exactly s r .1 (read-case (readAnswer s) e)),
   )
     where
-      told-case : (x : ToldAnswer) → toldSays x ≡ no n → x ≡ body-refused (record { number = n })
+      told-case : (x : ToldAnswer) → toldSays x ≡ no r → x ≡ body-refused r
       told-case (told t) e = absurd (no-yes (sym e))
-      told-case (body-refused r) e = ap (λ (m : ℕ). body-refused (record { number = m })) (no-same e)
+      told-case (body-refused q) e = ap body-refused (no-same e)
 
-      read-case : (x : ReadAnswer) → readSays x ≡ no n → x ≡ read-refused (record { number = n })
+      read-case : (x : ReadAnswer) → readSays x ≡ no r → x ≡ read-refused r
       read-case (Accepted m) e = absurd (no-yes (sym e))
-      read-case (read-refused r) e = ap (λ (m : ℕ). read-refused (record { number = m })) (no-same e)
+      read-case (read-refused q) e = ap read-refused (no-same e)
 
 pub told-is : (x : ToldAnswer) (t : ToldBody) → (toldSays x ≡ yes t) ↔ (x ≡ told t)
 told-is (told b) t = (λ e. ap told (yes-same e), ap toldSays)
@@ -187,7 +188,7 @@ id-found s b k id = (
 
 -- ---- a lane and a line
 module _ (d : Desk) (i : ℕ) where
-  pub lane-no : (n : ℕ) → (laneSays (laneAnswer i (d .lanes)) ≡ no n) ↔ ((laneCount ≤ i) × (12 ≡ n))
+  pub lane-no : (n : Refusal) → (laneSays (laneAnswer i (d .lanes)) ≡ no n) ↔ ((laneCount ≤ i) × (unplaced 12 ≡ n))
   unfolding laneAnswer
   lane-no n =
       let k = beyond laneSays _ _ i laneCount (no n) (λ e. no-yes (sym e)) in

@@ -13,7 +13,7 @@ use Rattle.zvt_rules.specs.Shortest.{isShortObj, isShortRun, isShortField, isSh
 use Rattle.zvt_rules.specs.Digits.{digitBytesOf, decimalFrom, numberOf}
 use Rattle.zvt_rules.specs.Values.{valueIn, codeOf, amountOf, receiptOf, codeIn, amountIn, receiptIn, statusIn, statusFields, bodyFields}
 use Rattle.zvt_rules.specs.Heard.{firstOf, toldIn}
-use Rattle.zvt_rules.specs.Answers.{refusalOf, outlineOf, asReadAnswer, readAnswer, shortened, asShortenAnswer, shortenAnswer, shortenLeaves}
+use Rattle.zvt_rules.specs.Answers.{outlineOf, asReadAnswer, readAnswer, shortened, asShortenAnswer, shortenAnswer, shortenLeaves}
 use Rattle.zvt_rules.specs.Buffers.{writtenLeaves}
 use Rattle.zvt_rules.specs.Listed.{listedAt, listedFrom, listedBody, listedMessage, namedListed}
 use Rattle.zvt_rules.specs.Name.{upToZero, sizedName, nameIn, nameOf, nameAt, nameBytes, cardName}
@@ -38,7 +38,7 @@ unfolding unless andThen among secondTag tagSize formSize oneByteLen twoByteLen 
     lenBytes sized objBytes runBytes digitBytes lengthIn fieldBytes listBytes bodyBytes lengthBytes messageBytes
     formFor isShortest shortObj shortRun shortField shortList shortBody shortMessage isShortObj isShortRun isShortField isShortList isShortBody
     isShort write shorten digitBytesOf decimalFrom numberOf fieldValue valueIn codeOf amountOf receiptOf codeIn amountIn receiptIn statusIn
-    bodyFields refusalOf outlineOf asReadAnswer readAnswer shortened asShortenAnswer shortenAnswer writtenLeaves shortenLeaves
+    bodyFields outlineOf asReadAnswer readAnswer shortened asShortenAnswer shortenAnswer writtenLeaves shortenLeaves
     listedAt listedFrom listedBody listedMessage namedListed upToZero sizedName nameIn nameOf nameAt nameBytes cardName
     receiptBy lineAt commandOf commandBytes
     firstOf toldIn statusFields heardWaiting amountBy settledAs completedBy abortedBy reportedBy movedBy afterBody heardRunning heardBy afterHeader heard

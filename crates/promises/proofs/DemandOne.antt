@@ -7,11 +7,13 @@ use mathlib.Core.Option.{none, some}
 use mathlib.Core.List.{List}
 use Prim.Native.Nat.{ℕ, _≤_}
 use lib.ListN.{length, drop}
+use Rattle.zvt_rules.specs.declared.Refusal.{Refusal}
 use Rattle.zvt_rules.specs.declared.Heard.{Heard}
+use Rattle.zvt_rules.specs.Reading.{unplaced}
 use Rattle.zvt_rules.specs.Answers.{headerAnswer, readAnswer, firstAnswer, shortenAnswer, shortenLeaves}
 use Rattle.zvt_rules.specs.Heard.{hearAnswer}
 use Rattle.zvt_rules.specs.believed.Grammar.{Bytes}
-use Rattle.zvt_rules.specs.believed.Rows.{WholeNo, ReadNo, FirstNo, ShortNo, Numbered}
+use Rattle.zvt_rules.specs.believed.Rows.{WholeNo, ReadNo, FirstNo, ShortNo}
 use Rattle.zvt_rules.proofs.RowMessages as rows
 use Rattle.desk_rules.specs.declared.Desk.{Desk}
 use Rattle.desk_rules.specs.declared.Lane.{Lane}
@@ -24,41 +26,41 @@ use Rattle.desk_rules.proofs.Rows.{table}
 use Rattle.desk_rules.proofs.Memory as memory
 use Rattle.promises.specs.Answers.{no, yes, Takes, headerSays, readSays, firstSays, shortSays, heardSays, toldSays}
 use Rattle.promises.specs.Answers.{answerSays, lineSays, laneSays, At, Open}
-use Rattle.promises.proofs.Answers.{by-rows, header-says, read-says, first-says, short-says, short-leaves, short-beyond}
+use Rattle.promises.proofs.Answers.{header-says, read-says, first-says, short-says, short-leaves, short-beyond}
 use Rattle.promises.proofs.Answers.{decided-no, decided-yes, call-same, call-beyond, closing-no, closing-yes, closing-same}
 use Rattle.promises.proofs.Asked.{heard-no, heard-yes, told-no, lane-no, lane-yes, line-some, line-none}
 
--- ---- R37: reading and shortening. The rows (zvt_rules/specs/believed/Rows.antt) have a number and a place.
-module _ (s : List ℕ) (b : Bytes s) (n : ℕ) where
+-- ---- R37: reading and shortening. A refusal is a number and its place; so have the rows (zvt_rules/specs/believed/Rows.antt).
+module _ (s : List ℕ) (b : Bytes s) (r : Refusal) where
   -- A header is refused with a number exactly where a row for headers (R39) has that number.
-  pub header-refused-exactly : (headerSays (headerAnswer s) ≡ no n) ↔ Numbered (WholeNo s) n
-  header-refused-exactly = Iff·trans (header-says s n) (by-rows _ (WholeNo s) (rows.whole-exactly s b) n)
+  pub header-refused-exactly : (headerSays (headerAnswer s) ≡ no r) ↔ WholeNo s r
+  header-refused-exactly = Iff·trans (header-says s r) (rows.whole-exactly s b r)
 
-  -- Bytes are refused as a message exactly where a row for header or body (R39 to R44) has that number.
-  pub read-refused-exactly : (readSays (readAnswer s) ≡ no n) ↔ Numbered (ReadNo s) n
-  read-refused-exactly = Iff·trans (read-says s n) (by-rows _ (ReadNo s) (rows.read-no-exactly s b) n)
+  -- Bytes are refused as a message, with a number and at a place, exactly where a row for header or body (R39 to R44) has both.
+  pub read-refused-exactly : (readSays (readAnswer s) ≡ no r) ↔ ReadNo s r
+  read-refused-exactly = Iff·trans (read-says s r) (rows.read-no-exactly s b r)
 
   -- What a desk asks of a message is refused where its header is; what the body tells is refused where the message is.
-  pub heard-refused-exactly : (heardSays (hearAnswer s) ≡ no n) ↔ Numbered (WholeNo s) n
-  heard-refused-exactly = Iff·trans (heard-no s n) header-refused-exactly
+  pub heard-refused-exactly : (heardSays (hearAnswer s) ≡ no r) ↔ WholeNo s r
+  heard-refused-exactly = Iff·trans (heard-no s r) header-refused-exactly
 
-  pub told-refused-exactly : (h : Heard) → heardSays (hearAnswer s) ≡ yes h → (toldSays (h .told) ≡ no n) ↔ Numbered (ReadNo s) n
-  told-refused-exactly h e = rw (← (heard-yes s h e .2)) (Iff·trans (told-no s n) read-refused-exactly)
+  pub told-refused-exactly : (h : Heard) → heardSays (hearAnswer s) ≡ yes h → (toldSays (h .told) ≡ no r) ↔ ReadNo s r
+  told-refused-exactly h e = rw (← (heard-yes s h e .2)) (Iff·trans (told-no s r) read-refused-exactly)
 
   -- The same where further messages may follow: then nothing is left over.
-  pub first-refused-exactly : (firstSays (firstAnswer s) ≡ no n) ↔ Numbered (FirstNo s) n
-  first-refused-exactly = Iff·trans (first-says s n) (by-rows _ (FirstNo s) (rows.first-no-exactly s b) n)
+  pub first-refused-exactly : (firstSays (firstAnswer s) ≡ no r) ↔ FirstNo s r
+  first-refused-exactly = Iff·trans (first-says s r) (rows.first-no-exactly s b r)
 
   -- Shortening is refused where reading is, and with 11 where the shortest message does not fit.
-  pub shorten-refused-exactly : (room : ℕ) → (shortSays (shortenAnswer room s) ≡ no n) ↔ Numbered (ShortNo room s) n
-  shorten-refused-exactly room = Iff·trans (short-says room s n) (by-rows _ (ShortNo room s) (rows.short-no-exactly s b room) n)
+  pub shorten-refused-exactly : (room : ℕ) → (shortSays (shortenAnswer room s) ≡ no r) ↔ ShortNo room s r
+  shorten-refused-exactly room = Iff·trans (short-says room s r) (rows.short-no-exactly s b room r)
 
 -- ---- R34, R35, R36: the calls of the desk
 
--- A call is refused with a number exactly where the row of that number holds (desk_rules/specs/believed/Table.antt): of an opening, R34,
--- "12, 13, 16, 17, 18, 11"; of a message, R35, "12, 14, header, 15, body, 11"; of a lost link, R36, "12, 14".
-pub refused-exactly : (d : Desk) (c : Call) (room n : ℕ) → (answerSays (answerOf d c room) ≡ no n) ↔ Row (view d) c room (refuse n)
-refused-exactly d c room n = Iff·trans (decided-no d c room n) (table (view d) c room (refuse n))
+-- A call is refused with a number and its place exactly where the row of that number holds (desk_rules/specs/believed/Table.antt): of an
+-- opening, R34, "12, 13, 16, 17, 18, 11"; of a message, R35, "12, 14, header, 15, body, 11"; of a lost link, R36, "12, 14".
+pub refused-exactly : (d : Desk) (c : Call) (room : ℕ) (r : Refusal) → (answerSays (answerOf d c room) ≡ no r) ↔ Row (view d) c room (refuse r)
+refused-exactly d c room r = Iff·trans (decided-no d c room r) (table (view d) c room (refuse r))
 
 -- Else it is taken: a desk that refuses everything is no desk.
 pub taken-exactly : (d : Desk) (c : Call) (room : ℕ) → Takes (answerSays (answerOf d c room)) ↔ Row (view d) c room accept
@@ -67,7 +69,7 @@ taken-exactly d c room = Iff·trans (decided-yes d c room) (table (view d) c roo
 -- ---- R19: "a payment is open at closing"
 module _ (d : Desk) (v : Valid d) where
   -- The day is not closed over an open payment.
-  pub close-refused-exactly : (n : ℕ) → (answerSays (closeAnswer d) ≡ no n) ↔ (Open d × (19 ≡ n))
+  pub close-refused-exactly : (r : Refusal) → (answerSays (closeAnswer d) ≡ no r) ↔ (Open d × (unplaced 19 ≡ r))
   close-refused-exactly = closing-no d v
 
   -- Else it is closed, and the next day begins with a fresh desk.
@@ -77,7 +79,7 @@ module _ (d : Desk) (v : Valid d) where
 -- ---- R36: "A question about a lane: 12."
 
 -- A lane is asked for in vain exactly where there is no such lane.
-pub lane-refused-exactly : (d : Desk) (i n : ℕ) → (laneSays (laneAnswer i (d .lanes)) ≡ no n) ↔ ((8 ≤ i) × (12 ≡ n))
+pub lane-refused-exactly : (d : Desk) (i : ℕ) (r : Refusal) → (laneSays (laneAnswer i (d .lanes)) ≡ no r) ↔ ((8 ≤ i) × (unplaced 12 ≡ r))
 lane-refused-exactly = lane-no
 
 -- Else the answer is that lane.
@@ -94,16 +96,16 @@ no-line-exactly = line-none
 -- ---- "and changes neither the desk nor a byte of the buffers it was lent"
 
 -- R32: "A refusal leaves the desk and all lent buffers as they were."
-pub refused-unchanged : (d : Desk) (c : Call) (out : List ℕ) (n : ℕ) → answerSays (answerOf d c (length out)) ≡ no n
+pub refused-unchanged : (d : Desk) (c : Call) (out : List ℕ) (r : Refusal) → answerSays (answerOf d c (length out)) ≡ no r
     → (answerOf d c (length out) .desk ≡ d) × (leavesOf d c out ≡ out)
 refused-unchanged = call-same
 
 -- So does a refused closing.
-pub close-unchanged : (d : Desk) → Valid d → (n : ℕ) → answerSays (closeAnswer d) ≡ no n → closeAnswer d .desk ≡ d
+pub close-unchanged : (d : Desk) → Valid d → (r : Refusal) → answerSays (closeAnswer d) ≡ no r → closeAnswer d .desk ≡ d
 close-unchanged = closing-same
 
 -- A refused shortening leaves the buffer as it was.
-pub shorten-unchanged : (s out : List ℕ) (n : ℕ) → shortSays (shortenAnswer (length out) s) ≡ no n → shortenLeaves s out ≡ out
+pub shorten-unchanged : (s out : List ℕ) (r : Refusal) → shortSays (shortenAnswer (length out) s) ≡ no r → shortenLeaves s out ≡ out
 shorten-unchanged = short-leaves
 
 -- R33: "Success leaves the bytes of a lent buffer behind those written as they were."

@@ -65,8 +65,8 @@ module _ (s : List ℕ) (b : Bytes s) where
 
   -- What a desk asks of a message is its header, and behind it what a status information tells and the first byte of a plain body.
   module _ (h : Heard) (e : heardSays (hearAnswer s) ≡ yes h) where
-    pub heard-exactly : (start : ℕ) × Framed s (h .class) (h .instruction) start (h .length)
-    heard-exactly = let k = heard-yes s h e in rw (← (k .2)) (k .0 .start, header-exactly (k .0) .0 (k .1))
+    pub heard-exactly : Framed s (h .class) (h .instruction) (h .start) (h .length)
+    heard-exactly = let k = heard-yes s h e in rw (← (k .2)) (header-exactly (k .0) .0 (k .1))
 
     pub told-exactly : (t : ToldBody) → toldSays (h .told) ≡ yes t → (t .status ≡ statusOf s)
         × ((c : ℕ) → (codeSays (t .first) ≡ some c) ↔ ((m : Message) × (w : List ℕ) × Is s m × (m .body ≡ bytes (c ∷ w))))

@@ -1,6 +1,7 @@
 -- The first demand's first sentence: "Every call ends and stays within its memory, for all bytes and all numbers, with nothing left
 -- for the caller to test beforehand." Assumes nothing.
 use mathlib.Core.Path.{_≡_, refl}
+use Rattle.zvt_rules.proofs as zvt_rules
 use Rattle.zvt.proofs as zvt
 use Rattle.desk.proofs as desk
 use Rattle.desk_rules.proofs as desk_rules
@@ -13,7 +14,8 @@ use Rattle.tape_rules.specs.Recording.{ValidTaped}
 
 -- Every public function's own theorem: a call of it ends, reads and writes only what it was lent, and answers as its contract states.
 pub every-call-ends : {M : Type 1}
-    → zvt.read_header.Statement.statement M
+    → zvt_rules.Refusal.unplaced.Statement.statement M
+    × zvt.read_header.Statement.statement M
     × zvt.read.Statement.statement M
     × zvt.read_first.Statement.statement M
     × zvt.shorten.Statement.statement M
@@ -96,6 +98,7 @@ pub every-call-ends : {M : Type 1}
     × buffers.add_decimal.Statement.statement M
     × buffers.hex_value.Statement.statement M
 every-call-ends = (
+  zvt_rules.Refusal.unplaced.Met.met,
   zvt.read_header.Met.met,
   zvt.read.Met.met,
   zvt.read_first.Met.met,
@@ -183,7 +186,8 @@ every-call-ends = (
 -- No function but those over a desk asks anything of its caller; those ask that the desk, with its tape where it has one, is one that these
 -- functions gave out.
 pub nothing-to-test :
-    ((κs : _) (a : _) → zvt.read_header.Reads.Asked κs a ≡ Unit {0})
+    ((κs : _) (a : _) → zvt_rules.Refusal.unplaced.Reads.Asked κs a ≡ Unit {0})
+    × ((κs : _) (a : _) → zvt.read_header.Reads.Asked κs a ≡ Unit {0})
     × ((κs : _) (a : _) → zvt.read.Reads.Asked κs a ≡ Unit {0})
     × ((κs : _) (a : _) → zvt.read_first.Reads.Asked κs a ≡ Unit {0})
     × ((κs : _) (a : _) → zvt.shorten.Reads.Asked κs a ≡ Unit {0})
@@ -266,6 +270,7 @@ pub nothing-to-test :
     × ((κs : _) (a : _) → buffers.add_decimal.Reads.Asked κs a ≡ Unit {0})
     × ((κs : _) (a : _) → buffers.hex_value.Reads.Asked κs a ≡ Unit {0})
 nothing-to-test = (
+  λ κs a. refl,
   λ κs a. refl,
   λ κs a. refl,
   λ κs a. refl,

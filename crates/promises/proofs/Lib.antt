@@ -14,6 +14,7 @@ pub mod TapeDays
 pub mod Secrets
 pub mod Answers
 pub mod Asked
+pub mod Placing
 pub mod Turns
 pub mod OtherDays
 pub mod Counted

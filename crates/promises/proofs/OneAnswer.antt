@@ -4,6 +4,7 @@ use mathlib.Core.Path.{_≡_, refl, sym, ap, ap₂, _∙_}
 use Prim.Native.Nat.{ℕ}
 use mathlib.Core.List.{List}
 use denote.Ref.{now}
+use Rattle.zvt_rules.proofs as zvt_rules
 use Rattle.zvt.proofs as zvt
 use Rattle.desk.proofs as desk
 use Rattle.desk_rules.proofs as desk_rules
@@ -19,6 +20,9 @@ only : {A E X Y : Type 0} {answer : A → X} {lent : E → Y} {states : A → E 
 only x y h = record { one = λ r r′ e e′ s s′. (h r e s .0 ∙ sym (h r′ e′ s′ .0), h r e s .1 ∙ sym (h r′ e′ s′ .1)) }
 
 -- ---- the reader
+pub refusal-unplaced-one : (κs : _) (a : _) → Only itself nothing (zvt_rules.Refusal.unplaced.Reads.Learnt κs a)
+refusal-unplaced-one κs a = only _ _ (λ r e h. (h, refl))
+
 pub read-header-one : (κs : _) (a : _) → Only itself nothing (zvt.read_header.Reads.Learnt κs a)
 read-header-one κs a = only _ _ (λ r e h. (h, refl))
 

@@ -5,7 +5,8 @@ use mathlib.Core.List.{List, []}
 use Prim.Native.Nat.{ℕ, _+_, _<_, _≤_}
 use native.Mathlib.Omega.{arith}
 use lib.ListN.{length, take, drop}
-use Rattle.zvt_rules.specs.Reading.{Reading, got, refused}
+use Rattle.zvt_rules.specs.declared.Refusal.{Refusal}
+use Rattle.zvt_rules.specs.Reading.{Reading, got, refused, unplaced}
 use Rattle.zvt_rules.specs.Buffers.{writtenLeaves}
 use Rattle.desk_rules.specs.declared.Reply.{Reply}
 use Rattle.desk_rules.specs.declared.Reply.the-variants.{Written, Refused}
@@ -32,7 +33,7 @@ use Rattle.tape_rules.specs.Recording.{heldBytes, closeTaped}
 use Rattle.tape_rules.proofs.Taping.{taped-taken, taped-refused, taped-accepted, ten-blocks, tape-enough, closed, close-kept}
 use Rattle.promises.specs.Answers.{no, yes, replySays, tapedSays, blockSays, Open}
 use Rattle.promises.specs.TapeDays.{ClosedRow, still-open, all-ended}
-use Rattle.promises.proofs.Answers.{No, no-same, yes-same, no-yes, said, said-no, said-yes}
+use Rattle.promises.proofs.Answers.{no-same, yes-same, no-yes, said, said-no, said-yes}
 use Rattle.promises.proofs.Answers.{left-same, left-first, left-beyond, closing-no, closing-yes}
 
 -- ---- what is written into a buffer
@@ -41,7 +42,7 @@ unfolding writtenAnswer said
 written-said (got w) = refl
 written-said (refused f) = refl
 
-pub written-says : (x : Reading (List ℕ)) (n : ℕ) → (replySays (writtenAnswer x) ≡ no n) ↔ No x n
+pub written-says : (x : Reading (List ℕ)) (r : Refusal) → (replySays (writtenAnswer x) ≡ no r) ↔ (x ≡ refused r)
 written-says x = said-no length x (written-said x)
 
 pub written-size : (x : Reading (List ℕ)) (k : ℕ) → (replySays (writtenAnswer x) ≡ yes k) ↔ ((w : List ℕ) × (x ≡ got w) × (length w ≡ k))
@@ -58,7 +59,7 @@ written-got x out w = (
   λ h. let g = written-size x (length w) .0 (h .0) in g .1 ∙ ap got (sym (left-first x out (g .0) (length w) (g .1) (g .2)) ∙ h .1),
 )
 
-pub written-same : (x : Reading (List ℕ)) (out : List ℕ) (n : ℕ) → replySays (writtenAnswer x) ≡ no n → writtenLeaves x out ≡ out
+pub written-same : (x : Reading (List ℕ)) (out : List ℕ) (n : Refusal) → replySays (writtenAnswer x) ≡ no n → writtenLeaves x out ≡ out
 written-same x out n e = left-same x out n (written-says x n .0 e)
 
 module _ (x : Reading (List ℕ)) (out : List ℕ) (k : ℕ) (e : replySays (writtenAnswer x) ≡ yes k) where
@@ -71,7 +72,7 @@ unfolding blockAnswer said
 block-said (got p) = refl
 block-said (refused f) = refl
 
-pub block-says : (x : Reading (List ℕ)) (n : ℕ) → (blockSays (blockAnswer x) ≡ no n) ↔ No x n
+pub block-says : (x : Reading (List ℕ)) (r : Refusal) → (blockSays (blockAnswer x) ≡ no r) ↔ (x ≡ refused r)
 block-says x = said-no length x (block-said x)
 
 pub block-holds : (x : Reading (List ℕ)) (k : ℕ) → (blockSays (blockAnswer x) ≡ yes k) ↔ ((p : List ℕ) × (x ≡ got p) × (length p ≡ k))
@@ -88,7 +89,7 @@ module _ (t : Taped) (c : Call) (out room : List ℕ) where
   abbrev deskSays : Answer
   deskSays = answerOf (t .desk) c (length out)
 
-  decision-no : (n : ℕ) → tapedSays answer ≡ no n → decision ≡ refuse n
+  decision-no : (n : Refusal) → tapedSays answer ≡ no n → decision ≡ refuse n
   decision-no n = to decision refl
     where
       to : (x : Decision) → decision ≡ x → tapedSays answer ≡ no n → decision ≡ refuse n
@@ -102,7 +103,7 @@ module _ (t : Taped) (c : Call) (out room : List ℕ) where
       to (refuse m) e h = absurd (no-yes (sym (ap tapedSays (taped-refused t c out room m e .0)) ∙ h))
       to accept e h = e
 
-  pub taped-same : (n : ℕ) → tapedSays answer ≡ no n
+  pub taped-same : (n : Refusal) → tapedSays answer ≡ no n
       → (answer .taped ≡ t) × (tapedOut t c (length room) out ≡ out) × (tapedRoom t c (length out) room ≡ room)
   taped-same n h =
       let k = taped-refused t c out room n (decision-no n h) in
@@ -168,9 +169,9 @@ lost-taken t v i room l busy few much =
     (says, rw (taped-as-desk t (lost i) [] room 0 says .1) (lost-idle (t .desk) i (v .0) e))
 
 -- ---- closing
-reply-no : (r : Reply) (n : ℕ) → replySays r ≡ no n → r ≡ Refused (record { number = n })
+reply-no : (r : Reply) (n : Refusal) → replySays r ≡ no n → r ≡ Refused n
 reply-no (Written k) n h = absurd (no-yes (sym h))
-reply-no (Refused r) n h = ap (λ (m : ℕ). Refused (record { number = m })) (no-same h)
+reply-no (Refused r) n h = ap Refused (no-same h)
 
 reply-yes : (r : Reply) (k : ℕ) → replySays r ≡ yes k → r ≡ Written k
 reply-yes (Written j) k h = ap Written (yes-same h)
@@ -180,8 +181,8 @@ module _ (t : Taped) (v : ValidTaped t) where
   valid : Valid (t .desk)
   valid = v .0
 
-  kept : Open (t .desk) → closeTaped t ≡ record { reply = Refused (record { number = 19 }); blocks = 0; bytes = 0; taped = t }
-  kept o = close-kept t _ (reply-no _ 19 (closing-no (t .desk) valid 19 .1 (o, refl)))
+  kept : Open (t .desk) → closeTaped t ≡ record { reply = Refused (unplaced 19); blocks = 0; bytes = 0; taped = t }
+  kept o = close-kept t _ (reply-no _ (unplaced 19) (closing-no (t .desk) valid (unplaced 19) .1 (o, refl)))
 
   ended : (Open (t .desk) → ⊥)
       → closeTaped t ≡ record { reply = Written 0; blocks = blocksFor (heldBytes (t .tail)); bytes = heldBytes (t .tail); taped = freshTaped }
@@ -198,9 +199,9 @@ module _ (t : Taped) (v : ValidTaped t) where
     where
       go : (r : Reply) → closeAnswer (t .desk) .reply ≡ r → ClosedRow t (closeTaped t)
       go (Written k) e =
-          let n : Open (t .desk) → ⊥ = λ o. no-yes (sym (closing-no (t .desk) valid 19 .1 (o, refl)) ∙ ap replySays e) in
+          let n : Open (t .desk) → ⊥ = λ o. no-yes (sym (closing-no (t .desk) valid (unplaced 19) .1 (o, refl)) ∙ ap replySays e) in
           rw (ended n) (all-ended {blocks = blocksFor (heldBytes (t .tail))} n refl (omega arith) (omega arith))
-      go (Refused r) e = let o = closing-no (t .desk) valid (r .number) .0 (ap replySays e) .0 in rw (kept o) (still-open o)
+      go (Refused r) e = let o = closing-no (t .desk) valid r .0 (ap replySays e) .0 in rw (kept o) (still-open o)
 
   pub close-exactly : (a : ClosedAnswer) → (closeTaped t ≡ a) ↔ ClosedRow t a
   close-exactly a = (λ e. rw e at closed-row, row-closed)

@@ -9,7 +9,8 @@ use Prim.Native.Nat.{ℕ, _+_, _-_, _*_, _<_, _≤_}
 use native.Mathlib.Omega.{arith}
 use lib.ListN.{length, getD, take, drop, set, length-take, length-drop, drop-of-length-le}
 use lib.Seq.{ext-getD}
-use Rattle.zvt_rules.specs.Reading.{Reading, got}
+use Rattle.zvt_rules.specs.declared.Refusal.{Refusal}
+use Rattle.zvt_rules.specs.Reading.{Reading, got, unplaced}
 use Rattle.zvt_rules.specs.Message.{Message, readOf}
 use Rattle.zvt_rules.specs.believed.Grammar.{Bytes}
 use Rattle.zvt_rules.specs.Values.{statusOf}
@@ -33,7 +34,7 @@ use Rattle.tape_rules.specs.Records.{Record, masked, recorded}
 use Rattle.tape_rules.specs.Recording.{freshTaped, ValidTaped, blockAnswer, writtenAnswer, writeTape, readTape}
 use Rattle.tape_rules.specs.Recording.{tapedAnswer, tapedOut, tapedRoom, closeTaped}
 use Rattle.tape_rules.specs.Taping.{TapeTurn, Day, freshDay}
-use Rattle.tape_rules.specs.believed.Blocks.{usedOf, Drawn, Outside, WriteNo, BlockNo}
+use Rattle.tape_rules.specs.believed.Blocks.{usedOf, Drawn, Outside, Unplaced, WriteNo, BlockNo}
 use Rattle.tape_rules.specs.believed.Tapes.{pieceAt, blockAt, Pieces, DrawnTape, TapeWriteNo, TapeReadNo}
 use Rattle.tape_rules.specs.believed.Masking.{OnTape}
 use Rattle.tape_rules.specs.believed.Recorded.{Joined, DayRecords, DayTape, TapedRow}
@@ -95,7 +96,7 @@ block-reads-back number p room s last fits full h =
 -- T6: "A good block with one byte changed, whichever, is refused (20).": in every block, at every place, whatever the byte becomes and
 -- whatever block is due.
 pub one-changed-byte : (number : ℕ) (p : List ℕ) (room : ℕ) (s : List ℕ) (i v due : ℕ) (last : Bool) → Bytes p → writeBlock number p room ≡ got s
-    → i < 512 → v < 256 → (v ≡ getD s i 0 → ⊥) → blockSays (blockAnswer (readBlock due last (set s i v))) ≡ no 20
+    → i < 512 → v < 256 → (v ≡ getD s i 0 → ⊥) → blockSays (blockAnswer (readBlock due last (set s i v))) ≡ no (unplaced 20)
 unfolding blockAnswer
 one-changed-byte number p room s i v due last b w h small other =
     let g = rows.block-got number p room s w in
@@ -104,7 +105,7 @@ one-changed-byte number p room s i v due last b w h small other =
 
 -- So is a whole tape that is read: whichever of its bytes is changed, whatever the byte becomes and whatever room is lent.
 pub one-changed-byte-of-a-tape : (s : List ℕ) (room k i v other : ℕ) → Bytes s → replySays (writtenAnswer (readTape s room)) ≡ yes k
-    → i < length s → v < 256 → (v ≡ getD s i 0 → ⊥) → replySays (writtenAnswer (readTape (set s i v) other)) ≡ no 20
+    → i < length s → v < 256 → (v ≡ getD s i 0 → ⊥) → replySays (writtenAnswer (readTape (set s i v) other)) ≡ no (unplaced 20)
 unfolding readTape writtenAnswer
 one-changed-byte-of-a-tape s room k i v other b h l small new =
     let w = answers.written-size (readTape s room) k .0 h in
@@ -294,31 +295,33 @@ alike-days-one-tape day other b c a d e cs ds p q =
 -- ---- R30: "one is given exactly where its row holds and none before it there does."
 
 -- R45: "Writing one: 16, 11."
-pub block-write-refused-exactly : (number : ℕ) (p : List ℕ) (room n : ℕ)
-    → (replySays (writtenAnswer (writeBlock number p room)) ≡ no n) ↔ WriteNo number p room n
-block-write-refused-exactly number p room n = Iff·trans (answers.written-says (writeBlock number p room) n) (rows.write-no number p room n)
+pub block-write-refused-exactly : (number : ℕ) (p : List ℕ) (room : ℕ) (r : Refusal)
+    → (replySays (writtenAnswer (writeBlock number p room)) ≡ no r) ↔ Unplaced (WriteNo number p room) r
+block-write-refused-exactly number p room r = Iff·trans (answers.written-says (writeBlock number p room) r) (rows.write-no number p room r)
 
 -- R45: "Reading a block: 1, 3, 20, 21."
-pub block-read-refused-exactly : (due : ℕ) (last : Bool) (s : List ℕ) (n : ℕ)
-    → (blockSays (blockAnswer (readBlock due last s)) ≡ no n) ↔ BlockNo due last s n
-block-read-refused-exactly due last s n = Iff·trans (answers.block-says (readBlock due last s) n) (rows.block-no due last s n)
+pub block-read-refused-exactly : (due : ℕ) (last : Bool) (s : List ℕ) (r : Refusal)
+    → (blockSays (blockAnswer (readBlock due last s)) ≡ no r) ↔ Unplaced (BlockNo due last s) r
+block-read-refused-exactly due last s r = Iff·trans (answers.block-says (readBlock due last s) r) (rows.block-no due last s r)
 
 -- T20: "Writing a whole tape gives 16 where a block number needs more than four bytes, then 11."
-pub tape-write-refused-exactly : (p : List ℕ) (room n : ℕ) → (replySays (writtenAnswer (writeTape p room)) ≡ no n) ↔ TapeWriteNo p room n
-tape-write-refused-exactly p room n = Iff·trans (answers.written-says (writeTape p room) n) (tapes.write-tape-no p room n)
+pub tape-write-refused-exactly : (p : List ℕ) (room : ℕ) (r : Refusal)
+    → (replySays (writtenAnswer (writeTape p room)) ≡ no r) ↔ Unplaced (TapeWriteNo p room) r
+tape-write-refused-exactly p room r = Iff·trans (answers.written-says (writeTape p room) r) (tapes.write-tape-no p room r)
 
 -- T20: "Reading one gives the refusal of the first refused block, then 11."
-pub tape-read-refused-exactly : (s : List ℕ) (room n : ℕ) → (replySays (writtenAnswer (readTape s room)) ≡ no n) ↔ TapeReadNo s room n
-tape-read-refused-exactly s room n = Iff·trans (answers.written-says (readTape s room) n) (tapes.read-tape-no s room n)
+pub tape-read-refused-exactly : (s : List ℕ) (room : ℕ) (r : Refusal)
+    → (replySays (writtenAnswer (readTape s room)) ≡ no r) ↔ Unplaced (TapeReadNo s room) r
+tape-read-refused-exactly s room r = Iff·trans (answers.written-says (readTape s room) r) (tapes.read-tape-no s room r)
 
 -- ---- R32: "A refusal leaves the desk and all lent buffers as they were."
 
 -- Where writing a block or a tape, or reading a tape, is refused, the buffer stays as it was.
-pub write-unchanged : (x : Reading (List ℕ)) (out : List ℕ) (n : ℕ) → replySays (writtenAnswer x) ≡ no n → writtenLeaves x out ≡ out
+pub write-unchanged : (x : Reading (List ℕ)) (out : List ℕ) (r : Refusal) → replySays (writtenAnswer x) ≡ no r → writtenLeaves x out ≡ out
 write-unchanged = answers.written-same
 
 -- A refused call leaves desk, tape and both buffers as they were: it can be made again.
-pub taped-unchanged : (t : Taped) (c : Call) (out room : List ℕ) (n : ℕ) → tapedSays (tapedAnswer t c (length out) (length room)) ≡ no n
+pub taped-unchanged : (t : Taped) (c : Call) (out room : List ℕ) (r : Refusal) → tapedSays (tapedAnswer t c (length out) (length room)) ≡ no r
     → (tapedAnswer t c (length out) (length room) .taped ≡ t) × (tapedOut t c (length room) out ≡ out) × (tapedRoom t c (length out) room ≡ room)
 taped-unchanged = answers.taped-same
 

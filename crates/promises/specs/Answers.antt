@@ -1,10 +1,13 @@
--- What an answer says, for each enum that a public function answers with: a number of refusal (R1 to R21), or values. The promises are
--- stated through it. Definitions only.
+-- What an answer says, for each enum that a public function answers with: a number of refusal (R1 to R22) and its place, or values. The
+-- promises are stated through it. Definitions only.
 use mathlib.Core.Path.{_≡_}
+use mathlib.Core.Logic.{_⊎_}
 use mathlib.Core.Option.{Option, none, some}
 use mathlib.Core.List.{List, _∷_, _++_}
 use Prim.Native.Nat.{ℕ, _<_}
 use lib.ListN.{length}
+use Rattle.zvt_rules.specs.declared.Refusal.{Refusal}
+use Rattle.zvt_rules.specs.declared.Place.the-variants.{Nowhere as Unplaced}
 use Rattle.zvt_rules.specs.declared.Header.{Header}
 use Rattle.zvt_rules.specs.declared.Outline.{Outline}
 use Rattle.zvt_rules.specs.declared.Listed.{Listed}
@@ -32,6 +35,7 @@ use Rattle.zvt_rules.specs.declared.ToldAmount.{ToldAmount}
 use Rattle.zvt_rules.specs.declared.ToldAmount.the-variants.{Missing as no-amount, Amount}
 use Rattle.zvt_rules.specs.declared.ToldReceipt.{ToldReceipt}
 use Rattle.zvt_rules.specs.declared.ToldReceipt.the-variants.{Missing as no-receipt, Receipt}
+use Rattle.zvt_rules.specs.believed.Faults.{Names}
 use Rattle.desk_rules.specs.declared.Phase.the-variants.{Idle}
 use Rattle.desk_rules.specs.declared.Lane.{Lane}
 use Rattle.desk_rules.specs.declared.Line.{Line}
@@ -43,6 +47,7 @@ use Rattle.desk_rules.specs.declared.LineAnswer.{LineAnswer}
 use Rattle.desk_rules.specs.declared.LineAnswer.the-variants.{End as no-line, Line as line-got}
 use Rattle.desk_rules.specs.declared.LaneAnswer.{LaneAnswer}
 use Rattle.desk_rules.specs.declared.LaneAnswer.the-variants.{Refused as lane-refused, Lane as lane-got}
+use Rattle.desk_rules.specs.Course.{Call, opening, message, lost}
 use Rattle.desk_rules.specs.believed.Table.{phaseAt}
 use Rattle.desk_rules.specs.Memory.{view}
 use Rattle.tape_rules.specs.declared.BlockAnswer.{BlockAnswer}
@@ -50,9 +55,9 @@ use Rattle.tape_rules.specs.declared.BlockAnswer.the-variants.{Payload, Refused
 use Rattle.tape_rules.specs.declared.TapedAnswer.{TapedAnswer}
 use Rattle.tape_rules.specs.declared.ClosedAnswer.{ClosedAnswer}
 
--- R31: "A refusal answers its number and nothing else.": refused with that number, or these values
+-- R31: "A refusal answers its number and, where it names one (R46), its place, and nothing else.": refused so, or these values
 pub data Said (A : Type 0) : Type 0 where
-  no : ℕ → Said A
+  no : Refusal → Said A
   yes : A → Said A
 
 -- it is not refused
@@ -63,30 +68,30 @@ Takes {A} x = (a : A) × (x ≡ yes a)
 
 abbrev pub headerSays : HeaderAnswer → Said Header
 headerSays (header-got h) = yes h
-headerSays (header-refused r) = no (r .number)
+headerSays (header-refused r) = no r
 
 abbrev pub readSays : ReadAnswer → Said Outline
 readSays (Accepted m) = yes m
-readSays (read-refused r) = no (r .number)
+readSays (read-refused r) = no r
 
 -- the first message, and where the next begins
 abbrev pub firstSays : FirstAnswer → Said (Outline × ℕ)
 firstSays (first-accepted m next) = yes (m, next)
-firstSays (first-refused r) = no (r .number)
+firstSays (first-refused r) = no r
 
 -- how many bytes were written
 abbrev pub shortSays : ShortenAnswer → Said ℕ
 shortSays (short-written k) = yes k
-shortSays (short-refused r) = no (r .number)
+shortSays (short-refused r) = no r
 
 -- what a desk asks of a message: its header, and what the body behind it tells
 abbrev pub heardSays : HearAnswer → Said Heard
 heardSays (heard h) = yes h
-heardSays (unheard r) = no (r .number)
+heardSays (unheard r) = no r
 
 abbrev pub toldSays : ToldAnswer → Said ToldBody
 toldSays (told t) = yes t
-toldSays (body-refused r) = no (r .number)
+toldSays (body-refused r) = no r
 
 -- where a list lies, from and to, and a field of it: what is not there is none, and not refused
 abbrev pub placeSays : ListPlace → Said (Option (ℕ × ℕ))
@@ -115,7 +120,7 @@ receiptSays (Receipt k) = some k
 -- how many bytes were written
 abbrev pub replySays : Reply → Said ℕ
 replySays (Written k) = yes k
-replySays (Refused r) = no (r .number)
+replySays (Refused r) = no r
 
 abbrev pub answerSays : Answer → Said ℕ
 answerSays a = replySays (a .reply)
@@ -134,14 +139,20 @@ lineSays (line-got l) = yes (some l)
 -- a lane asked for
 abbrev pub laneSays : LaneAnswer → Said Lane
 laneSays (lane-got l) = yes l
-laneSays (lane-refused r) = no (r .number)
+laneSays (lane-refused r) = no r
 
 -- how many bytes of payload a block holds
 abbrev pub blockSays : BlockAnswer → Said ℕ
 blockSays (Payload k) = yes k
-blockSays (block-refused r) = no (r .number)
+blockSays (block-refused r) = no r
 
 -- ---- what the promises say of answers
+
+-- R46: "Every refusal of a body names a place .. No other refusal names one": what the refusal of a call names
+abbrev pub Placed : Call → Refusal → Type 0
+Placed (opening i o) r = r .place ≡ Unplaced
+Placed (message i b) r = (r .place ≡ Unplaced) ⊎ Names b r
+Placed (lost i) r = r .place ≡ Unplaced
 
 -- x stands at place k of a list, counted from 0
 abbrev pub At : {A : Type 0} → List A → ℕ → A → Type 0

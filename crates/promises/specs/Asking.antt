@@ -44,9 +44,9 @@ pub data CaseRow : Type 0 where
 
 -- ---- what the definitions answer
 
--- a refusal by its number, and values as a row states them
+-- a refusal by its number, wherever its place is, and values as a row states them
 unfoldable pub shown : {A : Type 0} → Said A → (A → CaseAnswer) → CaseAnswer
-shown (no n) f = refusal n
+shown (no r) f = refusal (r .number)
 shown (yes a) f = f a
 
 abbrev pub messageShown : Outline → CaseAnswer
@@ -54,7 +54,7 @@ messageShown m = accepted (m .class * 256 + m .instruction) (m .length) (m .shor
 
 unfoldable pub listShown : Reading Message → CaseAnswer
 listShown (got m) = fields (bodyFields (m .body))
-listShown (refused f) = refusal (f .number)
+listShown (refused r) = refusal (r .number)
 
 -- a list as the body of a status information; an output as long as the message
 unfoldable pub status : List ℕ → List ℕ

@@ -49,7 +49,7 @@ deskAfter d (t ∷ ts) = deskAfter (answerIn d t .desk) ts
 -- and the bytes that each call wrote
 unfoldable pub bytesBy : Said ℕ → List ℕ → List ℕ
 bytesBy (yes k) out = take k out
-bytesBy (no n) out = []
+bytesBy (no r) out = []
 
 unfoldable pub writtenIn : Desk → List DeskTurn → List (List ℕ)
 writtenIn d [] = []

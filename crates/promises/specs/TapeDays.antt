@@ -6,6 +6,7 @@ use mathlib.Core.Logic.{_⊎_}
 use Prim.Native.Nat.{ℕ, _+_, _*_, _<_, _≤_}
 use mathlib.Core.List.{List, [], _∷_}
 use lib.ListN.{length}
+use Rattle.zvt_rules.specs.Reading.{unplaced}
 use Rattle.zvt_rules.specs.believed.Grammar.{Bytes}
 use Rattle.desk_rules.specs.declared.Desk.{Desk}
 use Rattle.desk_rules.specs.declared.Reply.the-variants.{Written, Refused}
@@ -45,7 +46,7 @@ pub record DeskAlone (calls : List Call) (desk : Desk) : Type 0 where
 -- R19: "a payment is open at closing". T22: "Closing says how many blocks the day's tape has and how many bytes they hold, and begins a new,
 -- empty one.": what is answered, and left
 pub data ClosedRow (t : Taped) : ClosedAnswer → Type 0 where
-  still-open : Open (t .desk) → ClosedRow t (record { reply = Refused (record { number = 19 }); blocks = 0; bytes = 0; taped = t })
+  still-open : Open (t .desk) → ClosedRow t (record { reply = Refused (unplaced 19); blocks = 0; bytes = 0; taped = t })
   all-ended : {blocks bytes : ℕ} → (Open (t .desk) → ⊥) → bytes ≡ t .tail .full * 504 + t .tail .used → bytes ≤ blocks * 504
       → blocks * 504 < bytes + 504 → ClosedRow t (record { reply = Written 0; blocks = blocks; bytes = bytes; taped = freshTaped })
 

@@ -58,7 +58,7 @@ fn message(s: &[u8], m: Outline, out: &mut [u8]) -> usize {
 
 fn read(s: &[u8], out: &mut [u8]) -> usize {
     match zvt::read(s) {
-        ReadAnswer::Refused(f) => answers::refused(f.number, out),
+        ReadAnswer::Refused(f) => answers::refused(f, out),
         ReadAnswer::Accepted(m) => {
             let to = message(s, m, out);
             add(b'\n', to, out)
@@ -68,7 +68,7 @@ fn read(s: &[u8], out: &mut [u8]) -> usize {
 
 fn header(s: &[u8], out: &mut [u8]) -> usize {
     match zvt::read_header(s) {
-        HeaderAnswer::Refused(f) => answers::refused(f.number, out),
+        HeaderAnswer::Refused(f) => answers::refused(f, out),
         HeaderAnswer::Header(h) => {
             let mut to = add_hex(h.class, 0, out);
             to = add_hex(h.instruction, to, out);
@@ -82,7 +82,7 @@ fn header(s: &[u8], out: &mut [u8]) -> usize {
 // The message that s begins with, where its body starts and where the next message does.
 fn first(s: &[u8], out: &mut [u8]) -> usize {
     match zvt::read_first(s) {
-        FirstAnswer::Refused(f) => answers::refused(f.number, out),
+        FirstAnswer::Refused(f) => answers::refused(f, out),
         FirstAnswer::Accepted(m, next) => {
             let end = upto(next, s);
             let mut to = message(&s[..end], m, out);
@@ -177,7 +177,7 @@ fn each(place: usize, s: &mut [u8], out: &mut [u8]) -> usize {
 fn block(due: Block, s: &[u8], out: &mut [u8]) -> usize {
     match tape::read_block(due, s) {
         BlockAnswer::Payload(n) => answers::counted(b"payload", n as u64, 0, out),
-        BlockAnswer::Refused(f) => answers::refused(f.number, out),
+        BlockAnswer::Refused(f) => answers::refused(f, out),
     }
 }
 

@@ -12,6 +12,8 @@ use desk_rules::Line;
 use desk_rules::Outcome;
 use desk_rules::Phase;
 use desk_rules::Reply;
+use zvt_rules::Place;
+use zvt_rules::Refusal;
 use zvt_rules::Status;
 use zvt_rules::ToldAmount;
 use zvt_rules::ToldCode;
@@ -32,8 +34,15 @@ pub fn counted(name: &[u8], n: u64, at: usize, out: &mut [u8]) -> usize {
     add(b'\n', to, out)
 }
 
-pub fn refused(number: u8, out: &mut [u8]) -> usize {
-    counted(b"refused", number as u64, 0, out)
+// A number of refusal, and the place where it names one.
+pub fn refused(r: Refusal, out: &mut [u8]) -> usize {
+    let place = r.place;
+    let mut to = add_all(b"refused", 0, out);
+    to = add_number(r.number as u64, to, out);
+    match place {
+        Place::Nowhere => add(b'\n', to, out),
+        Place::At(p) => counted(b" at", p as u64, to, out),
+    }
 }
 
 pub fn not_understood(line: u64, out: &mut [u8]) -> usize {
@@ -226,6 +235,6 @@ pub fn reply(r: Reply, lent: &[u8], out: &mut [u8]) -> usize {
             let end = upto(size, lent);
             written(&lent[..end], out)
         }
-        Reply::Refused(f) => refused(f.number, out),
+        Reply::Refused(f) => refused(f, out),
     }
 }

@@ -5,7 +5,7 @@ use Prim.Native.Nat.{ℕ, _+_, _-_, _<_, _≤_}
 use native.Mathlib.Omega.{arith}
 use lib.ListN.{length, take, drop, length-append}
 use borrow.Author.Tests.{lt-ltb, le-ltb}
-use Rattle.zvt_rules.specs.declared.Fault.{Fault}
+use Rattle.zvt_rules.specs.declared.Refusal.{Refusal}
 use Rattle.zvt_rules.specs.declared.Layout.the-variants.{Plain, List as FieldList, Secured}
 use Rattle.zvt_rules.specs.Reading.{Reading, got, refused, no, unless, andThen}
 use Rattle.zvt_rules.specs.Fields.{unlessUndecimal, countFields, ListRead, listOf}
@@ -61,7 +61,7 @@ module _ (at : ℕ) (s : List ℕ) (h : 3 ≤ length s) where
   unfolding securedOf
   past-cut = unless-on _ _ (le-ltb (length s) 3 h)
 
-  pub secured-undecimal : (r : Fault) → decimalsAnswer at (take 3 s) ≡ decimals-refused r → securedAnswer at s ≡ part-refused r
+  pub secured-undecimal : (r : Refusal) → decimalsAnswer at (take 3 s) ≡ decimals-refused r → securedAnswer at s ≡ part-refused r
   unfolding securedAnswer asPart decimalsAnswer
   secured-undecimal r e =
       ap (asPart (bodyTally s)) (past-cut ∙ decimals-then at (take 3 s) (take 3 s) _ ∙ then-stop _ r (decimals-stopped _ r e))
@@ -77,7 +77,7 @@ module _ (at : ℕ) (s : List ℕ) (h : 3 ≤ length s) where
         ap (asPart (bodyTally s)) (past-cut ∙ decimals-then at (take 3 s) (take 3 s) _ ∙ then-on _ (g .0) (g .1))
         ∙ fields-part (take 3 s) s (drop 3 s) (at + 3) (bytes-drop 3 s bs)
 
-    pub secured-stopped : (r : Fault) → listAnswer (at + 3) (take (length s - 3) (drop 3 s)) ≡ part-refused r
+    pub secured-stopped : (r : Refusal) → listAnswer (at + 3) (take (length s - 3) (drop 3 s)) ≡ part-refused r
         → securedAnswer at s ≡ part-refused r
     unfolding listAnswer asPart
     secured-stopped r f = secured-on ∙ ap (asPart (sizedTally (length s))) (part-stopped (listTally (drop 3 s)) rest r (rw tail at f))

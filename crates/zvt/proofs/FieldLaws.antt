@@ -7,7 +7,7 @@ use native.Mathlib.Omega.{arith}
 use lib.ListN.{length, getD, take, drop, length-drop}
 use lib.Dec.{leb}
 use borrow.Author.Tests.{leb-true}
-use Rattle.zvt_rules.specs.declared.Fault.{Fault}
+use Rattle.zvt_rules.specs.declared.Refusal.{Refusal}
 use Rattle.zvt_rules.specs.declared.Format.{Format}
 use Rattle.zvt_rules.specs.declared.Format.the-variants.{Unknown, Fixed, Digits, Container}
 use Rattle.zvt_rules.specs.Reading.{Reading, got, refused, no, unless, andThen, among, part}
@@ -40,7 +40,7 @@ unfolding asDecimals
 decimals-got (got t) e = (t, refl)
 decimals-got (refused r) e = absurd (let z : _≡_ {A = ℕ} 0 1 = cc in omega arith)
 
-pub decimals-stopped : (x : Reading (List ℕ)) (r : Fault) → asDecimals x ≡ decimals-refused r → x ≡ refused r
+pub decimals-stopped : (x : Reading (List ℕ)) (r : Refusal) → asDecimals x ≡ decimals-refused r → x ≡ refused r
 unfolding asDecimals
 decimals-stopped (got t) r e = absurd (let z : _≡_ {A = ℕ} 0 1 = cc in omega arith)
 decimals-stopped (refused q) r e = cc
@@ -67,7 +67,7 @@ module _ (n at : ℕ) (b : Bounds) (s : List ℕ) where
       let g = decimals-got _ f in
       ap (asPart fieldTally) (pick-true _ _ e ∙ decimals-then _ value value _ ∙ then-on _ (g .0) (g .1)) ∙ rw plain-spare
 
-  pub plain-stopped : (r : Fault) → holdsDigits (getD s 0 0) ≡ true → decimalsAnswer (at + b .from) value ≡ decimals-refused r
+  pub plain-stopped : (r : Refusal) → holdsDigits (getD s 0 0) ≡ true → decimalsAnswer (at + b .from) value ≡ decimals-refused r
       → plainAnswer n at b s ≡ part-refused r
   unfolding plainAnswer digitsIn asPart decimalsAnswer
   plain-stopped r e f = ap (asPart fieldTally) (pick-true _ _ e ∙ decimals-then _ value value _ ∙ then-stop _ r (decimals-stopped _ r f))
@@ -89,7 +89,7 @@ unfolding asDigits
 digits-got (got w) v e = cc
 digits-got (refused r) v e = absurd (let z : _≡_ {A = ℕ} 0 1 = cc in omega arith)
 
-digits-stopped : (x : Reading ℕ) (r : Fault) → asDigits x ≡ digits-refused r → x ≡ refused r
+digits-stopped : (x : Reading ℕ) (r : Refusal) → asDigits x ≡ digits-refused r → x ≡ refused r
 unfolding asDigits
 digits-stopped (got w) r e = absurd (let z : _≡_ {A = ℕ} 0 1 = cc in omega arith)
 digits-stopped (refused q) r e = cc
@@ -116,7 +116,7 @@ module _ (at : ℕ) (s : List ℕ) where
   bounds-fixed k e = by-format (Fixed k) e
 
   module _ (d : ℕ) (f : formatOf (getD s 0 0) ≡ Digits d) where
-    pub bounds-no-digits : (r : Fault) → digitsAnswer d (at + 1) rest ≡ digits-refused r → fieldBounds at s ≡ bounds-refused r
+    pub bounds-no-digits : (r : Refusal) → digitsAnswer d (at + 1) rest ≡ digits-refused r → fieldBounds at s ≡ bounds-refused r
     unfolding boundsBy asBounds digitsAnswer
     bounds-no-digits r e = by-format (Digits d) f ∙ ap asBounds (then-stop _ r (digits-stopped _ r (rw tail at e)))
 
@@ -129,7 +129,7 @@ module _ (at : ℕ) (s : List ℕ) where
         )
 
   module _ (f : formatOf (getD s 0 0) ≡ Container) where
-    pub bounds-no-length : (r : Fault) → lenAnswer (at + 1) rest ≡ len-refused r → fieldBounds at s ≡ bounds-refused r
+    pub bounds-no-length : (r : Refusal) → lenAnswer (at + 1) rest ≡ len-refused r → fieldBounds at s ≡ bounds-refused r
     unfolding boundsBy asBounds lenAnswer
     bounds-no-length r e = by-format Container f ∙ ap asBounds (then-stop _ r (len-stopped _ r (rw tail at e)))
 

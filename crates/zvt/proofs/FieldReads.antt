@@ -6,7 +6,7 @@ use Prim.Native.Nat.{ℕ, _+_, _≤_}
 use native.Mathlib.Omega.{arith}
 use lib.ListN.{length, getD, drop}
 use borrow.Author.Tests.{ltb-false}
-use Rattle.zvt_rules.specs.declared.Fault.{Fault}
+use Rattle.zvt_rules.specs.declared.Refusal.{Refusal}
 use Rattle.zvt_rules.specs.declared.Format.{Format}
 use Rattle.zvt_rules.specs.declared.Format.the-variants.{Unknown, Fixed, Digits, Container}
 use Rattle.zvt_rules.specs.Reading.{Reading, got, refused, no, unless, andThen, part}
@@ -30,12 +30,12 @@ use Rattle.zvt.specs.FieldSteps.{boundsBy, fieldBounds, spareField, fiel
 use Rattle.zvt.proofs.RunLaws.{part-got, part-stopped, spare-read, tally-is, Fits, tally-fits}
 
 -- ---- readings that stop alike
-cut-alike : {A B : Type 0} (t : Bool) (q r : Fault) (x : A) (y : B) → unless t q (got x) ≡ refused r → unless t q (got y) ≡ refused r
+cut-alike : {A B : Type 0} (t : Bool) (q r : Refusal) (x : A) (y : B) → unless t q (got x) ≡ refused r → unless t q (got y) ≡ refused r
 unfolding unless
 cut-alike true q r x y e = cc
 cut-alike false q r x y e = absurd (got-not-refused e)
 
-both-stop : {A B C : Type 0} (x : Reading A) (f : A → Reading B) (g : A → Reading C) (r : Fault)
+both-stop : {A B C : Type 0} (x : Reading A) (f : A → Reading B) (g : A → Reading C) (r : Refusal)
     → ((a : A) → f a ≡ refused r → g a ≡ refused r) → andThen x f ≡ refused r → andThen x g ≡ refused r
 unfolding andThen
 both-stop (got a) f g r h e = h a e
@@ -47,13 +47,13 @@ unfolding asBounds
 found (got a) b e = cc
 found (refused r) b e = absurd (let z : _≡_ {A = ℕ} 0 1 = cc in omega arith)
 
-not-found : (x : Reading Bounds) (r : Fault) → asBounds x ≡ bounds-refused r → x ≡ refused r
+not-found : (x : Reading Bounds) (r : Refusal) → asBounds x ≡ bounds-refused r → x ≡ refused r
 unfolding asBounds
 not-found (got a) r e = absurd (let z : _≡_ {A = ℕ} 0 1 = cc in omega arith)
 not-found (refused q) r e = cc
 
 module _ (at a v : ℕ) (run : Bool) (s : List ℕ) where
-  no-value : (r : Fault) → boundsIn at 1 a v run s ≡ refused r → valueOf at a v s ≡ refused r
+  no-value : (r : Refusal) → boundsIn at 1 a v run s ≡ refused r → valueOf at a v s ≡ refused r
   unfolding boundsIn valueOf
   no-value r e = cut-alike _ _ r _ _ e
 
@@ -76,7 +76,7 @@ by-lies at s Container b e =
     let k = then-got (lenOf (at + 1) (drop 1 s)) _ b e in lies-found at (1 + formSize (k .0 .form)) (k .0 .value) true s b (k .2)
 
 module _ (id n at : ℕ) (s : List ℕ) where
-  by-stopped : (f : Format) (r : Fault) → boundsBy at s f ≡ refused r → fieldBy id n at s f ≡ refused r
+  by-stopped : (f : Format) (r : Refusal) → boundsBy at s f ≡ refused r → fieldBy id n at s f ≡ refused r
   unfolding boundsBy fieldBy plainOf containerOf
   by-stopped Unknown r e = cc
   by-stopped (Fixed k) r e = then-stop _ r (no-value at 1 k false s r e)
@@ -163,7 +163,7 @@ module _ (twice : Bool) (n at : ℕ) (s : List ℕ) (once : twice ≡ false) whe
   unfolding fieldPart fieldWhen
   by-format x e = ap (asPart fieldTally) (rw once (when-by (getD s 0 0) n at s format) ∙ e)
 
-  pub field-no-bounds : (r : Fault) → fieldBounds at s ≡ bounds-refused r → fieldPart twice n at s ≡ part-refused r
+  pub field-no-bounds : (r : Refusal) → fieldBounds at s ≡ bounds-refused r → fieldPart twice n at s ≡ part-refused r
   unfolding fieldBounds asPart
   field-no-bounds r e = by-format _ (by-stopped (getD s 0 0) n at s format r (not-found _ r e))
 
@@ -180,7 +180,7 @@ module _ (twice : Bool) (n at : ℕ) (s : List ℕ) (once : twice ≡ false) whe
     unfolding fieldBounds
     contained = by-container (getD s 0 0) n at s format b (found _ b bounds) h
 
-    pub field-no-inner : (r : Fault) → inner ≡ part-refused r → fieldPart twice n at s ≡ part-refused r
+    pub field-no-inner : (r : Refusal) → inner ≡ part-refused r → fieldPart twice n at s ≡ part-refused r
     unfolding runAnswer asPart
     field-no-inner r e = by-format _ (contained .then ∙ then-stop _ r (part-stopped _ _ r e))
 

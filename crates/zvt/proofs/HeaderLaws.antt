@@ -7,8 +7,8 @@ use native.Mathlib.Omega.{arith}
 use lib.ListN.{length, getD}
 use lib.Dec.{ltb}
 use borrow.Author.Tests.{lt-ltb, le-ltb, ne-eqb}
-use Rattle.zvt_rules.specs.declared.Fault.{Fault}
-use Rattle.zvt_rules.specs.Reading.{Reading, got, refused, noHeader, unless, andThen}
+use Rattle.zvt_rules.specs.declared.Refusal.{Refusal}
+use Rattle.zvt_rules.specs.Reading.{Reading, got, refused, unplaced, unless, andThen}
 use Rattle.zvt_rules.specs.Limits.{mostBody}
 use Rattle.zvt_rules.specs.Message.{BodyLength, longLength, lengthOf, Heading, end, headerWith, headerOf, wholeHeader}
 use Rattle.zvt_rules.proofs.Readings.{unless-got, then-got, then-on, then-stop, unless-then}
@@ -16,15 +16,15 @@ use Rattle.zvt_rules.proofs.FieldReading.{header-most, header-in}
 use Rattle.zvt_rules.specs.declared.Header.{Header}
 use Rattle.zvt.specs.declared.headers.HeaderRead.the-variants.{Header as header-read, Refused as header-refused}
 use Rattle.zvt.specs.HeaderSteps.{asHeader, fitting, inCode, firstHeader, wholeAnswer}
-use Rattle.zvt_rules.specs.Answers.{refusalOf, headerIn, asHeaderAnswer, headerAnswer}
+use Rattle.zvt_rules.specs.Answers.{headerIn, asHeaderAnswer, headerAnswer}
 use Rattle.zvt_rules.specs.declared.HeaderAnswer.the-variants.{Header as answer-got, Refused as answer-no}
 
 -- ---- where the body lies
-pub fit-over : (h : Header) (s : List ℕ) → mostBody < h .length → fitting h s ≡ header-refused (noHeader 2)
+pub fit-over : (h : Header) (s : List ℕ) → mostBody < h .length → fitting h s ≡ header-refused (unplaced 2)
 unfolding fitting asHeader unless
 fit-over h s o = rw (lt-ltb mostBody (h .length) o)
 
-pub fit-cut : (h : Header) (s : List ℕ) → h .length ≤ mostBody → length s < h .start + h .length → fitting h s ≡ header-refused (noHeader 1)
+pub fit-cut : (h : Header) (s : List ℕ) → h .length ≤ mostBody → length s < h .start + h .length → fitting h s ≡ header-refused (unplaced 1)
 unfolding fitting asHeader unless
 fit-cut h s o l = rw (le-ltb mostBody (h .length) o, lt-ltb (length s) (h .start + h .length) l)
 
@@ -45,7 +45,7 @@ unfolding headerOf
 by-length c i s l e =
     ap inCode (then-on _ l e) ∙ with-fitting c i (c ∷ (i ∷ s)) l
 
-pub header-none : (s : List ℕ) → length s < 3 → firstHeader s ≡ header-refused (noHeader 1)
+pub header-none : (s : List ℕ) → length s < 3 → firstHeader s ≡ header-refused (unplaced 1)
 unfolding asHeader headerOf lengthOf andThen
 header-none [] h = refl
 header-none (c ∷ []) h = refl
@@ -60,7 +60,7 @@ header-short (c ∷ []) h n = absurd (omega arith)
 header-short (c ∷ (i ∷ [])) h n = absurd (omega arith)
 header-short (c ∷ (i ∷ (b ∷ s))) h n = by-length c i (b ∷ s) (record { long = false; value = b }) (rw (ne-eqb b 0xFF n))
 
-pub header-cut : (s : List ℕ) → 3 ≤ length s → getD s 2 0 ≡ 0xFF → length s < 5 → firstHeader s ≡ header-refused (noHeader 1)
+pub header-cut : (s : List ℕ) → 3 ≤ length s → getD s 2 0 ≡ 0xFF → length s < 5 → firstHeader s ≡ header-refused (unplaced 1)
 unfolding asHeader headerOf lengthOf longLength andThen
 header-cut [] h e l = absurd (omega arith)
 header-cut (c ∷ []) h e l = absurd (omega arith)
@@ -86,7 +86,7 @@ unfolding asHeader andThen
 as-got (got m) h e = (m, refl, cc)
 as-got (refused r) h e = absurd (let z : _≡_ {A = ℕ} 0 1 = cc in omega arith)
 
-pub as-stopped : (x : Reading Heading) (r : Fault) → inCode x ≡ header-refused r → x ≡ refused r
+pub as-stopped : (x : Reading Heading) (r : Refusal) → inCode x ≡ header-refused r → x ≡ refused r
 unfolding asHeader andThen
 as-stopped (got m) r e = absurd (let z : _≡_ {A = ℕ} 0 1 = cc in omega arith)
 as-stopped (refused q) r e = cc
@@ -113,19 +113,19 @@ pub whole-within : (s : List ℕ) (h : Header) → wholeAnswer s ≡ header-read
 whole-within s h e = let g = as-got (wholeHeader s) h e in rw (← (g .2)) (got-within s (g .0) (whole-first s (g .0) (g .1)))
 
 -- ---- nothing behind the body
-pub whole-none : (s : List ℕ) (r : Fault) → firstHeader s ≡ header-refused r → wholeAnswer s ≡ header-refused r
+pub whole-none : (s : List ℕ) (r : Refusal) → firstHeader s ≡ header-refused r → wholeAnswer s ≡ header-refused r
 unfolding asHeader wholeHeader
 whole-none s r e = ap asHeader (then-stop _ r (then-stop _ r (as-stopped (headerOf s) r e)))
 
 whole-goes-on : (s : List ℕ) (h : Header) → firstHeader s ≡ header-read h
-    → wholeAnswer s ≡ asHeader (unless (ltb (h .start + h .length) (length s)) (noHeader 3) (got h))
+    → wholeAnswer s ≡ asHeader (unless (ltb (h .start + h .length) (length s)) (unplaced 3) (got h))
 unfolding wholeHeader headerIn andThen
 whole-goes-on s h e =
     let g = as-got (headerOf s) h e in
     rw (← (g .2)) (ap inCode (then-on _ (g .0) (g .1)) ∙ ap asHeader (unless-then _ _ _ _))
 
 pub whole-over : (s : List ℕ) (h : Header) → firstHeader s ≡ header-read h → h .length < length s - h .start
-    → wholeAnswer s ≡ header-refused (noHeader 3)
+    → wholeAnswer s ≡ header-refused (unplaced 3)
 unfolding asHeader unless
 whole-over s h e l = whole-goes-on s h e ∙ rw (lt-ltb (h .start + h .length) (length s) (omega arith))
 
@@ -134,9 +134,9 @@ unfolding asHeader unless
 whole-in s h e l = whole-goes-on s h e ∙ rw (le-ltb (h .start + h .length) (length s) (omega arith))
 
 -- ---- the public answer
-pub answer-refused : (s : List ℕ) (r : Fault) → wholeAnswer s ≡ header-refused r
-    → headerAnswer s ≡ answer-no (record { number = r .number })
-unfolding headerAnswer asHeaderAnswer refusalOf
+pub answer-refused : (s : List ℕ) (r : Refusal) → wholeAnswer s ≡ header-refused r
+    → headerAnswer s ≡ answer-no r
+unfolding headerAnswer asHeaderAnswer
 answer-refused s r e = ap asHeaderAnswer (as-stopped (wholeHeader s) r e)
 
 pub answer-header : (s : List ℕ) (h : Header) → wholeAnswer s ≡ header-read h → headerAnswer s ≡ answer-got h

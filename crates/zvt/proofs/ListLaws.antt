@@ -9,7 +9,7 @@ use lib.ListN.{length, getD, take, drop, set, length-set, replicate, length-repl
 use lib.Seq.{getD-set-same, getD-set-other, getD-drop, drop-drop, length-take-le}
 use lib.Dec.{eqb}
 use borrow.Author.Tests.{eqb-true, eqb-false}
-use Rattle.zvt_rules.specs.declared.Fault.{Fault}
+use Rattle.zvt_rules.specs.declared.Refusal.{Refusal}
 use Rattle.zvt_rules.specs.Reading.{got, among}
 use Rattle.zvt_rules.specs.Fields.{Field, FieldRead, ListRead, fieldOf, listOf}
 use Rattle.zvt_rules.specs.believed.Writing.{fieldBytes, listBytes}
@@ -65,7 +65,7 @@ module _ (ids : List ℕ) (twice : Bool) (n at : ℕ) (s : List ℕ) (seen : twi
   unfolding fieldWhen fieldOf
   field-is = rw seen
 
-  list-no-first : 0 < length s → (r : Fault) → fieldPart twice n at s ≡ part-refused r → (f : ListRead → Tally)
+  list-no-first : 0 < length s → (r : Refusal) → fieldPart twice n at s ≡ part-refused r → (f : ListRead → Tally)
       → asPart f (listOf ids n at s) ≡ part-refused r
   unfolding fieldPart asPart
   list-no-first l r e f = ap (asPart f) (list-step ids n at s l ∙ then-stop _ r (sym field-is ∙ part-stopped _ _ r e))
@@ -133,7 +133,7 @@ module _ (at : ℕ) (s : List ℕ) where
       is-seen : twice ≡ among ids (getD (drop i s) 0 0)
       is-seen = rw (getD-drop i s 0 0, add-zero) seen
 
-      pub list-stops : (r : Fault) → next ≡ part-refused r → listFrom ids n i spare ≡ part-refused r
+      pub list-stops : (r : Refusal) → next ≡ part-refused r → listFrom ids n i spare ≡ part-refused r
       list-stops r e = list-no-first ids twice n (at + i) (drop i s) is-seen some r (rw tail at e) _
 
       pub list-goes-on : Bytes s → (t : Tally) → next ≡ Part t → GoesOn t

@@ -7,7 +7,7 @@ use native.Mathlib.Omega.{arith}
 use lib.ListN.{length, getD, take, drop, length-drop}
 use lib.Seq.{length-take-le, take-add, take-take, drop-at, drop-drop, getD-take, getD-drop}
 use borrow.Author.Tests.{eq-eqb, ne-eqb}
-use Rattle.zvt_rules.specs.declared.Fault.{Fault}
+use Rattle.zvt_rules.specs.declared.Refusal.{Refusal}
 use Rattle.zvt_rules.specs.Reading.{got, part}
 use Rattle.zvt_rules.specs.Fields.{Field, fieldId, listOf}
 use Rattle.zvt_rules.specs.believed.Writing.{fieldBytes, fieldValue}
@@ -108,7 +108,7 @@ module _ (at end : ℕ) (s : List ℕ) (b : Bytes s) (h : ListIn at end s) (n : 
       rw (← same) (f .order, f .within, record { some = omega (arith, f .some); rest = f .rest; all = f .all })
 
   -- and are never refused
-  pub first-never : (r : Fault) → fieldBounds 0 (part at end s) ≡ bounds-refused r → ⊥
+  pub first-never : (r : Refusal) → fieldBounds 0 (part at end s) ≡ bounds-refused r → ⊥
   first-never r e = let z : _≡_ {A = ℕ} 0 1 = cc (first-in at end s b h (omega (arith, h .order)) .read) in omega arith
 
 -- ---- what stands at a place says of the whole list

@@ -7,7 +7,7 @@ use native.Mathlib.Omega.{arith}
 use lib.ListN.{length}
 use lib.Dec.{leb, eqb}
 use borrow.Author.Tests.{eq-eqb, ne-eqb, le-leb, lt-leb}
-use Rattle.zvt_rules.specs.declared.Fault.{Fault}
+use Rattle.zvt_rules.specs.declared.Refusal.{Refusal}
 use Rattle.zvt_rules.specs.declared.Layout.{Layout}
 use Rattle.zvt_rules.specs.Reading.{Reading, got, refused, andThen, part}
 use Rattle.zvt_rules.specs.Message.{Heading, headerSize, start, end, layoutOf, Body, bodyOf, Message, messageOf, headerOf, countOf}
@@ -74,7 +74,7 @@ module _ (s : List ℕ) (m : Heading) where
   abbrev layout : Layout
   layout = layoutOf (m .class) (m .instruction)
 
-  message-stopped : (r : Fault) → bodyIn (headerIn m) s ≡ part-refused r → messageOf s m ≡ refused r
+  message-stopped : (r : Refusal) → bodyIn (headerIn m) s ≡ part-refused r → messageOf s m ≡ refused r
   unfolding bodyIn headerIn bodyAnswer messageOf
   message-stopped r e = then-stop _ r (part-stopped (bodyTally inside) (bodyOf (start m) inside layout) r e)
 
@@ -104,11 +104,11 @@ module _ (s : List ℕ) (x : Reading Heading) where
   abbrev behind : Reading Message
   behind = andThen x λ m. messageOf s m
 
-  pub no-header : (r : Fault) → inCode x ≡ header-refused r → behind ≡ refused r
+  pub no-header : (r : Refusal) → inCode x ≡ header-refused r → behind ≡ refused r
   no-header r e = then-stop _ r (as-stopped x r e)
 
   module _ (h : Header) (e : inCode x ≡ header-read h) where
-    pub no-body : (r : Fault) → bodyIn h s ≡ part-refused r → behind ≡ refused r
+    pub no-body : (r : Refusal) → bodyIn h s ≡ part-refused r → behind ≡ refused r
     no-body r f = let g = as-got x h e in then-on _ (g .0) (g .1) ∙ message-stopped s (g .0) r (rw (g .2) f)
 
     pub accepted : ((m : Heading) → x ≡ got m → headerOf s ≡ got m) → Bytes s → (t : Tally) → bodyIn h s ≡ Part t

@@ -6,7 +6,7 @@ use Prim.Native.Nat.{ℕ, _+_, _-_, _*_, _<_, _≤_}
 use native.Mathlib.Omega.{arith}
 use lib.ListN.{length, getD, take, drop, length-drop}
 use borrow.Author.Tests.{lt-ltb, le-ltb, ne-eqb}
-use Rattle.zvt_rules.specs.declared.Fault.{Fault}
+use Rattle.zvt_rules.specs.declared.Refusal.{Refusal}
 use Rattle.zvt_rules.specs.Reading.{Reading, got, refused, no, unless, andThen}
 use Rattle.zvt_rules.specs.Objects.{longTag, topBit, nested, formSize, secondTag, tagSize, Len, oneByteLen, twoByteLen, lenOf}
 use Rattle.zvt_rules.specs.Objects.{Head, headWith, headOf}
@@ -95,7 +95,7 @@ len-two at (b ∷ (v ∷ [])) h e = absurd (omega arith)
 len-two at (b ∷ (v ∷ (w ∷ s))) h e = rw e
 
 pub len-bad : (at : ℕ) (s : List ℕ) → 0 < length s → 0x80 ≤ getD s 0 0 → (getD s 0 0 ≡ 0x81 → ⊥) → (getD s 0 0 ≡ 0x82 → ⊥)
-    → lenAnswer at s ≡ len-refused (no 4 at)
+    → lenAnswer at s ≡ len-refused (no 22 at)
 unfolding lenAnswer asLen lenOf
 len-bad at [] h l e f = absurd (omega arith)
 len-bad at (b ∷ s) h l e f = rw (le-ltb b 0x80 l, ne-eqb b 0x81 e, ne-eqb b 0x82 f)
@@ -117,7 +117,7 @@ unfolding asTag
 tag-got (got j) k e = cc
 tag-got (refused r) k e = absurd (let z : _≡_ {A = ℕ} 0 1 = cc in omega arith)
 
-pub tag-stopped : (x : Reading ℕ) (r : Fault) → asTag x ≡ tag-refused r → x ≡ refused r
+pub tag-stopped : (x : Reading ℕ) (r : Refusal) → asTag x ≡ tag-refused r → x ≡ refused r
 unfolding asTag
 tag-stopped (got j) r e = absurd (let z : _≡_ {A = ℕ} 0 1 = cc in omega arith)
 tag-stopped (refused q) r e = cc
@@ -127,7 +127,7 @@ unfolding asLen
 len-got (got l) size v e = (l, refl, cc, cc)
 len-got (refused r) size v e = absurd (let z : _≡_ {A = ℕ} 0 1 = cc in omega arith)
 
-pub len-stopped : (x : Reading Len) (r : Fault) → asLen x ≡ len-refused r → x ≡ refused r
+pub len-stopped : (x : Reading Len) (r : Refusal) → asLen x ≡ len-refused r → x ≡ refused r
 unfolding asLen
 len-stopped (got l) r e = absurd (let z : _≡_ {A = ℕ} 0 1 = cc in omega arith)
 len-stopped (refused q) r e = cc
@@ -141,7 +141,7 @@ pub tag-within : (at k : ℕ) (s : List ℕ) → tagAnswer at s ≡ Size k → (
 unfolding tagAnswer
 tag-within at k s e = tag-in at s k (tag-got _ k e)
 
-pub head-no-tag : (at : ℕ) (s : List ℕ) (r : Fault) → tagAnswer at s ≡ tag-refused r → headAnswer at s ≡ bounds-refused r
+pub head-no-tag : (at : ℕ) (s : List ℕ) (r : Refusal) → tagAnswer at s ≡ tag-refused r → headAnswer at s ≡ bounds-refused r
 unfolding headAnswer asBounds headOf tagAnswer
 head-no-tag at s r e = ap asBounds (then-stop _ r (then-stop _ r (tag-stopped _ r e)))
 
@@ -162,7 +162,7 @@ module _ (at k : ℕ) (s : List ℕ) (tag : tagAnswer at s ≡ Size k) where
   unfolding headOf tagAnswer
   past-tag = then-on _ k (tag-got _ k tag)
 
-  pub head-no-length : (r : Fault) → lenAnswer (at + k) (take (length s - k) (drop k s)) ≡ len-refused r → headAnswer at s ≡ bounds-refused r
+  pub head-no-length : (r : Refusal) → lenAnswer (at + k) (take (length s - k) (drop k s)) ≡ len-refused r → headAnswer at s ≡ bounds-refused r
   unfolding headAnswer asBounds
   head-no-length r e = ap asBounds (then-stop _ r (past-tag ∙ then-stop _ r (len-stopped _ r (rest-len (at + k) k s _ e))))
 

@@ -9,7 +9,7 @@ use lib.ListN.{length, drop, length-append}
 use lib.Dec.{eqb}
 use borrow.Author.Tests.{ne-eqb}
 use lib.Seq.{drop-append-seam, drop-drop}
-use Rattle.zvt_rules.specs.declared.Fault.{Fault}
+use Rattle.zvt_rules.specs.declared.Refusal.{Refusal}
 use Rattle.zvt_rules.specs.declared.Layout.{Layout}
 use Rattle.zvt_rules.specs.declared.Layout.the-variants.{Plain, List as FieldList, Secured}
 use Rattle.zvt_rules.specs.Reading.{Reading, got, refused, pick, part, among}
@@ -23,7 +23,7 @@ use Rattle.zvt_rules.proofs.FieldBytes.{list-complete}
 use Rattle.zvt_rules.proofs.FieldReading.{header-most, list-none}
 use Rattle.zvt_rules.proofs.MessageBytes.{read-sound, message-size}
 use Rattle.zvt_rules.proofs.MessageShort.{fields-ok, length-bound}
-use Rattle.zvt_rules.specs.declared.Refusal.{Refusal}
+use Rattle.zvt_rules.proofs.AnswerLaws.{read-refused-exactly}
 use Rattle.zvt_rules.specs.declared.Outline.{Outline}
 use Rattle.zvt_rules.specs.declared.ReadAnswer.the-variants.{Accepted, Refused}
 use Rattle.zvt_rules.specs.declared.Listed.{Listed}
@@ -81,9 +81,9 @@ module _ (s : List ℕ) (m : Message) (b : Bytes s) (e : readOf s ≡ got m) whe
           rw (a, z) (k .0, k .1, ap (listedFrom (at + length password)) (k .1))
 
 -- no list, no fields
-unplaced : (m : Message) → messagePlace (got m) ≡ Nowhere → (bodyFields (m .body) ≡ []) × (listedMessage (got m) ≡ [])
+has-no-list : (m : Message) → messagePlace (got m) ≡ Nowhere → (bodyFields (m .body) ≡ []) × (listedMessage (got m) ≡ [])
 unfolding messagePlace bodyPlace bodyFields listedMessage listedBody
-unplaced m h = go (m .body) h
+has-no-list m h = go (m .body) h
   where
     go : (x : Body) → bodyPlace (headerSize (m .long)) x (length (messageBytes m)) ≡ Nowhere → (bodyFields x ≡ []) × (listedBody (headerSize (m .long)) x ≡ [])
     go (bytes w) g = (refl, refl)
@@ -120,22 +120,14 @@ accepted s x h = go (readOf s) refl h
     go (got m) q g = (m, q, cc)
     go (refused f) q g = absurd (let z : _≡_ {A = ℕ} 0 1 = cc in omega arith)
 
-pub not-accepted : (s : List ℕ) (r : Refusal) → readAnswer s ≡ Refused r → (f : Fault) × (readOf s ≡ refused f)
-unfolding readAnswer asReadAnswer
-not-accepted s r h = go (readOf s) refl h
-  where
-    go : (y : Reading Message) → readOf s ≡ y → asReadAnswer y ≡ Refused r → (f : Fault) × (readOf s ≡ refused f)
-    go (got m) q g = absurd (let z : _≡_ {A = ℕ} 0 1 = cc in omega arith)
-    go (refused f) q g = (f, q)
-
 module _ (s : List ℕ) (r : Refusal) (e : readAnswer s ≡ Refused r) where
   pub no-place : Nowhere ≡ listPlace s
   unfolding listPlace messagePlace
-  no-place = rw (not-accepted s r e .1)
+  no-place = rw (read-refused-exactly s r .0 e)
 
   pub no-status : Nowhere ≡ statusPlace s
   unfolding statusPlace placeOfStatus
-  no-status = rw (not-accepted s r e .1)
+  no-status = rw (read-refused-exactly s r .0 e)
 
 module _ (s : List ℕ) (x : Outline) (w : Was s x) where
   pub start-small : x .start ≤ 5
@@ -185,7 +177,7 @@ unfolding listPlace listedMessage
 list-nowhere s e h = go (readOf s) (sym e ∙ h)
   where
     go : (y : Reading Message) → messagePlace y ≡ Nowhere → listedMessage y ≡ []
-    go (got m) g = unplaced m g .1
+    go (got m) g = has-no-list m g .1
     go (refused f) g = refl
 
 -- no bytes are a list without fields
@@ -218,7 +210,7 @@ none-of s p e =
 
 pub no-parts : (s : List ℕ) (r : Refusal) → readAnswer s ≡ Refused r → PartsOf noParts s
 unfolding passwordSpan
-no-parts s r e = none-of s (rw (not-accepted s r e .1)) (no-place s r e)
+no-parts s r e = none-of s (rw (read-refused-exactly s r .0 e)) (no-place s r e)
 
 module _ (s : List ℕ) (x : Outline) (w : Was s x) where
   some : length s ≡ 0 → ⊥
@@ -275,7 +267,7 @@ status-nowhere s h = go (readOf s) h
   where
     by : (m : Message) (t : Bool) → pick t (messagePlace (got m)) Nowhere ≡ Nowhere
         → (pick t (bodyFields (m .body)) [] ≡ []) × (pick t (nameIn s (namedListed 0x8B (listedMessage (got m)))) own ≡ own)
-    by m true g = let k = unplaced m g in (k .0, ap (λ (ls : List Listed). nameIn s (namedListed 0x8B ls)) (k .1))
+    by m true g = let k = has-no-list m g in (k .0, ap (λ (ls : List Listed). nameIn s (namedListed 0x8B ls)) (k .1))
     by m false g = (refl, refl)
 
     go : (y : Reading Message) → placeOfStatus y ≡ Nowhere → (statusFields y ≡ []) × (nameOf s y ≡ own)

@@ -8,7 +8,7 @@ use native.Mathlib.Omega.{arith}
 use lib.ListN.{length, getD, take, drop, length-append, length-drop}
 use lib.Seq.{drop-drop, length-take-le}
 use borrow.Author.Tests.{le-leb, lt-leb, eq-eqb, ne-eqb}
-use Rattle.zvt_rules.specs.declared.Fault.{Fault}
+use Rattle.zvt_rules.specs.declared.Refusal.{Refusal}
 use Rattle.zvt_rules.specs.Reading.{Reading, got, refused, no, unless, andThen, part}
 use Rattle.zvt_rules.specs.Limits.{mostObjects}
 use Rattle.zvt_rules.specs.Objects.{nested, Form, formSize, Head, from, to, headOf}
@@ -37,7 +37,7 @@ unfolding asPart
 part-got f (got a) P h t e = subst P (let g : f a ≡ t = cc in g) (h a refl)
 part-got f (refused r) P h t e = absurd (let z : _≡_ {A = ℕ} 0 1 = cc in omega arith)
 
-pub part-stopped : {A : Type 0} (f : A → Tally) (x : Reading A) (r : Fault) → asPart f x ≡ part-refused r → x ≡ refused r
+pub part-stopped : {A : Type 0} (f : A → Tally) (x : Reading A) (r : Refusal) → asPart f x ≡ part-refused r → x ≡ refused r
 unfolding asPart
 part-stopped f (got a) r e = absurd (let z : _≡_ {A = ℕ} 0 1 = cc in omega arith)
 part-stopped f (refused q) r e = cc
@@ -51,7 +51,7 @@ unfolding asBounds andThen
 bounds-got s (got h) P f b e = subst P (let g : boundsOf s h ≡ b = cc in g) (f h refl)
 bounds-got s (refused r) P f b e = absurd (let z : _≡_ {A = ℕ} 0 1 = cc in omega arith)
 
-bounds-stopped : (s : List ℕ) (x : Reading Head) (r : Fault) → boundsFrom s x ≡ bounds-refused r → x ≡ refused r
+bounds-stopped : (s : List ℕ) (x : Reading Head) (r : Refusal) → boundsFrom s x ≡ bounds-refused r → x ≡ refused r
 unfolding asBounds andThen
 bounds-stopped s (got h) r e = absurd (let z : _≡_ {A = ℕ} 0 1 = cc in omega arith)
 bounds-stopped s (refused q) r e = cc
@@ -116,7 +116,7 @@ abbrev tallyFrom : ℕ → ℕ → RunRead → Tally
 tallyFrom size spare r = record { size = size; objects = r .count; spare = spare + spareRun (r .objs) }
 
 module _ (left n at : ℕ) (s : List ℕ) (some : 0 < length s) where
-  run-no-first : (r : Fault) → oneAnswer left n at s ≡ part-refused r → (f : RunRead → Tally) → asPart f (runOf left n at s) ≡ part-refused r
+  run-no-first : (r : Refusal) → oneAnswer left n at s ≡ part-refused r → (f : RunRead → Tally) → asPart f (runOf left n at s) ≡ part-refused r
   unfolding oneAnswer asPart
   run-no-first r e f = ap (asPart f) (run-step left n at s some ∙ then-stop _ r (part-stopped _ _ r e))
 
@@ -178,7 +178,7 @@ module _ (left at : ℕ) (s : List ℕ) where
       some : 0 < length (drop i s)
       some = omega (arith, length-drop i s)
 
-      pub run-stops : (r : Fault) → next ≡ part-refused r → runFrom n i spare ≡ part-refused r
+      pub run-stops : (r : Refusal) → next ≡ part-refused r → runFrom n i spare ≡ part-refused r
       run-stops r e = run-no-first left n (at + i) (drop i s) some r (rw tail at e) _
 
       pub run-goes-on : Bytes s → (t : Tally) → next ≡ Part t → GoesOn t
@@ -253,7 +253,7 @@ module _ (left n at : ℕ) (s : List ℕ) (room : n < mostObjects) (deep : left 
   unfolding unless
   at-head = rw (one-step left n at s, lt-leb mostObjects n room, ne-eqb left 0 deep)
 
-  pub one-no-head : (r : Fault) → headAnswer at s ≡ bounds-refused r → oneAnswer left n at s ≡ part-refused r
+  pub one-no-head : (r : Refusal) → headAnswer at s ≡ bounds-refused r → oneAnswer left n at s ≡ part-refused r
   unfolding headAnswer oneAnswer asPart
   one-no-head r e = ap (asPart oneTally) (at-head ∙ then-stop _ r (bounds-stopped s _ r e))
 
@@ -270,12 +270,12 @@ module _ (left n at : ℕ) (s : List ℕ) (room : n < mostObjects) (deep : left 
       bounds-got s (headOf at s) (λ b. b .nested ≡ false → Answered left n at s b (n + 1) 0)
       (λ h e f. (fits at s h bs e 0 (omega arith), ap (asPart oneTally) (at-leaf h e f) ∙ ap Part (leaf-tally at s h bs e n)))
 
-  pub one-no-inner : (b : Bounds) → headAnswer at s ≡ bounds-read b → b .nested ≡ true → (r : Fault) → inner left n at s b ≡ part-refused r
+  pub one-no-inner : (b : Bounds) → headAnswer at s ≡ bounds-read b → b .nested ≡ true → (r : Refusal) → inner left n at s b ≡ part-refused r
       → oneAnswer left n at s ≡ part-refused r
   unfolding headAnswer oneAnswer runAnswer asPart boundsOf
   one-no-inner =
       bounds-got s (headOf at s)
-      (λ b. b .nested ≡ true → (r : Fault) → inner left n at s b ≡ part-refused r → oneAnswer left n at s ≡ part-refused r)
+      (λ b. b .nested ≡ true → (r : Refusal) → inner left n at s b ≡ part-refused r → oneAnswer left n at s ≡ part-refused r)
       (λ h e f r g. ap (asPart oneTally) (at-branch h e f ∙ then-stop _ r (part-stopped _ _ r g)))
 
   pub one-branch : Bytes s → (b : Bounds) → headAnswer at s ≡ bounds-read b → b .nested ≡ true → (r : Tally) → inner left n at s b ≡ Part r

@@ -8,7 +8,7 @@ use lib.ListN.{length, getD, take, drop}
 use lib.Seq.{take-suc}
 use lib.Dec.{eqb}
 use borrow.Author.Tests.{le-ltb}
-use Rattle.zvt_rules.specs.declared.Fault.{Fault}
+use Rattle.zvt_rules.specs.declared.Refusal.{Refusal}
 use Rattle.zvt_rules.specs.declared.Format.{Format}
 use Rattle.zvt_rules.specs.declared.Format.the-variants.{Unknown, Fixed, Digits, Container}
 use Rattle.zvt_rules.specs.Reading.{got, unless, part, among}
@@ -215,5 +215,5 @@ field-to-put s bs r l =
 pub field-is : (s : List ℕ) (b : Bounds) → Bytes s → ListReads s → 0 < length s → fieldBounds 0 s ≡ bounds-read b → FieldToPut s b
 field-is s b bs r l = bounds-are _ (field-to-put s bs r l) b
 
-pub field-never : (s : List ℕ) (r : Fault) → Bytes s → ListReads s → 0 < length s → fieldBounds 0 s ≡ bounds-refused r → ⊥
+pub field-never : (s : List ℕ) (r : Refusal) → Bytes s → ListReads s → 0 < length s → fieldBounds 0 s ≡ bounds-refused r → ⊥
 field-never s r bs reads l = bounds-never _ (field-to-put s bs reads l) r

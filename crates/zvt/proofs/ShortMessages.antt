@@ -6,8 +6,8 @@ use native.Mathlib.Omega.{arith}
 use lib.ListN.{length, take, drop, length-append}
 use lib.Seq.{length-take-le}
 use borrow.Author.Tests.{lt-ltb, le-ltb}
-use Rattle.zvt_rules.specs.declared.Fault.{Fault}
-use Rattle.zvt_rules.specs.Reading.{Reading, got, refused, noHeader, unless, part}
+use Rattle.zvt_rules.specs.declared.Refusal.{Refusal}
+use Rattle.zvt_rules.specs.Reading.{Reading, got, refused, unplaced, unless, part}
 use Rattle.zvt_rules.specs.Message.{Heading, start, end, layoutOf, Body, bodyOf, messageOf, wholeHeader, readOf}
 use Rattle.zvt_rules.specs.believed.Writing.{bodyBytes, messageBytes}
 use Rattle.zvt_rules.specs.Shortest.{shortBody, shortMessage, write, shorten}
@@ -24,7 +24,7 @@ use Rattle.zvt.specs.declared.objects.PartRead.the-variants.{Part, Refus
 use Rattle.zvt.specs.declared.headers.HeaderRead.the-variants.{Header as header-read, Refused as header-refused}
 use Rattle.zvt_rules.specs.declared.ShortenAnswer.{ShortenAnswer}
 use Rattle.zvt_rules.specs.declared.ShortenAnswer.the-variants.{Written, Refused}
-use Rattle.zvt_rules.specs.Answers.{refusalOf, headerIn, shortened, asShortenAnswer, shortenAnswer, shortenLeaves}
+use Rattle.zvt_rules.specs.Answers.{headerIn, shortened, asShortenAnswer, shortenAnswer, shortenLeaves}
 use Rattle.zvt.specs.HeaderSteps.{wholeAnswer}
 use Rattle.zvt.specs.BodySteps.{spareBody, bodyTally, bodyAnswer, bodyIn}
 use Rattle.zvt.specs.WritingSteps.{back, Put, BodyReads, headerBytes, headerLayout, bodyPart, shortMessageOf}
@@ -38,8 +38,8 @@ use Rattle.zvt.proofs.ShortBodies.{body-written}
 abbrev pub Ends : ShortenAnswer → List ℕ → List ℕ → List ℕ → Type 0
 Ends r s out exit = (r ≡ shortenAnswer (length out) s) × (exit ≡ shortenLeaves s out)
 
-ends-refused : (s out : List ℕ) (f : Fault) → shortened (length out) s ≡ refused f → Ends (Refused (record { number = f .number })) s out out
-unfolding shortenAnswer asShortenAnswer shortenLeaves writtenLeaves refusalOf
+ends-refused : (s out : List ℕ) (f : Refusal) → shortened (length out) s ≡ refused f → Ends (Refused f) s out out
+unfolding shortenAnswer asShortenAnswer shortenLeaves writtenLeaves
 ends-refused s out f e = (ap asShortenAnswer (sym e), ap (λ (x : Reading (List ℕ)). writtenLeaves x out) (sym e))
 
 ends-written : (s out w : List ℕ) → shortened (length out) s ≡ got w → Ends (Written (length w)) s out (front w out)
@@ -47,16 +47,16 @@ unfolding shortenAnswer asShortenAnswer shortenLeaves writtenLeaves
 ends-written s out w e = (ap asShortenAnswer (sym e), ap (λ (x : Reading (List ℕ)). writtenLeaves x out) (sym e))
 
 -- ---- what is no message
-not-read : (s out : List ℕ) (f : Fault) → readOf s ≡ refused f → Ends (Refused (record { number = f .number })) s out out
+not-read : (s out : List ℕ) (f : Refusal) → readOf s ≡ refused f → Ends (Refused f) s out out
 unfolding shortened shorten
 not-read s out f e = ends-refused s out f (then-stop _ f (then-stop _ f e))
 
-pub no-header : (s out : List ℕ) (f : Fault) → wholeAnswer s ≡ header-refused f → Ends (Refused (record { number = f .number })) s out out
+pub no-header : (s out : List ℕ) (f : Refusal) → wholeAnswer s ≡ header-refused f → Ends (Refused f) s out out
 unfolding readOf
 no-header s out f e = not-read s out f (message.no-header s (wholeHeader s) f e)
 
 module _ (s : List ℕ) (h : Header) (e : wholeAnswer s ≡ header-read h) where
-  pub no-body : (out : List ℕ) (f : Fault) → bodyIn h s ≡ part-refused f → Ends (Refused (record { number = f .number })) s out out
+  pub no-body : (out : List ℕ) (f : Refusal) → bodyIn h s ≡ part-refused f → Ends (Refused f) s out out
   unfolding readOf
   no-body out f g = not-read s out f (message.no-body s (wholeHeader s) h e f g)
 
@@ -106,10 +106,10 @@ module _ (s : List ℕ) (h : Header) (t : Tally) (q : Short s h t) (out : List �
   takes : n ≡ length (shortMessageOf h s)
   takes = e ∙ q .size
 
-  pub no-room : length out < n → Ends (Refused (record { number = 11 })) s out out
+  pub no-room : length out < n → Ends (Refused (unplaced 11)) s out out
   unfolding shortened unless
   no-room l =
-      ends-refused s out (noHeader 11)
+      ends-refused s out (unplaced 11)
       (then-on _ _ (q .short) ∙ rw (lt-ltb (length out) (length (shortMessageOf h s)) (omega (arith, takes))))
 
   module _ (l : n ≤ length out) where

@@ -6,7 +6,7 @@ use mathlib.Core.Logic.{⊎-elim}
 use Prim.Native.Nat.{ℕ, _+_, _-_, _<_, _≤_}
 use native.Mathlib.Omega.{arith}
 use lib.ListN.{length, getD, take, drop}
-use Rattle.zvt_rules.specs.declared.Fault.{Fault}
+use Rattle.zvt_rules.specs.declared.Refusal.{Refusal}
 use Rattle.zvt_rules.specs.Reading.{got, pick, part}
 use Rattle.zvt_rules.specs.Limits.{mostObjects, deepest}
 use Rattle.zvt_rules.specs.Objects.{nested, Head, from, to, Obj, leaf, branch, Objs, none, more, OneRead, RunRead, runOf, countObjs}
@@ -129,13 +129,13 @@ run-fits s b r =
 pub bounds-are : {P : Bounds → Type 0} (x : BoundsRead) → (b : Bounds) × (x ≡ bounds-read b) × P b → (b : Bounds) → x ≡ bounds-read b → P b
 bounds-are x f b e = let same : f .0 ≡ b = cc in rw same at (f .2)
 
-pub bounds-never : {P : Bounds → Type 0} (x : BoundsRead) → (b : Bounds) × (x ≡ bounds-read b) × P b → (r : Fault) → x ≡ bounds-refused r → ⊥
+pub bounds-never : {P : Bounds → Type 0} (x : BoundsRead) → (b : Bounds) × (x ≡ bounds-read b) × P b → (r : Refusal) → x ≡ bounds-refused r → ⊥
 bounds-never x f r e = let z : _≡_ {A = ℕ} 0 1 = cc in omega arith
 
 pub object-in : (s : List ℕ) (b : Bounds) → Bytes s → RunReads s → 0 < length s → headAnswer 0 s ≡ bounds-read b → FirstObject s b
 object-in s b bs r l = bounds-are _ (first-object s bs r l) b
 
-pub object-never : (s : List ℕ) (r : Fault) → Bytes s → RunReads s → 0 < length s → headAnswer 0 s ≡ bounds-refused r → ⊥
+pub object-never : (s : List ℕ) (r : Refusal) → Bytes s → RunReads s → 0 < length s → headAnswer 0 s ≡ bounds-refused r → ⊥
 object-never s r bs reads l = bounds-never _ (first-object s bs reads l) r
 
 pub object-run : (s : List ℕ) (b : Bounds) → b .nested ≡ true

@@ -7,7 +7,7 @@ use lib.ListN.{length, getD, drop, drop-of-length-le}
 use lib.Seq.{drop-cons}
 use Rattle.zvt_rules.specs.declared.Layout.{Layout}
 use Rattle.zvt_rules.specs.declared.Layout.the-variants.{Plain, List as FieldList, Secured}
-use Rattle.zvt_rules.specs.declared.Fault.{Fault}
+use Rattle.zvt_rules.specs.declared.Refusal.{Refusal}
 use Rattle.zvt_rules.specs.declared.Header.{Header}
 use Rattle.zvt_rules.specs.declared.HearAnswer.the-variants.{Heard as heard, Refused as hear-refused}
 use Rattle.zvt_rules.specs.declared.Outline.{Outline}
@@ -18,7 +18,7 @@ use Rattle.zvt_rules.specs.Reading.{got}
 use Rattle.zvt_rules.specs.Message.{headerSize, layoutOf, Body, bytes, listed, Message, wholeHeader, readOf}
 use Rattle.zvt_rules.specs.believed.Writing.{bodyBytes, messageBytes}
 use Rattle.zvt_rules.specs.believed.Grammar.{Bytes, LayoutOk, MessageOk}
-use Rattle.zvt_rules.specs.Answers.{refusalOf, headerIn, outlineOf}
+use Rattle.zvt_rules.specs.Answers.{headerIn, outlineOf}
 use Rattle.zvt_rules.specs.Values.{statusOf}
 use Rattle.zvt_rules.specs.Heard.{firstOf, toldIn, toldAnswer, asHearAnswer, hearAnswer}
 use Rattle.zvt_rules.proofs.MessageBytes.{read-sound}
@@ -88,11 +88,11 @@ module _ (s : List ℕ) (x : Outline) (w : Was s x) where
   told-is first status e f = let k = accepted s x (w .1) in rw (e, f, k .1)
 
 -- ---- the public answer
-pub unheard : (s : List ℕ) (r : Fault) → wholeAnswer s ≡ header-refused r → hearAnswer s ≡ hear-refused (record { number = r .number })
-unfolding hearAnswer asHearAnswer refusalOf
+pub unheard : (s : List ℕ) (r : Refusal) → wholeAnswer s ≡ header-refused r → hearAnswer s ≡ hear-refused r
+unfolding hearAnswer asHearAnswer
 unheard s r e = ap (asHearAnswer (readOf s)) (as-stopped (wholeHeader s) r e)
 
 pub heard-is : (s : List ℕ) (h : Header) → HeaderOf h s
-    → hearAnswer s ≡ heard (record { class = h .class; instruction = h .instruction; length = h .length; told = toldAnswer (readOf s) })
+    → hearAnswer s ≡ heard (record { class = h .class; instruction = h .instruction; start = h .start; length = h .length; told = toldAnswer (readOf s) })
 unfolding hearAnswer asHearAnswer headerIn
 heard-is s h e = let g = as-got (wholeHeader s) h e in rw (← (g .2)) (ap (asHearAnswer (readOf s)) (g .1))

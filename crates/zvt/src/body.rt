@@ -5,7 +5,7 @@ use crate::fields::read_list;
 use crate::format::layout_of;
 use crate::objects::PartRead;
 use crate::objects::Tally;
-use zvt_rules::Fault;
+use zvt_rules::Refusal;
 use zvt_rules::Header;
 use zvt_rules::Layout;
 use zvt_rules::Outline;
@@ -23,7 +23,7 @@ pub(crate) fn read_secured(s: &[u8], at: usize) -> PartRead
 {
     if s.len() < 3 {
         let end = at + s.len();
-        return PartRead::Refused(Fault {
+        return PartRead::Refused(Refusal {
             number: 1,
             place: Place::At(end),
         });

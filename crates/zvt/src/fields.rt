@@ -10,7 +10,7 @@ use crate::objects::bounds_in;
 use crate::objects::len_of;
 use crate::objects::read_run;
 use crate::objects::tally_of;
-use zvt_rules::Fault;
+use zvt_rules::Refusal;
 use zvt_rules::Format;
 use zvt_rules::Outline;
 use zvt_rules::Place;
@@ -24,13 +24,13 @@ ghost use Rattle.zvt.specs.FieldSteps.{digitsAnswer, decimalsAnswer, fie
 // A length in digits.
 pub(crate) enum DigitsRead {
     Number(usize),
-    Refused(Fault),
+    Refused(Refusal),
 }
 
 // Whether bytes are decimal digits throughout.
 pub(crate) enum Decimals {
     All,
-    Refused(Fault),
+    Refused(Refusal),
 }
 
 // The number in the first d bytes, each a length digit.
@@ -43,14 +43,14 @@ pub(crate) fn digits_of(s: &[u8], at: usize, d: usize) -> DigitsRead
     while i < d {
         let place = at + i;
         if s.len() <= i {
-            return DigitsRead::Refused(Fault {
+            return DigitsRead::Refused(Refusal {
                 number: 1,
                 place: Place::At(place),
             });
         }
         let b = s[i];
         if b < 0xF0 || 0xF9 < b {
-            return DigitsRead::Refused(Fault {
+            return DigitsRead::Refused(Refusal {
                 number: 4,
                 place: Place::At(place),
             });
@@ -71,7 +71,7 @@ pub(crate) fn all_decimal(s: &[u8], at: usize) -> Decimals
     while i < s.len() {
         if 0x90 < s[i] & 0xF0 || 0x09 < s[i] & 0x0F {
             let place = at + i;
-            return Decimals::Refused(Fault {
+            return Decimals::Refused(Refusal {
                 number: 6,
                 place: Place::At(place),
             });
@@ -87,7 +87,7 @@ pub(crate) fn field_bounds(s: &[u8], at: usize, format: Format) -> BoundsRead
     ensures { λ r. ⌜ r ≡ fieldBounds at (now (s .entry)) ⌝ }
 {
     match format {
-        Format::Unknown => BoundsRead::Refused(Fault {
+        Format::Unknown => BoundsRead::Refused(Refusal {
             number: 5,
             place: Place::At(at),
         }),
@@ -131,13 +131,13 @@ pub(crate) fn read_field(s: &[u8], at: usize, n: u8, twice: bool) -> PartRead
 {
     let format = format_of(s[0]);
     if let Format::Unknown = format {
-        return PartRead::Refused(Fault {
+        return PartRead::Refused(Refusal {
             number: 5,
             place: Place::At(at),
         });
     }
     if twice {
-        return PartRead::Refused(Fault {
+        return PartRead::Refused(Refusal {
             number: 7,
             place: Place::At(at),
         });

@@ -1,5 +1,5 @@
 // The header of a message: class byte, instruction byte, length.
-use zvt_rules::Fault;
+use zvt_rules::Refusal;
 use zvt_rules::Header;
 use zvt_rules::Outline;
 use zvt_rules::Place;
@@ -8,7 +8,7 @@ ghost use Rattle.zvt.specs.HeaderSteps.{fitting, firstHeader, wholeAnswe
 
 pub(crate) enum HeaderRead {
     Header(Header),
-    Refused(Fault),
+    Refused(Refusal),
 }
 
 // The header, where its body keeps the limit and lies in s.
@@ -16,13 +16,13 @@ pub(crate) fn fitted(s: &[u8], h: Header) -> HeaderRead
     ensures { λ r. ⌜ r ≡ fitting h (now (s .entry)) ⌝ }
 {
     if Outline::MOST_BODY < h.length {
-        return HeaderRead::Refused(Fault {
+        return HeaderRead::Refused(Refusal {
             number: 2,
             place: Place::Nowhere,
         });
     }
     if s.len() < h.start || s.len() - h.start < h.length {
-        return HeaderRead::Refused(Fault {
+        return HeaderRead::Refused(Refusal {
             number: 1,
             place: Place::Nowhere,
         });
@@ -34,7 +34,7 @@ pub(crate) fn fitted(s: &[u8], h: Header) -> HeaderRead
 pub(crate) fn header_of(s: &[u8]) -> HeaderRead
     ensures { λ r. ⌜ r ≡ firstHeader (now (s .entry)) ⌝ }
 {
-    let cut = Fault {
+    let cut = Refusal {
         number: 1,
         place: Place::Nowhere,
     };
@@ -77,7 +77,7 @@ pub(crate) fn whole_header(s: &[u8]) -> HeaderRead
         HeaderRead::Refused(f) => HeaderRead::Refused(f),
         HeaderRead::Header(h) => {
             if h.length < s.len() - h.start {
-                return HeaderRead::Refused(Fault {
+                return HeaderRead::Refused(Refusal {
                     number: 3,
                     place: Place::Nowhere,
                 });

@@ -40,7 +40,7 @@ pub fn read_header(s: &[u8]) -> HeaderAnswer
     ensures { λ r. ⌜ r ≡ headerAnswer (now (s .entry)) ⌝ }
 {
     match headers::whole_header(s) {
-        HeaderRead::Refused(f) => HeaderAnswer::Refused(Refusal { number: f.number }),
+        HeaderRead::Refused(f) => HeaderAnswer::Refused(f),
         HeaderRead::Header(h) => HeaderAnswer::Header(h),
     }
 }
@@ -50,9 +50,9 @@ pub fn read(s: &[u8]) -> ReadAnswer
     ensures { λ r. ⌜ r ≡ readAnswer (now (s .entry)) ⌝ }
 {
     match headers::whole_header(s) {
-        HeaderRead::Refused(f) => ReadAnswer::Refused(Refusal { number: f.number }),
+        HeaderRead::Refused(f) => ReadAnswer::Refused(f),
         HeaderRead::Header(h) => match body::body_in(s, h) {
-            PartRead::Refused(f) => ReadAnswer::Refused(Refusal { number: f.number }),
+            PartRead::Refused(f) => ReadAnswer::Refused(f),
             PartRead::Part(t) => ReadAnswer::Accepted(body::outline_of(h, t)),
         },
     }
@@ -63,9 +63,9 @@ pub fn read_first(s: &[u8]) -> FirstAnswer
     ensures { λ r. ⌜ r ≡ firstAnswer (now (s .entry)) ⌝ }
 {
     match headers::header_of(s) {
-        HeaderRead::Refused(f) => FirstAnswer::Refused(Refusal { number: f.number }),
+        HeaderRead::Refused(f) => FirstAnswer::Refused(f),
         HeaderRead::Header(h) => match body::body_in(s, h) {
-            PartRead::Refused(f) => FirstAnswer::Refused(Refusal { number: f.number }),
+            PartRead::Refused(f) => FirstAnswer::Refused(f),
             PartRead::Part(t) => {
                 let next = h.start + h.length;
                 FirstAnswer::Accepted(body::outline_of(h, t), next)
@@ -80,13 +80,13 @@ pub fn shorten(s: &[u8], out: &mut [u8]) -> ShortenAnswer
     ensures lent { λ _. ⌜ now (out .exit) ≡ shortenLeaves (now (s .entry)) (now (out .entry)) ⌝ }
 {
     match headers::whole_header(s) {
-        HeaderRead::Refused(f) => ShortenAnswer::Refused(Refusal { number: f.number }),
+        HeaderRead::Refused(f) => ShortenAnswer::Refused(f),
         HeaderRead::Header(h) => match body::body_in(s, h) {
-            PartRead::Refused(f) => ShortenAnswer::Refused(Refusal { number: f.number }),
+            PartRead::Refused(f) => ShortenAnswer::Refused(f),
             PartRead::Part(t) => {
                 let size = writing::message_size(h.length - t.spare);
                 if out.len() < size {
-                    return ShortenAnswer::Refused(Refusal { number: 11 });
+                    return ShortenAnswer::Refused(Refusal::unplaced(11));
                 }
                 writing::put_message(s, h, &mut out[..size]);
                 ShortenAnswer::Written(size)
@@ -157,10 +157,11 @@ pub fn hear(s: &[u8]) -> HearAnswer
     ensures { λ r. ⌜ r ≡ hearAnswer (now (s .entry)) ⌝ }
 {
     match headers::whole_header(s) {
-        HeaderRead::Refused(f) => HearAnswer::Refused(Refusal { number: f.number }),
+        HeaderRead::Refused(f) => HearAnswer::Refused(f),
         HeaderRead::Header(h) => HearAnswer::Heard(Heard {
             class: h.class,
             instruction: h.instruction,
+            start: h.start,
             length: h.length,
             told: told::told_behind(s, h),
         }),

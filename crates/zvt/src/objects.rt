@@ -1,5 +1,5 @@
 // Data objects: a run of objects, each tag, length, value; the value of some is again a run.
-use zvt_rules::Fault;
+use zvt_rules::Refusal;
 use zvt_rules::Outline;
 use zvt_rules::Place;
 ghost use mathlib.Core.Path.{_≡_};
@@ -13,13 +13,13 @@ ghost use Rattle.zvt.specs.ObjectSteps.{tagAnswer, lenAnswer, within, he
 // How many bytes a tag takes.
 pub(crate) enum TagRead {
     Size(usize),
-    Refused(Fault),
+    Refused(Refusal),
 }
 
 // How many bytes a length takes, and the length.
 pub(crate) enum LenRead {
     Len(usize, usize),
-    Refused(Fault),
+    Refused(Refusal),
 }
 
 // Where the parts of an object or a field lie: the tag or id ends at tag, the value goes from from up to to. A nested value is a
@@ -33,7 +33,7 @@ pub(crate) struct Bounds {
 
 pub(crate) enum BoundsRead {
     Bounds(Bounds),
-    Refused(Fault),
+    Refused(Refusal),
 }
 
 // What is known of bytes that were read: how many, the objects begun by their end, and how many bytes fewer they take when
@@ -46,7 +46,7 @@ pub(crate) struct Tally {
 
 pub(crate) enum PartRead {
     Part(Tally),
-    Refused(Fault),
+    Refused(Refusal),
 }
 
 pub(crate) fn tag_size(s: &[u8], at: usize) -> TagRead
@@ -54,7 +54,7 @@ pub(crate) fn tag_size(s: &[u8], at: usize) -> TagRead
     ensures { λ r. ⌜ r ≡ tagAnswer at (now (s .entry)) ⌝ }
 {
     if s.len() == 0 {
-        return TagRead::Refused(Fault {
+        return TagRead::Refused(Refusal {
             number: 1,
             place: Place::At(at),
         });
@@ -64,13 +64,13 @@ pub(crate) fn tag_size(s: &[u8], at: usize) -> TagRead
     }
     let second = at + 1;
     if s.len() == 1 {
-        return TagRead::Refused(Fault {
+        return TagRead::Refused(Refusal {
             number: 1,
             place: Place::At(second),
         });
     }
     if s[1] & 0x80 != 0 {
-        TagRead::Refused(Fault {
+        TagRead::Refused(Refusal {
             number: 8,
             place: Place::At(second),
         })
@@ -84,7 +84,7 @@ pub(crate) fn len_of(s: &[u8], at: usize) -> LenRead
     ensures { λ r. ⌜ r ≡ lenAnswer at (now (s .entry)) ⌝ }
 {
     let end = at + s.len();
-    let cut = Fault {
+    let cut = Refusal {
         number: 1,
         place: Place::At(end),
     };
@@ -112,8 +112,8 @@ pub(crate) fn len_of(s: &[u8], at: usize) -> LenRead
         let two = high * 256 + low;
         return LenRead::Len(3, two);
     }
-    LenRead::Refused(Fault {
-        number: 4,
+    LenRead::Refused(Refusal {
+        number: 22,
         place: Place::At(at),
     })
 }
@@ -132,7 +132,7 @@ pub(crate) fn bounds_in(
 {
     if s.len() - from < v {
         let end = at + s.len();
-        return BoundsRead::Refused(Fault {
+        return BoundsRead::Refused(Refusal {
             number: 1,
             place: Place::At(end),
         });
@@ -225,13 +225,13 @@ pub(crate) fn read_one(s: &[u8], at: usize, left: u8, n: u8) -> PartRead
     ensures { λ r. ⌜ r ≡ oneAnswer left n at (now (s .entry)) ⌝ }
 {
     if Outline::MOST_OBJECTS <= n {
-        return PartRead::Refused(Fault {
+        return PartRead::Refused(Refusal {
             number: 10,
             place: Place::At(at),
         });
     }
     if left == 0 {
-        return PartRead::Refused(Fault {
+        return PartRead::Refused(Refusal {
             number: 9,
             place: Place::At(at),
         });

@@ -9,7 +9,6 @@ use zvt_rules::Header;
 use zvt_rules::Layout;
 use zvt_rules::ListPlace;
 use zvt_rules::Outline;
-use zvt_rules::Refusal;
 use zvt_rules::Status;
 use zvt_rules::ToldAmount;
 use zvt_rules::ToldAnswer;
@@ -71,7 +70,7 @@ pub(crate) fn told_behind(s: &[u8], h: Header) -> ToldAnswer
     ensures { λ r. ⌜ r ≡ toldAnswer (readOf (now (s .entry))) ⌝ }
 {
     match body_in(s, h) {
-        PartRead::Refused(f) => ToldAnswer::Refused(Refusal { number: f.number }),
+        PartRead::Refused(f) => ToldAnswer::Refused(f),
         PartRead::Part(t) => ToldAnswer::Told(told_in(s, outline_of(h, t))),
     }
 }

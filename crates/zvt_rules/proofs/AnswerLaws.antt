@@ -9,7 +9,6 @@ use lib.ListN.{length, take, drop, length-append, take-append-drop}
 use lib.Seq.{length-take-le, take-all, drop-at}
 use lib.Dec.{ltb}
 use borrow.Author.Tests.{ltb-true, ltb-false, lt-ltb, le-ltb}
-use Rattle.zvt_rules.specs.declared.Fault.{Fault}
 use Rattle.zvt_rules.specs.declared.Refusal.{Refusal}
 use Rattle.zvt_rules.specs.declared.Header.{Header}
 use Rattle.zvt_rules.specs.declared.Outline.{Outline}
@@ -17,7 +16,7 @@ use Rattle.zvt_rules.specs.declared.HeaderAnswer.the-variants.{Header as
 use Rattle.zvt_rules.specs.declared.ReadAnswer.the-variants.{Accepted, Refused}
 use Rattle.zvt_rules.specs.declared.FirstAnswer.the-variants.{Accepted as first-accepted, Refused as first-refused}
 use Rattle.zvt_rules.specs.declared.ShortenAnswer.the-variants.{Written, Refused as short-refused}
-use Rattle.zvt_rules.specs.Reading.{Reading, got, refused, noHeader, unless, part}
+use Rattle.zvt_rules.specs.Reading.{Reading, got, refused, unplaced, unless, part}
 use Rattle.zvt_rules.specs.Buffers.{front, writtenLeaves}
 use Rattle.zvt_rules.specs.Objects.{Obj, leaf, branch, Objs, none, more, countObj, countObjs}
 use Rattle.zvt_rules.specs.Fields.{Field, plain, container, countField, countFields}
@@ -25,7 +24,7 @@ use Rattle.zvt_rules.specs.Message.{Heading, headerSize, start, end, hea
 use Rattle.zvt_rules.specs.believed.Writing.{bodyBytes, lengthBytes, messageBytes}
 use Rattle.zvt_rules.specs.Shortest.{isShort, write, shorten}
 use Rattle.zvt_rules.specs.believed.Grammar.{Bytes, LengthOk, MessageOk}
-use Rattle.zvt_rules.specs.Answers.{refusalOf, headerIn, asHeaderAnswer, headerAnswer, outlineOf, asReadAnswer, readAnswer, asFirstAnswer, firstAnswer, shortened, asShortenAnswer, shortenAnswer, shortenLeaves}
+use Rattle.zvt_rules.specs.Answers.{headerIn, asHeaderAnswer, headerAnswer, outlineOf, asReadAnswer, readAnswer, asFirstAnswer, firstAnswer, shortened, asShortenAnswer, shortenAnswer, shortenLeaves}
 use Rattle.zvt_rules.specs.believed.Values.{Is}
 use Rattle.zvt_rules.specs.believed.Shortest.{Shortens}
 use Rattle.zvt_rules.specs.believed.Answers.{Framed, inObj, inRun, inList, inBody, Reported, FirstReported, Over}
@@ -191,32 +190,24 @@ first-exactly s o next b = (to (firstOf s) refl, from)
         let read : firstOf s ≡ got m = rw (e, ← (is .0)) (first-complete m rest (is .1)) in
         rw (read, asFirstAnswer, is .0, ends) (ap (λ (x : Outline). first-accepted x (length front)) (report-one front o r))
 
--- ---- refusals
--- R31: "A refusal answers its number and nothing else.": that of the fault that was found
-abbrev pub Faulty : {A : Type 0} → Reading A → Refusal → Type 0
-Faulty x r = (f : Fault) × (x ≡ refused f) × (f .number ≡ r .number)
-
+-- ---- refusals. R31: "A refusal answers its number and, where it names one (R46), its place, and nothing else.": those that reading found
 module _ {A B : Type 0} (say : Reading A → B) (no : Refusal → B) (other : (a : A) (r : Refusal) → say (got a) ≡ no r → ⊥)
-    (same : (f : Fault) → say (refused f) ≡ no (refusalOf f)) (one : (r q : Refusal) → no r ≡ no q → r ≡ q) where
-  refused-by : (x : Reading A) (r : Refusal) → (say x ≡ no r) ↔ Faulty x r
-  unfolding refusalOf
-  refused-by (got a) r = (λ e. absurd (other a r e), λ k. absurd (got-not-refused (k .1)))
-  refused-by (refused f) r = (
-    λ e. (f, refl, ap (λ (q : Refusal). q .number) (one (refusalOf f) r (sym (same f) ∙ e))),
-    λ (g, e, n). let number : f .number ≡ r .number = cc in same f ∙ ap no (rw number),
-  )
+    (same : (r : Refusal) → say (refused r) ≡ no r) (one : (r q : Refusal) → no r ≡ no q → r ≡ q) where
+  refused-by : (x : Reading A) (r : Refusal) → (say x ≡ no r) ↔ (x ≡ refused r)
+  refused-by (got a) r = (λ e. absurd (other a r e), λ e. absurd (got-not-refused e))
+  refused-by (refused q) r = (λ e. ap refused (one q r (sym (same q) ∙ e)), λ e. ap say e ∙ same r)
 
-pub header-refused-exactly : (s : List ℕ) (r : Refusal) → (headerAnswer s ≡ header-refused r) ↔ Faulty (wholeHeader s) r
+pub header-refused-exactly : (s : List ℕ) (r : Refusal) → (headerAnswer s ≡ header-refused r) ↔ (wholeHeader s ≡ refused r)
 unfolding headerAnswer asHeaderAnswer
 header-refused-exactly s r =
     refused-by asHeaderAnswer header-refused (λ a r e. let z : _≡_ {A = ℕ} 0 1 = cc in omega arith) (λ f. refl) (λ r q e. cc) (wholeHeader s) r
 
-pub read-refused-exactly : (s : List ℕ) (r : Refusal) → (readAnswer s ≡ Refused r) ↔ Faulty (readOf s) r
+pub read-refused-exactly : (s : List ℕ) (r : Refusal) → (readAnswer s ≡ Refused r) ↔ (readOf s ≡ refused r)
 unfolding readAnswer asReadAnswer
 read-refused-exactly s r =
     refused-by asReadAnswer Refused (λ a r e. let z : _≡_ {A = ℕ} 0 1 = cc in omega arith) (λ f. refl) (λ r q e. cc) (readOf s) r
 
-pub first-refused-exactly : (s : List ℕ) (r : Refusal) → (firstAnswer s ≡ first-refused r) ↔ Faulty (firstOf s) r
+pub first-refused-exactly : (s : List ℕ) (r : Refusal) → (firstAnswer s ≡ first-refused r) ↔ (firstOf s ≡ refused r)
 unfolding firstAnswer asFirstAnswer
 first-refused-exactly s r =
     refused-by asFirstAnswer first-refused (λ a r e. let z : _≡_ {A = ℕ} 0 1 = cc in omega arith) (λ f. refl) (λ r q e. cc) (firstOf s) r
@@ -234,11 +225,11 @@ module _ (room : ℕ) (s : List ℕ) (b : Bytes s) where
     λ k. then-on _ w (shortens-exactly s w b .1 (k .0)) ∙ unless-on _ _ (le-ltb room (length w) (k .1)),
   )
 
-  stops : (f : Fault) → readOf s ≡ refused f → shortened room s ≡ refused f
+  stops : (f : Refusal) → readOf s ≡ refused f → shortened room s ≡ refused f
   unfolding shortened shorten
   stops f e = then-stop _ f (then-stop _ f e)
 
-  lacks : (w : List ℕ) → Shortens s w → room < length w → shortened room s ≡ refused (noHeader 11)
+  lacks : (w : List ℕ) → Shortens s w → room < length w → shortened room s ≡ refused (unplaced 11)
   unfolding shortened unless
   lacks w k h = then-on _ w (shortens-exactly s w b .1 k) ∙ rw (lt-ltb room (length w) h, unless)
 
@@ -255,29 +246,26 @@ module _ (room : ℕ) (s : List ℕ) (b : Bytes s) where
   -- R37: "header, body, 11". R38: "shortening needs as many as it writes"
   pub shorten-refused-exactly : (r : Refusal)
       → (shortenAnswer room s ≡ short-refused r)
-      ↔ (Faulty (readOf s) r ⊎ ((w : List ℕ) × Shortens s w × (room < length w) × (r .number ≡ 11)))
+      ↔ ((readOf s ≡ refused r) ⊎ ((w : List ℕ) × Shortens s w × (room < length w) × (unplaced 11 ≡ r)))
   unfolding shortenAnswer asShortenAnswer
   shorten-refused-exactly r =
       Iff·trans
       (refused-by asShortenAnswer short-refused (λ a r e. let z : _≡_ {A = ℕ} 0 1 = cc in omega arith) (λ f. refl) (λ r q e. cc) (shortened room s) r)
-      (to, ⊎-elim (λ (f, e, n). (f, stops f e, n)) λ (w, k, h, n). (noHeader 11, lacks w k h, sym n))
+      (by (readOf s) refl, ⊎-elim (stops r) λ (w, k, h, e). lacks w k h ∙ ap refused e)
     where
-      tight : (w : List ℕ) → Shortens s w → Faulty (shortened room s) r → (room < length w) × (r .number ≡ 11)
-      tight w k (f, e, n) =
+      tight : (w : List ℕ) → Shortens s w → shortened room s ≡ refused r → (room < length w) × (unplaced 11 ≡ r)
+      tight w k e =
           by-test (ltb room (length w))
           (λ t. let h = ltb-true room (length w) t in (h, let g = lacks w k h in cc))
           λ t. absurd (got-not-refused (sym (fits-exactly w .1 (k, ltb-false room (length w) t)) ∙ e))
 
-      by : (x : Reading Message) → readOf s ≡ x → Faulty (shortened room s) r
-          → Faulty (readOf s) r ⊎ ((w : List ℕ) × Shortens s w × (room < length w) × (r .number ≡ 11))
-      by (refused g) e (f, h, n) = inl (g, e, let k = stops g e in cc)
+      by : (x : Reading Message) → readOf s ≡ x → shortened room s ≡ refused r
+          → (readOf s ≡ refused r) ⊎ ((w : List ℕ) × Shortens s w × (room < length w) × (unplaced 11 ≡ r))
+      by (refused q) e h = inl (let k = stops q e in let same : q ≡ r = cc in e ∙ ap refused same)
       by (got m) e q =
           let k = shortens-exactly s (write m) b .0 (shorten-read s m e) in
           let h = tight (write m) k q in
           inr (write m, k, h .0, h .1)
-
-      to : Faulty (shortened room s) r → Faulty (readOf s) r ⊎ ((w : List ℕ) × Shortens s w × (room < length w) × (r .number ≡ 11))
-      to = by (readOf s) refl
 
 -- ---- lent buffers
 -- R33: what is written stands in front, and the rest is as it was

@@ -38,7 +38,7 @@ use Rattle.zvt_rules.proofs.Found.{stands-read}
 
 -- ---- what a desk asks: the header as it is answered alone
 unfoldable pub heardBy : ToldAnswer → HeaderAnswer → HearAnswer
-heardBy told (header-got h) = Heard (record { class = h .class; instruction = h .instruction; length = h .length; told = told })
+heardBy told (header-got h) = Heard (record { class = h .class; instruction = h .instruction; start = h .start; length = h .length; told = told })
 heardBy told (header-refused r) = unheard r
 
 pub header-heard : (s : List ℕ) → hearAnswer s ≡ heardBy (toldAnswer (readOf s)) (headerAnswer s)

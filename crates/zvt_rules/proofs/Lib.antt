@@ -28,6 +28,7 @@ pub mod RowReadings
 pub mod RowObjects
 pub mod RowFields
 pub mod RowMessages
+pub mod Faults
 pub mod StatusLaws
 pub mod AnswerLaws
 pub mod HeardLaws

@@ -3,7 +3,7 @@ use mathlib.Core.Path.{_≡_, refl}
 use mathlib.Core.List.{List, [], _∷_}
 use Prim.Native.Nat.{ℕ, zero, suc}
 use lib.ListN.{replicate}
-use Rattle.zvt_rules.specs.Reading.{got, refused, no, noHeader, unless, andThen, among}
+use Rattle.zvt_rules.specs.Reading.{got, refused, no, unplaced, unless, andThen, among}
 use Rattle.zvt_rules.specs.Objects.{secondTag, tagSize, formSize, oneByteLen, twoByteLen, lenOf}
 use Rattle.zvt_rules.specs.Objects.{headWith, headOf, runBy, oneBy, runOf, countObj, countObjs}
 use Rattle.zvt_rules.specs.Fields.{formatOf, unknown, fieldId, countField, countFields, valueOf, containerOf, fieldBy, fieldOf, listBy, listOf}
@@ -15,7 +15,7 @@ Reads s = (m : Message) × (readOf s ≡ got m)
 -- M3: "A body has at most 4,096 bytes."
 pub body-limit :
     Reads (0x06 ∷ 0xD1 ∷ 0xFF ∷ 0x00 ∷ 0x10 ∷ replicate 4_096 0x41)
-    × (readOf (0x06 ∷ 0xD1 ∷ 0xFF ∷ 0x01 ∷ 0x10 ∷ replicate 4_097 0x41) ≡ refused (noHeader 2))
+    × (readOf (0x06 ∷ 0xD1 ∷ 0xFF ∷ 0x01 ∷ 0x10 ∷ replicate 4_097 0x41) ≡ refused (unplaced 2))
 unfolding unless andThen among longLength lengthOf headerWith headerOf layoutOf bodyOf messageOf wholeHeader readOf
 body-limit = ((_, refl), refl)
 

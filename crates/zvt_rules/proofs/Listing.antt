@@ -9,7 +9,7 @@ use lib.ListN.{length, drop, length-append, take-append-drop}
 use lib.Seq.{drop-nil, drop-append-seam}
 use lib.Dec.{ltb}
 use borrow.Author.Tests.{lt-ltb, le-ltb, ltb-true, ltb-false}
-use Rattle.zvt_rules.specs.declared.Fault.{Fault}
+use Rattle.zvt_rules.specs.declared.Refusal.{Refusal}
 use Rattle.zvt_rules.specs.Reading.{Reading, got, refused}
 use Rattle.zvt_rules.specs.Fields.{Field, plain, container, fieldId}
 use Rattle.zvt_rules.specs.Message.{headerSize, Body, bytes, listed, Message, firstOf}
@@ -41,7 +41,7 @@ unfolding linesFrom
 lines-none count [] h = refl
 lines-none count (b ∷ s) h = absurd (omega arith)
 
-pub lines-refused : (count : ℕ) (s : List ℕ) (f : Fault) → 0 < length s → firstOf s ≡ refused f
+pub lines-refused : (count : ℕ) (s : List ℕ) (f : Refusal) → 0 < length s → firstOf s ≡ refused f
     → linesFrom count 0 s ≡ refusedText count (f .number) ++ (10 ∷ [])
 unfolding linesFrom lineAnd
 lines-refused count [] f h e = absurd (omega arith)
@@ -183,7 +183,7 @@ last-none : (count : ℕ) → Last count [] (linesFrom count 0 [])
 unfolding Last words okText endText
 last-none count = (decimalText count, decimal-exactly _ _ .1 refl, inl (refl, lines-none count [] refl))
 
-last-refused : (count : ℕ) (s : List ℕ) (f : Fault) → 0 < length s → firstOf s ≡ refused f → Last count s (linesFrom count 0 s)
+last-refused : (count : ℕ) (s : List ℕ) (f : Refusal) → 0 < length s → firstOf s ≡ refused f → Last count s (linesFrom count 0 s)
 unfolding Last words refusedText endText
 last-refused count s f some r = (
   decimalText count,
@@ -350,7 +350,7 @@ lines-long-step count (x ∷ s) b l more = go (firstOf (x ∷ s)) refl
   where
     go : (y : Reading Message) → firstOf (x ∷ s) ≡ y → Fits count (x ∷ s)
     go (refused f) e =
-        let number : f .number < 10 ^ 2 = omega (arith, first-numbers (x ∷ s) f e .1) in
+        let number : f .number < 10 ^ 2 = ⊎-elim (λ k. omega (arith, k .1)) (λ k. omega (arith, k)) (first-numbers (x ∷ s) f e) in
         omega (arith, ap length (lines-refused count (x ∷ s) f (omega arith) e), refused-long count (f .number) (omega arith) number)
     go (got m) e =
         let rest = linesFrom (count + 1) 0 (drop (length (messageBytes m)) (x ∷ s)) in

@@ -1,12 +1,13 @@
--- A reading is refused with one of the numbers 1 to 10, so its fuel is never spent. Assumes nothing.
+-- A reading is refused with one of the numbers 1 to 10 and 22, so its fuel is never spent. Assumes nothing.
 use mathlib.Core.Path.{_≡_, refl}
-use mathlib.Core.Bool.{Bool, true, false, _&&_}
+use mathlib.Core.Bool.{Bool, true, false, _&&_, _||_}
+use mathlib.Core.Logic.{_⊎_, ⊎-elim}
 use mathlib.Core.List.{List, [], _∷_}
 use Prim.Native.Nat.{ℕ, zero, suc, _+_, _<_, _≤_}
 use native.Mathlib.Omega.{arith}
 use lib.ListN.{length, getD, drop, length-drop}
 use lib.Dec.{leb, ltb, eqb}
-use Rattle.zvt_rules.specs.declared.Fault.{Fault}
+use Rattle.zvt_rules.specs.declared.Refusal.{Refusal}
 use Rattle.zvt_rules.specs.declared.Format.{Format}
 use Rattle.zvt_rules.specs.declared.Format.the-variants.{Unknown, Fixed, Digits, Container}
 use Rattle.zvt_rules.specs.declared.Layout.{Layout}
@@ -19,16 +20,20 @@ use Rattle.zvt_rules.specs.Message.{longLength, lengthOf, headerWith, he
 use Rattle.zvt_rules.proofs.Readings.{got-not-refused}
 use Rattle.zvt_rules.proofs.ObjectReading.{part-length, head-in, one-in, run-none, run-step, one-step}
 use Rattle.zvt_rules.proofs.FieldReading.{field-in, list-none, list-step}
-use Rattle.zvt_rules.proofs.Tests.{pick-test, between}
+use Rattle.zvt_rules.proofs.Tests.{pick-test, between, or-test, eqb-test}
 
-abbrev Low : Fault → Type 0
-Low f = leb 1 (f .number) && leb (f .number) 10 ≡ true
+abbrev Low : Refusal → Type 0
+Low r = (leb 1 (r .number) && leb (r .number) 10) || eqb (r .number) 22 ≡ true
+
+-- what that says of the number
+abbrev pub OfMessage : Refusal → Type 0
+OfMessage r = ((1 ≤ r .number) × (r .number ≤ 10)) ⊎ (r .number ≡ 22)
 
 data Small {A : Type 0} : Reading A → Type 0 where
   is : (a : A) → Small (got a)
-  no : (f : Fault) → Low f → Small (refused f)
+  no : (f : Refusal) → Low f → Small (refused f)
 
-small-unless : {A : Type 0} (t : Bool) (f : Fault) (x : Reading A) → Low f → Small x → Small (unless t f x)
+small-unless : {A : Type 0} (t : Bool) (f : Refusal) (x : Reading A) → Low f → Small x → Small (unless t f x)
 unfolding unless
 small-unless true f x l h = no f l
 small-unless false f x l h = h
@@ -184,14 +189,14 @@ unfolding readOf messageOf
 read-small s = small-then _ _ (whole-small s) λ h. small-then _ _ (body-small _ _ _) λ b. is _
 
 -- ---- the numbers
-small-number : {A : Type 0} {x : Reading A} (f : Fault) → Small x → x ≡ refused f → (1 ≤ f .number) × (f .number ≤ 10)
+small-number : {A : Type 0} {x : Reading A} (f : Refusal) → Small x → x ≡ refused f → OfMessage f
 small-number f (is a) e = absurd (got-not-refused e)
-small-number f (no g l) e = let same : g .number ≡ f .number = cc in rw same at (between (g .number) 10 .0 l)
+small-number f (no g l) e = let same : g ≡ f = cc in rw same at (or-test (between (g .number) 10) (eqb-test (g .number) 22) .0 l)
 
-pub read-numbers : (s : List ℕ) (f : Fault) → readOf s ≡ refused f → (1 ≤ f .number) × (f .number ≤ 10)
+pub read-numbers : (s : List ℕ) (f : Refusal) → readOf s ≡ refused f → OfMessage f
 read-numbers s f e = small-number f (read-small s) e
 
-pub first-numbers : (s : List ℕ) (f : Fault) → firstOf s ≡ refused f → (1 ≤ f .number) × (f .number ≤ 10)
+pub first-numbers : (s : List ℕ) (f : Refusal) → firstOf s ≡ refused f → OfMessage f
 unfolding firstOf messageOf
 first-numbers s f e = small-number f (small-then _ _ (header-small s) λ h. small-then _ _ (body-small _ _ _) λ b. is _) e
 
@@ -201,11 +206,14 @@ pub spent : (left n at : ℕ) (seen s : List ℕ)
 unfolding runBy oneBy listBy
 spent left n at seen s = (refl, refl, refl)
 
-pub never-spent : (f : Fault) → f .number ≡ 0
+pub never-spent : (f : Refusal) → f .number ≡ 0
     → ((left n at : ℕ) (s : List ℕ) → runOf left n at s ≡ refused f → ⊥) × ((left n at : ℕ) (s : List ℕ) → oneOf left n at s ≡ refused f → ⊥)
     × ((seen : List ℕ) (n at : ℕ) (s : List ℕ) → listOf seen n at s ≡ refused f → ⊥)
 never-spent f z = (
-  λ left n at s e. omega (arith, small-number f (run-small left n at s) e),
-  λ left n at s e. omega (arith, small-number f (object-small left n at s) e),
-  λ seen n at s e. omega (arith, small-number f (list-small seen n at s) e),
+  λ left n at s e. some (small-number f (run-small left n at s) e),
+  λ left n at s e. some (small-number f (object-small left n at s) e),
+  λ seen n at s e. some (small-number f (list-small seen n at s) e),
 )
+  where
+    some : OfMessage f → ⊥
+    some = ⊎-elim (λ k. omega arith) (λ k. omega arith)

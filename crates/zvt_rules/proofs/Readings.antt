@@ -3,7 +3,7 @@ use mathlib.Core.Path.{_≡_, refl, sym}
 use mathlib.Core.Bool.{Bool, true, false}
 use Prim.Native.Nat.{ℕ}
 use native.Mathlib.Omega.{arith}
-use Rattle.zvt_rules.specs.declared.Fault.{Fault}
+use Rattle.zvt_rules.specs.declared.Refusal.{Refusal}
 use Rattle.zvt_rules.specs.Reading.{Reading, got, refused, unless, andThen}
 
 -- what was read is one thing
@@ -11,17 +11,17 @@ pub got-same : {A : Type 0} {a b : A} → _≡_ {A = Reading A} (got a) (got b) 
 got-same e = cc
 
 -- it is not refused
-pub got-not-refused : {A : Type 0} {a : A} {r : Fault} → _≡_ {A = Reading A} (got a) (refused r) → ⊥
+pub got-not-refused : {A : Type 0} {a : A} {r : Refusal} → _≡_ {A = Reading A} (got a) (refused r) → ⊥
 got-not-refused e = let z : _≡_ {A = ℕ} 0 1 = cc in omega arith
 
 -- the test did not hold
-pub unless-got : {A : Type 0} (t : Bool) (r : Fault) (x : Reading A) (a : A) → unless t r x ≡ got a → (t ≡ false) × (x ≡ got a)
+pub unless-got : {A : Type 0} (t : Bool) (r : Refusal) (x : Reading A) (a : A) → unless t r x ≡ got a → (t ≡ false) × (x ≡ got a)
 unfolding unless
 unless-got true r x a e = absurd (got-not-refused (sym e))
 unless-got false r x a e = (refl, e)
 
 -- a reading goes on where the test did not hold
-pub unless-on : {A : Type 0} {t : Bool} (r : Fault) (x : Reading A) → t ≡ false → unless t r x ≡ x
+pub unless-on : {A : Type 0} {t : Bool} (r : Refusal) (x : Reading A) → t ≡ false → unless t r x ≡ x
 unfolding unless
 unless-on r x e = rw e
 
@@ -36,7 +36,7 @@ pub then-on : {A B : Type 0} {x : Reading A} (f : A → Reading B) (a : A) → x
 unfolding andThen
 then-on f a e = rw (e, andThen)
 
-pub then-stop : {A B : Type 0} {x : Reading A} (f : A → Reading B) (r : Fault) → x ≡ refused r → andThen x f ≡ refused r
+pub then-stop : {A B : Type 0} {x : Reading A} (f : A → Reading B) (r : Refusal) → x ≡ refused r → andThen x f ≡ refused r
 unfolding andThen
 then-stop f r e = rw (e, andThen)
 
@@ -47,7 +47,7 @@ then-alike (got a) f g h = h a refl
 then-alike (refused r) f g h = refl
 
 -- a test before goes on before
-pub unless-then : {A B : Type 0} (t : Bool) (r : Fault) (x : Reading A) (f : A → Reading B) → andThen (unless t r x) f ≡ unless t r (andThen x f)
+pub unless-then : {A B : Type 0} (t : Bool) (r : Refusal) (x : Reading A) (f : A → Reading B) → andThen (unless t r x) f ≡ unless t r (andThen x f)
 unfolding unless andThen
 unless-then true r x f = refl
 unless-then false r x f = refl

@@ -9,7 +9,7 @@ use lib.ListN.{length, take, drop, replicate, length-replicate, length-append, l
 use lib.Seq.{drop-append-seam, length-take-le, take-append-le, take-append-seam, take-at, take-all}
 use lib.Dec.{ltb}
 use borrow.Author.Tests.{lt-ltb, ltb-true, ltb-false, not-true, not-false}
-use Rattle.zvt_rules.specs.declared.Fault.{Fault}
+use Rattle.zvt_rules.specs.declared.Refusal.{Refusal}
 use Rattle.zvt_rules.specs.declared.Format.{Format}
 use Rattle.zvt_rules.specs.declared.Format.the-variants.{Unknown, Fixed, Digits, Container}
 use Rattle.zvt_rules.specs.Reading.{Reading, got, refused, no, unless, among}
@@ -175,7 +175,7 @@ by-undecimal id n at (Digits d) front b tail s ok h ds e =
 by-undecimal id n at Container front b tail s ok h ds e = absurd ok
 
 -- a container, at its length or inside
-container-sized : (n at : ℕ) (s : List ℕ) (r : Fault) → SizedRead (at + 1) s r → containerOf n at (0x06 ∷ s) ≡ refused r
+container-sized : (n at : ℕ) (s : List ℕ) (r : Refusal) → SizedRead (at + 1) s r → containerOf n at (0x06 ∷ s) ≡ refused r
 unfolding containerOf valueOf unless
 container-sized n at s r h =
     ⊎-elim (λ e. then-stop _ _ e)
@@ -185,7 +185,7 @@ container-sized n at s r h =
     let end : at + suc (length s) ≡ at + 1 + length s = omega arith in
     then-on _ l (x .1) ∙ then-stop _ _ (rw (lt-ltb _ _ less, end) (ap refused (x .3)))) h
 
-container-inside : (n at : ℕ) (form : Form) (w s : List ℕ) (r : Fault) → FormOk form (length w)
+container-inside : (n at : ℕ) (form : Form) (w s : List ℕ) (r : Refusal) → FormOk form (length w)
     → runOf 4 n (at + (1 + formSize form)) w ≡ refused r → containerOf n at (0x06 ∷ (sized form w ++ s)) ≡ refused r
 unfolding containerOf sized
 container-inside n at form w s r ok e =
@@ -199,17 +199,17 @@ container-inside n at form w s r ok e =
     ∙ then-stop _ _ e
 
 -- a list is refused where its first field is
-list-stop : (seen : List ℕ) (n at id : ℕ) (s : List ℕ) (r : Fault) → fieldOf seen n at (id ∷ s) ≡ refused r
+list-stop : (seen : List ℕ) (n at id : ℕ) (s : List ℕ) (r : Refusal) → fieldOf seen n at (id ∷ s) ≡ refused r
     → listOf seen n at (id ∷ s) ≡ refused r
 list-stop seen n at id s r e = list-step seen n at (id ∷ s) (omega arith) ∙ then-stop _ _ e
 
 -- a known field that is new is refused as its format is
-list-by : (seen : List ℕ) (n at id : ℕ) (s : List ℕ) (r : Fault) → unknown (formatOf id) ≡ false → New seen id
+list-by : (seen : List ℕ) (n at id : ℕ) (s : List ℕ) (r : Refusal) → unknown (formatOf id) ≡ false → New seen id
     → fieldBy id n at (id ∷ s) (formatOf id) ≡ refused r → listOf seen n at (id ∷ s) ≡ refused r
 list-by seen n at id s r known new e =
     list-stop seen n at id s r (field-by seen n at (id ∷ s) id (formatOf id) refl refl known (new-test seen id .1 new) ∙ e)
 
-list-container : (seen : List ℕ) (n at : ℕ) (s : List ℕ) (r : Fault) → New seen 0x06 → containerOf n at (0x06 ∷ s) ≡ refused r
+list-container : (seen : List ℕ) (n at : ℕ) (s : List ℕ) (r : Refusal) → New seen 0x06 → containerOf n at (0x06 ∷ s) ≡ refused r
     → listOf seen n at (0x06 ∷ s) ≡ refused r
 unfolding fieldBy unknown
 list-container seen n at s r new e =
@@ -224,7 +224,7 @@ sized-known (Digits d) v ok = refl
 sized-known Container v ok = refl
 
 -- each row of a list
-pub list-refused : {seen : List ℕ} {n at : ℕ} {s : List ℕ} {r : Fault} → ListNo seen n at s r → listOf seen n at s ≡ refused r
+pub list-refused : {seen : List ℕ} {n at : ℕ} {s : List ℕ} {r : Refusal} → ListNo seen n at s r → listOf seen n at s ≡ refused r
 unfolding fieldOf unless unknown fieldBy fieldBytes
 list-refused {seen} {n} {at} (noField {id = id} {s = s} e) = list-stop seen n at id s (no 5 at) (rw e)
 list-refused {seen} {n} {at} (twice {id = id} {s = s} known e) =
@@ -253,13 +253,13 @@ list-refused {seen} {n} {at} {r = r} (behind {s = s} f ok new few h) =
 
 -- ---- what is refused a row says
 -- length digits
-data DigitsNo : ℕ → ℕ → List ℕ → Fault → Type 0 where
+data DigitsNo : ℕ → ℕ → List ℕ → Refusal → Type 0 where
   out : {d at : ℕ} {s : List ℕ} → LengthDigits s → length s < d → DigitsNo d at s (no 1 (at + length s))
   bad : {d at : ℕ} (front : List ℕ) (b : ℕ) (s : List ℕ) → LengthDigits front → length front < d → ((b < 0xF0) ⊎ (0xF9 < b))
       → DigitsNo d at (front ++ (b ∷ s)) (no 4 (at + length front))
 
 -- a digit before them moves the place by one
-one-more : {d at : ℕ} {s : List ℕ} {r : Fault} (b : ℕ) → (0xF0 ≤ b) × (b ≤ 0xF9) → DigitsNo d (at + 1) s r → DigitsNo (suc d) at (b ∷ s) r
+one-more : {d at : ℕ} {s : List ℕ} {r : Refusal} (b : ℕ) → (0xF0 ≤ b) × (b ≤ 0xF9) → DigitsNo d (at + 1) s r → DigitsNo (suc d) at (b ∷ s) r
 unfolding LengthDigits
 one-more {d} {at} b e (out {s = s} h l) =
     let z : at + suc (length s) ≡ at + 1 + length s = omega arith in
@@ -310,17 +310,17 @@ out-row d s h l =
     (w, omega arith, record { missing = f ++ w; some = omega (arith, length-append f w); joined = rw same (sym (append-assoc s f w)) })
 
 -- decimal digits
-pub data UndecimalNo : ℕ → List ℕ → Fault → Type 0 where
+pub data UndecimalNo : ℕ → List ℕ → Refusal → Type 0 where
   first : {at : ℕ} (front : List ℕ) (b : ℕ) (s : List ℕ) → Decimals front → Undecimal b → UndecimalNo at (front ++ (b ∷ s)) (no 6 (at + length front))
 
-one-more-decimal : {at : ℕ} {s : List ℕ} {r : Fault} (b : ℕ) → decimal b ≡ true → UndecimalNo (at + 1) s r → UndecimalNo at (b ∷ s) r
+one-more-decimal : {at : ℕ} {s : List ℕ} {r : Refusal} (b : ℕ) → decimal b ≡ true → UndecimalNo (at + 1) s r → UndecimalNo at (b ∷ s) r
 unfolding Decimals
 one-more-decimal {at} b e (first front c s h f) =
     let z : at + suc (length front) ≡ at + 1 + length front = omega arith in
     placed (UndecimalNo at (b ∷ (front ++ (c ∷ s)))) 6 z (first (b ∷ front) c s (e, h) f)
 
 -- decimal bytes, before whatever follows
-pub undecimal-told : {A : Type 0} {P : Fault → Type 0} (at : ℕ) (s : List ℕ) (x : Reading A) → ((r : Fault) → UndecimalNo at s r → P r)
+pub undecimal-told : {A : Type 0} {P : Refusal → Type 0} (at : ℕ) (s : List ℕ) (x : Reading A) → ((r : Refusal) → UndecimalNo at s r → P r)
     → (Decimals s → Told P x) → Told P (unlessUndecimal at s x)
 unfolding unlessUndecimal Decimals
 undecimal-told at [] x m g = g tt
@@ -333,7 +333,7 @@ undecimal-told at (b ∷ s) x m g =
     undecimal-told (at + 1) s x (λ r h. m r (one-more-decimal b e h)) (λ h. g (e, h)))
 
 -- a value that is not decimal
-undecimal-row : {seen : List ℕ} {n at d : ℕ} {value t : List ℕ} {r : Fault} (id : ℕ) (s : List ℕ) → New seen id
+undecimal-row : {seen : List ℕ} {n at d : ℕ} {value t : List ℕ} {r : Refusal} (id : ℕ) (s : List ℕ) → New seen id
     → SizeOk (formatOf id) (length value) → holdsDigits id ≡ true
     → fieldBytes (plain id value) ++ s ≡ id ∷ t → length (lengthIn (formatOf id) (length value)) ≡ d
     → UndecimalNo (at + (1 + d)) value r → ListNo seen n at (id ∷ t) r
@@ -372,7 +372,7 @@ plain-told seen id n at d v t new ok p l =
     (λ h. is _))
 
 -- what is refused inside a container
-inside-row : {seen : List ℕ} {n at : ℕ} {t : List ℕ} {r : Fault} (form : Form) (value s : List ℕ) → New seen 0x06
+inside-row : {seen : List ℕ} {n at : ℕ} {t : List ℕ} {r : Refusal} (form : Form) (value s : List ℕ) → New seen 0x06
     → FormOk form (length value) → (0x06 ∷ (lenBytes form (length value) ++ value)) ++ s ≡ 0x06 ∷ t
     → RunNo 4 n (at + (1 + formSize form)) value r → ListNo seen n at (0x06 ∷ t) r
 unfolding sized
@@ -381,7 +381,7 @@ inside-row {seen} {n} {at} {r = r} form value s new ok e row =
     subst (λ (x : List ℕ). ListNo seen n at x r) e (inside form value s new ok (rw place at row))
 
 -- what is refused in length digits
-digits-row : {seen : List ℕ} {n at id : ℕ} {t : List ℕ} {r : Fault} (d : ℕ) → formatOf id ≡ Digits d → New seen id
+digits-row : {seen : List ℕ} {n at id : ℕ} {t : List ℕ} {r : Refusal} (d : ℕ) → formatOf id ≡ Digits d → New seen id
     → DigitsNo d (at + 1) t r → ListNo seen n at (id ∷ t) r
 unfolding SizeOk lengthIn
 digits-row {seen} {n} {at} {id} d e new (out {s = s} h l) =
@@ -446,7 +446,7 @@ field-told seen n at id t b =
     (λ v. format-told seen id n at t (formatOf id) refl (new-test seen id .0 v) b))
 
 -- a row behind one more field
-behind-row : {seen : List ℕ} {n at id : ℕ} {s rest : List ℕ} {size count : ℕ} {r : Fault} (f : Field) → fieldBytes f ++ rest ≡ s
+behind-row : {seen : List ℕ} {n at id : ℕ} {s rest : List ℕ} {size count : ℕ} {r : Refusal} (f : Field) → fieldBytes f ++ rest ≡ s
     → size ≡ length (fieldBytes f) → FieldOk f → id ≡ fieldId f → New seen id → count ≡ n + countField f → count ≤ 64
     → ListNo (id ∷ seen) count (at + size) rest r → ListNo seen n at s r
 behind-row {n = n} f e z ok i new c few row =

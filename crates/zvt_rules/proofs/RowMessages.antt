@@ -9,10 +9,10 @@ use lib.ListN.{length, take, drop, replicate, length-replicate, length-append, l
 use lib.Seq.{length-take-le, take-at, drop-at}
 use lib.Dec.{ltb, eqb}
 use borrow.Author.Tests.{ltb-true, ltb-false, lt-ltb, le-ltb, eqb-true, ne-eqb}
-use Rattle.zvt_rules.specs.declared.Fault.{Fault}
+use Rattle.zvt_rules.specs.declared.Refusal.{Refusal}
 use Rattle.zvt_rules.specs.declared.Layout.{Layout}
 use Rattle.zvt_rules.specs.declared.Layout.the-variants.{Plain, List as FieldList, Secured}
-use Rattle.zvt_rules.specs.Reading.{Reading, got, refused, no, noHeader, unless, andThen, part}
+use Rattle.zvt_rules.specs.Reading.{Reading, got, refused, no, unplaced, unless, andThen, part}
 use Rattle.zvt_rules.specs.Message.{BodyLength, longLength, lengthOf, Heading, headerSize, start, end, headerWith, headerOf, layoutOf, securedOf, bodyOf, Message, messageOf, firstOf, wholeHeader, readOf}
 use Rattle.zvt_rules.specs.believed.Writing.{lengthBytes, messageBytes}
 use Rattle.zvt_rules.specs.Shortest.{write, shorten}
@@ -32,7 +32,7 @@ use Rattle.zvt_rules.proofs.RowFields.{undecimal-stops, UndecimalNo, fi
 
 -- ---- a body: what a row says is refused
 -- a password and the list behind it
-secured-refused : {at : ℕ} {s : List ℕ} {r : Fault} → SecuredNo at s r → securedOf at s ≡ refused r
+secured-refused : {at : ℕ} {s : List ℕ} {r : Refusal} → SecuredNo at s r → securedOf at s ≡ refused r
 unfolding securedOf unless
 secured-refused {at} {s} (short l) = rw (lt-ltb (length s) 3 l)
 secured-refused {at} (undecimal front b back s size ds e) =
@@ -43,7 +43,7 @@ secured-refused {at} (behind {s = s} w size ds h) =
     unless-on _ _ (le-ltb (length (w ++ s)) 3 (omega (arith, length-append w s)))
     ∙ rw (take-at w s 3 size, drop-at w s 3 size) (decimals-read at w _ ds ∙ then-stop _ _ (rw size at (list-refused h)))
 
-body-refused : (at : ℕ) (s : List ℕ) (l : Layout) (r : Fault) → BodyNo l at s r → bodyOf at s l ≡ refused r
+body-refused : (at : ℕ) (s : List ℕ) (l : Layout) (r : Refusal) → BodyNo l at s r → bodyOf at s l ≡ refused r
 unfolding BodyNo bodyOf
 body-refused at s Plain r h = absurd h
 body-refused at s FieldList r h = then-stop _ _ (list-refused h)
@@ -51,7 +51,7 @@ body-refused at s Secured r h = secured-refused h
 
 -- ---- what is refused a row says
 -- a password that is not decimal
-undecimal-row : {at : ℕ} {w s : List ℕ} {r : Fault} (t : List ℕ) → length w ≡ 3 → w ++ t ≡ s → UndecimalNo at w r → SecuredNo at s r
+undecimal-row : {at : ℕ} {w s : List ℕ} {r : Refusal} (t : List ℕ) → length w ≡ 3 → w ++ t ≡ s → UndecimalNo at w r → SecuredNo at s r
 undecimal-row t size e (first front b back ds f) = rw (← e) (undecimal front b back t size ds f)
 
 secured-told : (at : ℕ) (s : List ℕ) → Bytes s → Told (SecuredNo at s) (securedOf at s)
@@ -74,13 +74,13 @@ body-told at s Secured b = secured-told at s b
 -- ---- a header: what a row says is refused
 -- its length was read, and its body is cut short
 with-cut : (c i : ℕ) (s : List ℕ) (l : BodyLength) → l .value ≤ 4_096 → length s < headerSize (l .long) + l .value
-    → headerWith c i s l ≡ refused (noHeader 1)
+    → headerWith c i s l ≡ refused (unplaced 1)
 unfolding headerWith unless
 with-cut c i s l h w = unless-on _ _ (le-ltb 4_096 (l .value) h) ∙ rw (lt-ltb (length s) (headerSize (l .long) + l .value) w)
 
 -- a header that is cut, by how many bytes of it are there
 header-cut : (s : List ℕ) (c i : ℕ) (long : Bool) (w m : List ℕ) → LengthOk long (length w) → 0 < length m → s ++ m ≡ framed c i long w
-    → headerOf s ≡ refused (noHeader 1)
+    → headerOf s ≡ refused (unplaced 1)
 unfolding headerOf lengthOf longLength LengthOk lengthBytes andThen
 header-cut [] c i long w m ok h e = refl
 header-cut (x ∷ []) c i long w m ok h e = refl
@@ -101,12 +101,12 @@ header-cut (x ∷ (y ∷ (z ∷ (l ∷ (g ∷ t))))) c i true w m ok h e =
     let read : lengthOf (z ∷ (l ∷ (g ∷ t))) ≡ got (record { long = true; value = length w }) = rw (a, v) in
     then-on _ _ read ∙ with-cut x y _ _ ok (omega (arith, length-append t m, ap length j))
 
-header-refused : {s : List ℕ} {r : Fault} → HeaderNo s r → headerOf s ≡ refused r
+header-refused : {s : List ℕ} {r : Refusal} → HeaderNo s r → headerOf s ≡ refused r
 unfolding headerOf headerWith lengthOf longLength andThen unless
 header-refused {s} (short c i long w ok x) = header-cut s c i long w (x .missing) ok (x .some) (x .joined)
 header-refused (tooLong {low = l} {high = h} g) = rw (lt-ltb 4_096 (h * 256 + l) g)
 
-whole-refused : {s : List ℕ} {r : Fault} → WholeNo s r → wholeHeader s ≡ refused r
+whole-refused : {s : List ℕ} {r : Refusal} → WholeNo s r → wholeHeader s ≡ refused r
 unfolding wholeHeader unless
 whole-refused (header h) = then-stop _ _ (header-refused h)
 whole-refused (leftOver c i long w s ok l) =
@@ -142,7 +142,7 @@ length-told c i (x ∷ (l ∷ [])) b =
 length-told c i (x ∷ (l ∷ (h ∷ t))) b = pick-test (Told (HeaderNo (c ∷ (i ∷ (x ∷ (l ∷ (h ∷ t))))))) (eqb x 0xFF) (λ u. is _) (λ u. is _)
 
 -- a length that is over the limit
-over : (c i : ℕ) (t : List ℕ) (l : BodyLength) → longLength t ≡ got l → 4_096 < l .value → HeaderNo (c ∷ (i ∷ (0xFF ∷ t))) (noHeader 2)
+over : (c i : ℕ) (t : List ℕ) (l : BodyLength) → longLength t ≡ got l → 4_096 < l .value → HeaderNo (c ∷ (i ∷ (0xFF ∷ t))) (unplaced 2)
 unfolding longLength
 over c i [] l e h = absurd (got-not-refused (sym e))
 over c i (x ∷ []) l e h = absurd (got-not-refused (sym e))
@@ -150,17 +150,17 @@ over c i (x ∷ (y ∷ t)) l e h =
     let z : y * 256 + x ≡ l .value = ap (λ (m : BodyLength). m .value) (got-same e) in
     tooLong {low = x} {high = y} (omega arith)
 
-over-row : (c i : ℕ) (t : List ℕ) (l : BodyLength) → Bytes t → lengthOf t ≡ got l → 4_096 < l .value → HeaderNo (c ∷ (i ∷ t)) (noHeader 2)
+over-row : (c i : ℕ) (t : List ℕ) (l : BodyLength) → Bytes t → lengthOf t ≡ got l → 4_096 < l .value → HeaderNo (c ∷ (i ∷ t)) (unplaced 2)
 unfolding lengthOf Bytes
 over-row c i [] l b e h = absurd (got-not-refused (sym e))
 over-row c i (x ∷ t) l b e h =
-    pick-test (λ (y : Reading BodyLength). y ≡ got l → HeaderNo (c ∷ (i ∷ (x ∷ t))) (noHeader 2)) (eqb x 0xFF)
+    pick-test (λ (y : Reading BodyLength). y ≡ got l → HeaderNo (c ∷ (i ∷ (x ∷ t))) (unplaced 2)) (eqb x 0xFF)
     (λ u f. rw (eqb-true x 0xFF u) (over c i t l f h))
     (λ u f. let z : x ≡ l .value = ap (λ (m : BodyLength). m .value) (got-same f) in absurd (omega (arith, b 0))) e
 
 -- a body that is cut short
 cut-row : (c i : ℕ) (t : List ℕ) (l : BodyLength) → Bytes t → lengthOf t ≡ got l → l .value ≤ 4_096
-    → length (c ∷ (i ∷ t)) < headerSize (l .long) + l .value → HeaderNo (c ∷ (i ∷ t)) (noHeader 1)
+    → length (c ∷ (i ∷ t)) < headerSize (l .long) + l .value → HeaderNo (c ∷ (i ∷ t)) (unplaced 1)
 cut-row c i t l b e h less =
     let w = length-sound t l b e in
     let d = headerSize (l .long) - 2 in
@@ -179,8 +179,8 @@ header-told (c ∷ (i ∷ t)) b =
     let bs = bytes-drop 2 s b in
     told-then _ (length-told c i t bs) (λ r h. h)
     (λ l e.
-    told-unless (ltb 4_096 (l .value)) (noHeader 2) (λ u. over-row c i t l bs e (ltb-true 4_096 (l .value) u))
-    (λ u. told-unless (ltb (length s) (headerSize (l .long) + l .value)) (noHeader 1)
+    told-unless (ltb 4_096 (l .value)) (unplaced 2) (λ u. over-row c i t l bs e (ltb-true 4_096 (l .value) u))
+    (λ u. told-unless (ltb (length s) (headerSize (l .long) + l .value)) (unplaced 1)
     (λ v. cut-row c i t l bs e (ltb-false 4_096 (l .value) u) (ltb-true (length s) (headerSize (l .long) + l .value) v))
     (λ v. is _)))
 
@@ -205,7 +205,7 @@ frames s h b e =
 
 -- bytes left over behind it
 over-left : {s : List ℕ} (c i : ℕ) (long : Bool) (w t : List ℕ) → LengthOk long (length w) → 0 < length t → framed c i long w ++ t ≡ s
-    → WholeNo s (noHeader 3)
+    → WholeNo s (unplaced 3)
 over-left c i long w t ok l e = rw (← e) (leftOver c i long w t ok l)
 
 whole-told : (s : List ℕ) → Bytes s → Told (WholeNo s) (wholeHeader s)
@@ -214,14 +214,14 @@ whole-told s b =
     told-then _ (header-told s b) (λ r h. header h)
     (λ h e.
     let f = frames s h b e in
-    told-unless (ltb (end h) (length s)) (noHeader 3)
+    told-unless (ltb (end h) (length s)) (unplaced 3)
     (λ u.
     over-left (h .class) (h .instruction) (h .long) (part (start h) (end h) s) (drop (end h) s) (f .fits)
     (omega (arith, ltb-true (end h) (length s) u, length-drop (end h) s)) (f .bytes))
     (λ u. is h))
 
 -- a header behind whose body nothing is left
-whole-got : (s : List ℕ) (h : Heading) → wholeHeader s ≡ got h → (headerOf s ≡ got h) × (length s ≤ end h)
+pub whole-got : (s : List ℕ) (h : Heading) → wholeHeader s ≡ got h → (headerOf s ≡ got h) × (length s ≤ end h)
 unfolding wholeHeader
 whole-got s h e =
     let k = then-got (headerOf s) _ h e in
@@ -230,7 +230,7 @@ whole-got s h e =
 
 -- ---- a message
 -- whose header is read, and whose body is refused
-framed-refused : (s rest : List ℕ) (r : Fault) → FramedNo s rest r
+framed-refused : (s rest : List ℕ) (r : Refusal) → FramedNo s rest r
     → (h : Heading) × (headerOf s ≡ got h) × (messageOf s h ≡ refused r) × (length s ≡ end h + length rest)
 unfolding messageOf FramedNo
 framed-refused s rest r (class, instruction, long, w, bytes, fits, row) =
@@ -245,7 +245,7 @@ framed-refused s rest r (class, instruction, long, w, bytes, fits, row) =
     )
 
 -- each row of reading, and of the first of several
-read-refused : (s : List ℕ) (r : Fault) → ReadNo s r → readOf s ≡ refused r
+read-refused : (s : List ℕ) (r : Refusal) → ReadNo s r → readOf s ≡ refused r
 unfolding readOf wholeHeader
 read-refused s r (inl h) = then-stop _ _ (whole-refused h)
 read-refused s r (inr m) =
@@ -253,12 +253,12 @@ read-refused s r (inr m) =
     let h = f .0 in
     then-on _ h (then-on _ h (f .1) ∙ unless-on _ _ (le-ltb (end h) (length s) (omega (arith, f .3)))) ∙ f .2
 
-first-refused : (s : List ℕ) (r : Fault) → FirstNo s r → firstOf s ≡ refused r
+first-refused : (s : List ℕ) (r : Refusal) → FirstNo s r → firstOf s ≡ refused r
 unfolding firstOf
 first-refused s r (inl h) = then-stop _ _ (header-refused h)
 first-refused s r (inr m) = let f = framed-refused s (m .0) r (m .1) in then-on _ (f .0) (f .1) ∙ f .2
 
-short-refused : (room : ℕ) {s : List ℕ} {r : Fault} → Bytes s → ShortNo room s r → shortened room s ≡ refused r
+short-refused : (room : ℕ) {s : List ℕ} {r : Refusal} → Bytes s → ShortNo room s r → shortened room s ≡ refused r
 unfolding shortened shorten unless
 short-refused room {s} {r} b (unread h) = then-stop _ _ (then-stop _ _ (read-refused s r h))
 short-refused room {s} b (tight w k l) = then-on _ w (shortens-exactly s w b .1 k) ∙ rw (lt-ltb room (length w) l)
@@ -290,45 +290,45 @@ module _ (s : List ℕ) (b : Bytes s) where
   short-told room =
       told-then _ (told-then _ (told-as read-told (λ r h. unread h)) (λ r h. h) (λ m e. is (write m))) (λ r h. h)
       (λ w e.
-      told-unless (ltb room (length w)) (noHeader 11) (λ t. tight w (shortens-exactly s w b .0 e) (ltb-true room (length w) t))
+      told-unless (ltb room (length w)) (unplaced 11) (λ t. tight w (shortens-exactly s w b .0 e) (ltb-true room (length w) t))
       (λ t. is w))
 
   -- ---- bytes are refused with that number, at that place, exactly where a row says so
-  pub header-exactly : (r : Fault) → (headerOf s ≡ refused r) ↔ HeaderNo s r
+  pub header-exactly : (r : Refusal) → (headerOf s ≡ refused r) ↔ HeaderNo s r
   header-exactly r = (told r (header-told s b), header-refused)
 
-  pub whole-exactly : (r : Fault) → (wholeHeader s ≡ refused r) ↔ WholeNo s r
+  pub whole-exactly : (r : Refusal) → (wholeHeader s ≡ refused r) ↔ WholeNo s r
   whole-exactly r = (told r (whole-told s b), whole-refused)
 
-  pub read-no-exactly : (r : Fault) → (readOf s ≡ refused r) ↔ ReadNo s r
+  pub read-no-exactly : (r : Refusal) → (readOf s ≡ refused r) ↔ ReadNo s r
   read-no-exactly r = (told r read-told, read-refused s r)
 
-  pub first-no-exactly : (r : Fault) → (firstOf s ≡ refused r) ↔ FirstNo s r
+  pub first-no-exactly : (r : Refusal) → (firstOf s ≡ refused r) ↔ FirstNo s r
   first-no-exactly r = (told r first-told, first-refused s r)
 
-  pub short-no-exactly : (room : ℕ) (r : Fault) → (shortened room s ≡ refused r) ↔ ShortNo room s r
+  pub short-no-exactly : (room : ℕ) (r : Refusal) → (shortened room s ≡ refused r) ↔ ShortNo room s r
   short-no-exactly room r = (told r (short-told room), short-refused room b)
 
   -- ---- the rows by themselves: all bytes are a message's, or have a row
-  pub read-cover : ((m : Message) × ((messageBytes m ≡ s) × MessageOk m)) ⊎ ((r : Fault) × ReadNo s r)
+  pub read-cover : ((m : Message) × ((messageBytes m ≡ s) × MessageOk m)) ⊎ ((r : Refusal) × ReadNo s r)
   read-cover = ⊎-elim (λ x. inl (x .0, read-sound s (x .0) b (x .1))) inr (told-cases read-told)
 
-  pub first-cover : ((m : Message) × ((rest : List ℕ) × ((messageBytes m ++ rest ≡ s) × MessageOk m))) ⊎ ((r : Fault) × FirstNo s r)
+  pub first-cover : ((m : Message) × ((rest : List ℕ) × ((messageBytes m ++ rest ≡ s) × MessageOk m))) ⊎ ((r : Refusal) × FirstNo s r)
   first-cover = ⊎-elim (λ x. inl (x .0, first-exactly s (x .0) b .0 (x .1))) inr (told-cases first-told)
 
 -- and one at most
-refused-same : {A : Type 0} {r q : Fault} → _≡_ {A = Reading A} (refused r) (refused q) → r ≡ q
+refused-same : {A : Type 0} {r q : Refusal} → _≡_ {A = Reading A} (refused r) (refused q) → r ≡ q
 refused-same e = cc
 
-pub read-once : (s : List ℕ) (r q : Fault) → ReadNo s r → ReadNo s q → r ≡ q
+pub read-once : (s : List ℕ) (r q : Refusal) → ReadNo s r → ReadNo s q → r ≡ q
 read-once s r q a b = refused-same (sym (read-refused s r a) ∙ read-refused s q b)
 
-pub first-once : (s : List ℕ) (r q : Fault) → FirstNo s r → FirstNo s q → r ≡ q
+pub first-once : (s : List ℕ) (r q : Refusal) → FirstNo s r → FirstNo s q → r ≡ q
 first-once s r q a b = refused-same (sym (first-refused s r a) ∙ first-refused s q b)
 
 -- and no message that is allowed has one
-pub read-never : (m : Message) (r : Fault) → MessageOk m → ReadNo (messageBytes m) r → ⊥
+pub read-never : (m : Message) (r : Refusal) → MessageOk m → ReadNo (messageBytes m) r → ⊥
 read-never m r ok a = got-not-refused (sym (read-complete m ok) ∙ read-refused (messageBytes m) r a)
 
-pub first-never : (m : Message) (rest : List ℕ) (r : Fault) → MessageOk m → FirstNo (messageBytes m ++ rest) r → ⊥
+pub first-never : (m : Message) (rest : List ℕ) (r : Refusal) → MessageOk m → FirstNo (messageBytes m ++ rest) r → ⊥
 first-never m rest r ok a = got-not-refused (sym (first-complete m rest ok) ∙ first-refused (messageBytes m ++ rest) r a)

@@ -10,7 +10,7 @@ use lib.ListN.{length, getD, take, drop, replicate, length-replicate, length-app
 use lib.Seq.{drop-append-seam, length-take-le}
 use lib.Dec.{ltb, leb, eqb}
 use borrow.Author.Tests.{lt-leb, le-leb, ne-eqb, lt-ltb, le-ltb, eq-eqb, eqb-true, eqb-false, ltb-true, ltb-false, leb-true, leb-false}
-use Rattle.zvt_rules.specs.declared.Fault.{Fault}
+use Rattle.zvt_rules.specs.declared.Refusal.{Refusal}
 use Rattle.zvt_rules.specs.Reading.{got, refused, no, unless, part}
 use Rattle.zvt_rules.specs.Objects.{longTag, topBit, nested, secondTag, tagSize, Form, bare, one, two, formSize, Len, oneByteLen, twoByteLen, lenOf}
 use Rattle.zvt_rules.specs.Objects.{from, to, headWith, headOf, Obj, runOf, oneOf, countObj}
@@ -26,7 +26,7 @@ use Rattle.zvt_rules.proofs.RowReadings.{Told, is, not, told-unless, mo
 
 -- ---- what a row says is refused
 -- a length and that many bytes: refused at the length, or the value is too short
-abbrev pub SizedRead : ℕ → List ℕ → Fault → Type 0
+abbrev pub SizedRead : ℕ → List ℕ → Refusal → Type 0
 SizedRead at s r =
     (lenOf at s ≡ refused r)
     ⊎ ((l : Len) × (lenOf at s ≡ got l) × (length s < formSize (l .form) + l .value) × (no 1 (at + length s) ≡ r))
@@ -62,7 +62,7 @@ short-read at (x ∷ (y ∷ (z ∷ s))) two w m ok l e =
     inr (record { form = two; value = length w }, rw (i, h, g) (len-written at two (length w) s ok), less, refl)
 
 -- each row of them
-pub sized-read : {at : ℕ} {s : List ℕ} {r : Fault} → SizedNo at s r → SizedRead at s r
+pub sized-read : {at : ℕ} {s : List ℕ} {r : Refusal} → SizedNo at s r → SizedRead at s r
 unfolding sized lenOf
 sized-read {at} {s} (short form w ok c) = short-read at s form w (c .missing) ok (c .some) (c .joined)
 sized-read {at} (wrong {b = b} {s = s} h) =
@@ -82,16 +82,16 @@ tag-cut at (x ∷ (y ∷ s)) (b ∷ (c ∷ [])) run m ok h l e = absurd (omega (
 tag-cut at s (b ∷ (c ∷ (d ∷ t))) run m ok h l e = absurd ok
 
 -- a run is refused where its first object is
-run-stop : (left n at : ℕ) (s : List ℕ) (r : Fault) → 0 < length s → oneOf left n at s ≡ refused r → runOf left n at s ≡ refused r
+run-stop : (left n at : ℕ) (s : List ℕ) (r : Refusal) → 0 < length s → oneOf left n at s ≡ refused r → runOf left n at s ≡ refused r
 run-stop left n at s r l e = run-step left n at s l ∙ then-stop _ _ e
 
 -- an object with room is refused where its head is
-one-head : (left n at : ℕ) (s : List ℕ) (r : Fault) → Room left n → headOf at s ≡ refused r → oneOf left n at s ≡ refused r
+one-head : (left n at : ℕ) (s : List ℕ) (r : Refusal) → Room left n → headOf at s ≡ refused r → oneOf left n at s ≡ refused r
 unfolding unless
 one-head left n at s r room e = one-step left n at s ∙ rw (lt-leb 64 n (room .0), ne-eqb left 0 (λ z. omega (arith, room .1))) (then-stop _ _ e)
 
 -- a head is refused where what stands behind its tag is
-head-sized : (at : ℕ) (tag s : List ℕ) (run : Bool) (r : Fault) → TagOk tag run → SizedRead (at + length tag) s r
+head-sized : (at : ℕ) (tag s : List ℕ) (run : Bool) (r : Refusal) → TagOk tag run → SizedRead (at + length tag) s r
     → headOf at (tag ++ s) ≡ refused r
 unfolding headOf headWith unless
 head-sized at tag s run r ok h =
@@ -113,7 +113,7 @@ tag-append [] s run ok = absurd ok
 tag-append (b ∷ t) s run ok = omega arith
 
 -- each row of a run
-pub run-refused : {left n at : ℕ} {s : List ℕ} {r : Fault} → RunNo left n at s r → runOf left n at s ≡ refused r
+pub run-refused : {left n at : ℕ} {s : List ℕ} {r : Refusal} → RunNo left n at s r → runOf left n at s ≡ refused r
 unfolding unless headOf tagSize secondTag
 run-refused {left} {n} {at} {s} (tooMany l h) = run-stop left n at s (no 10 at) l (one-step left n at s ∙ rw (le-leb 64 n h))
 run-refused {left} {n} {at} {s} (tooDeep l h z) = run-stop left n at s (no 9 at) l (one-step left n at s ∙ rw (lt-leb 64 n h, z))
@@ -193,7 +193,7 @@ len-told at (b ∷ s) h =
     told-pick (ltb b 0x80) (λ t. is _)
     (λ t. told-pick (eqb b 0x81) (λ u. one-told at b s (eqb-true b 0x81 u))
     (λ u. told-pick (eqb b 0x82) (λ w. two-told at b s (eqb-true b 0x82 w) (λ i. h (suc i)))
-    (λ w. not (no 4 at) (wrong (other b (ltb-false b 0x80 t) (eqb-false b 0x81 u) (eqb-false b 0x82 w))))))
+    (λ w. not (no 22 at) (wrong (other b (ltb-false b 0x80 t) (eqb-false b 0x81 u) (eqb-false b 0x82 w))))))
 
 -- a value that is too short, behind a length that was read
 pub value-short : (at : ℕ) (s : List ℕ) (l : Len) → Bytes s → lenOf at s ≡ got l → length s < formSize (l .form) + l .value
@@ -217,7 +217,7 @@ head-told left n at s room l b =
     let f = tag-first at s t e in
     let rest = drop t s in
     let bs = bytes-drop t s b in
-    let row : (r : Fault) → SizedNo (at + t) rest r → RunNo left n at s r
+    let row : (r : Refusal) → SizedNo (at + t) rest r → RunNo left n at s r
     = λ r h.
     subst (λ (x : List ℕ). RunNo left n at x r) (f .1)
     (sizedIn (take t s) (nested (getD s 0 0)) room (tag-sound at s t e) (rw (f .0) h)) in
@@ -268,7 +268,7 @@ one-told-by left n at s l b ih =
     (λ v. is _)))))
 
 -- a row behind one more object
-behind-row : {left n at : ℕ} {s rest : List ℕ} {size count : ℕ} {r : Fault} (o : Obj) → objBytes o ++ rest ≡ s → size ≡ length (objBytes o)
+behind-row : {left n at : ℕ} {s rest : List ℕ} {size count : ℕ} {r : Refusal} (o : Obj) → objBytes o ++ rest ≡ s → size ≡ length (objBytes o)
     → ObjOk o left → count ≡ n + countObj o → count ≤ 64 → RunNo left count (at + size) rest r → RunNo left n at s r
 behind-row {n = n} o e f ok c few row = let less : n + countObj o ≤ 64 = omega arith in rw (← e) (behind o ok less (rw (f, c) at row))
 

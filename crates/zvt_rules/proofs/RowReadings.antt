@@ -6,45 +6,45 @@ use mathlib.Core.Logic.{_⊎_, inl, inr}
 use Prim.Native.Nat.{ℕ, _+_, _-_, _<_, _≤_}
 use native.Mathlib.Omega.{arith}
 use lib.ListN.{length, take, drop, replicate, length-append, length-drop, length-replicate, take-append-drop}
-use Rattle.zvt_rules.specs.declared.Fault.{Fault}
+use Rattle.zvt_rules.specs.declared.Refusal.{Refusal}
 use Rattle.zvt_rules.specs.Reading.{Reading, got, refused, no, pick, unless, andThen}
 use Rattle.zvt_rules.specs.believed.Rows.{Cut}
 use Rattle.zvt_rules.proofs.Readings.{got-not-refused}
 
 -- a reading that is refused only with a fault that P says
-pub data Told {A : Type 0} (P : Fault → Type 0) : Reading A → Type 0 where
+pub data Told {A : Type 0} (P : Refusal → Type 0) : Reading A → Type 0 where
   is : (a : A) → Told P (got a)
-  not : (r : Fault) → P r → Told P (refused r)
+  not : (r : Refusal) → P r → Told P (refused r)
 
 -- what it is refused with, P says
-pub told : {A : Type 0} {P : Fault → Type 0} {x : Reading A} (r : Fault) → Told P x → x ≡ refused r → P r
+pub told : {A : Type 0} {P : Refusal → Type 0} {x : Reading A} (r : Refusal) → Told P x → x ≡ refused r → P r
 told r (is a) e = absurd (got-not-refused e)
 told {P = P} r (not q h) e = let same : q ≡ r = cc in subst P same h
 
 -- it was read, or P says a refusal
-pub told-cases : {A : Type 0} {P : Fault → Type 0} {x : Reading A} → Told P x → ((a : A) × (x ≡ got a)) ⊎ ((r : Fault) × P r)
+pub told-cases : {A : Type 0} {P : Refusal → Type 0} {x : Reading A} → Told P x → ((a : A) × (x ≡ got a)) ⊎ ((r : Refusal) × P r)
 told-cases (is a) = inl (a, refl)
 told-cases (not r h) = inr (r, h)
 
 -- through a test, a choice and a second step; and by a weaker P
-pub told-unless : {A : Type 0} {P : Fault → Type 0} (t : Bool) (r : Fault) {x : Reading A} → (t ≡ true → P r) → (t ≡ false → Told P x)
+pub told-unless : {A : Type 0} {P : Refusal → Type 0} (t : Bool) (r : Refusal) {x : Reading A} → (t ≡ true → P r) → (t ≡ false → Told P x)
     → Told P (unless t r x)
 unfolding unless
 told-unless true r h g = not r (h refl)
 told-unless false r h g = g refl
 
-pub told-pick : {A : Type 0} {P : Fault → Type 0} (t : Bool) {x y : Reading A} → (t ≡ true → Told P x) → (t ≡ false → Told P y)
+pub told-pick : {A : Type 0} {P : Refusal → Type 0} (t : Bool) {x y : Reading A} → (t ≡ true → Told P x) → (t ≡ false → Told P y)
     → Told P (pick t x y)
 told-pick true h g = h refl
 told-pick false h g = g refl
 
-pub told-then : {A B : Type 0} {P Q : Fault → Type 0} {x : Reading A} (f : A → Reading B) → Told Q x → ((r : Fault) → Q r → P r)
+pub told-then : {A B : Type 0} {P Q : Refusal → Type 0} {x : Reading A} (f : A → Reading B) → Told Q x → ((r : Refusal) → Q r → P r)
     → ((a : A) → x ≡ got a → Told P (f a)) → Told P (andThen x f)
 unfolding andThen
 told-then f (is a) m g = g a refl
 told-then f (not r h) m g = not r (m r h)
 
-pub told-as : {A : Type 0} {P Q : Fault → Type 0} {x : Reading A} → Told Q x → ((r : Fault) → Q r → P r) → Told P x
+pub told-as : {A : Type 0} {P Q : Refusal → Type 0} {x : Reading A} → Told Q x → ((r : Refusal) → Q r → P r) → Told P x
 told-as (is a) m = is a
 told-as (not r h) m = not r (m r h)
 
@@ -53,7 +53,7 @@ pub moved : {A : Type 0} (k : ℕ) {p q : ℕ} → p ≡ q → _≡_ {A = Readin
 moved k e = ap (λ (x : ℕ). refused (no k x)) e
 
 -- the same row
-pub placed : (P : Fault → Type 0) (k : ℕ) {p q : ℕ} → p ≡ q → P (no k p) → P (no k q)
+pub placed : (P : Refusal → Type 0) (k : ℕ) {p q : ℕ} → p ≡ q → P (no k p) → P (no k q)
 placed P k e h = subst (λ (x : ℕ). P (no k x)) e h
 
 -- bytes that begin with p and end before v bytes more are the front of p and v bytes

@@ -3,8 +3,6 @@ use Prim.Native.Nat.{ℕ}
 use mathlib.Core.List.{List}
 use lib.ListN.{length}
 use lib.Dec.{ltb}
-use Rattle.zvt_rules.specs.declared.Fault.{Fault}
-use Rattle.zvt_rules.specs.declared.Refusal.{Refusal}
 use Rattle.zvt_rules.specs.declared.Header.{Header}
 use Rattle.zvt_rules.specs.declared.Outline.{Outline}
 use Rattle.zvt_rules.specs.declared.HeaderAnswer.{HeaderAnswer}
@@ -15,15 +13,11 @@ use Rattle.zvt_rules.specs.declared.FirstAnswer.{FirstAnswer}
 use Rattle.zvt_rules.specs.declared.FirstAnswer.the-variants.{Accepted as first-accepted, Refused as first-refused}
 use Rattle.zvt_rules.specs.declared.ShortenAnswer.{ShortenAnswer}
 use Rattle.zvt_rules.specs.declared.ShortenAnswer.the-variants.{Written, Refused as short-refused}
-use Rattle.zvt_rules.specs.Reading.{Reading, got, refused, noHeader, unless, andThen}
+use Rattle.zvt_rules.specs.Reading.{Reading, got, refused, unplaced, unless, andThen}
 use Rattle.zvt_rules.specs.Buffers.{writtenLeaves}
 use Rattle.zvt_rules.specs.Message.{Heading, headerSize, start, wholeHeader, Message, readOf, firstOf, countOf}
 use Rattle.zvt_rules.specs.believed.Writing.{bodyBytes, messageBytes}
 use Rattle.zvt_rules.specs.Shortest.{isShort, shorten}
-
--- R31: "A refusal answers its number and nothing else."
-unfoldable pub refusalOf : Fault → Refusal
-refusalOf f = record { number = f .number }
 
 -- the header by the place where its body starts
 unfoldable pub headerIn : Heading → Header
@@ -31,7 +25,7 @@ headerIn h = record { class = h .class; instruction = h .instruction; start = st
 
 unfoldable pub asHeaderAnswer : Reading Heading → HeaderAnswer
 asHeaderAnswer (got h) = header-got (headerIn h)
-asHeaderAnswer (refused f) = header-refused (refusalOf f)
+asHeaderAnswer (refused r) = header-refused r
 
 unfoldable pub headerAnswer : List ℕ → HeaderAnswer
 headerAnswer s = asHeaderAnswer (wholeHeader s)
@@ -51,7 +45,7 @@ outlineOf m =
 
 unfoldable pub asReadAnswer : Reading Message → ReadAnswer
 asReadAnswer (got m) = Accepted (outlineOf m)
-asReadAnswer (refused f) = Refused (refusalOf f)
+asReadAnswer (refused r) = Refused r
 
 unfoldable pub readAnswer : List ℕ → ReadAnswer
 readAnswer s = asReadAnswer (readOf s)
@@ -59,18 +53,18 @@ readAnswer s = asReadAnswer (readOf s)
 -- the next message begins where this one's bytes end
 unfoldable pub asFirstAnswer : Reading Message → FirstAnswer
 asFirstAnswer (got m) = first-accepted (outlineOf m) (length (messageBytes m))
-asFirstAnswer (refused f) = first-refused (refusalOf f)
+asFirstAnswer (refused r) = first-refused r
 
 unfoldable pub firstAnswer : List ℕ → FirstAnswer
 firstAnswer s = asFirstAnswer (firstOf s)
 
 -- R37: "Shortening: header, body, 11." R38: "shortening needs as many as it writes". What is written into so much room
 unfoldable pub shortened : ℕ → List ℕ → Reading (List ℕ)
-shortened room s = andThen (shorten s) λ w. unless (ltb room (length w)) (noHeader 11) (got w)
+shortened room s = andThen (shorten s) λ w. unless (ltb room (length w)) (unplaced 11) (got w)
 
 unfoldable pub asShortenAnswer : Reading (List ℕ) → ShortenAnswer
 asShortenAnswer (got w) = Written (length w)
-asShortenAnswer (refused f) = short-refused (refusalOf f)
+asShortenAnswer (refused r) = short-refused r
 
 unfoldable pub shortenAnswer : ℕ → List ℕ → ShortenAnswer
 shortenAnswer room s = asShortenAnswer (shortened room s)

@@ -42,7 +42,7 @@ unknown Container = false
 abbrev pub lengthDigit : ℕ → Bool
 lengthDigit b = leb 0xF0 b && leb b 0xF9
 
--- R42: "length 1 or 4": d digits more behind those that gave v
+-- R42: "length 1 or 4". R47: "the wrong byte itself for 4": d digits more behind those that gave v
 unfoldable pub digitsOf : ℕ → ℕ → ℕ → List ℕ → Reading ℕ
 digitsOf zero v at s = got v
 digitsOf (suc d) v at [] = refused (no 1 at)
@@ -110,14 +110,14 @@ containerOf n at s =
     andThen (runOf deepest n (at + (1 + formSize (l .form))) value) λ r.
     got (record { field = container (l .form) (r .objs); size = 1 + formSize (l .form) + l .value; count = r .count })
 
--- R42: "length 1 or 4, value 1, digits 6, then the inside of a container"
+-- R42: "length 1 or 4 (of a container 1 or 22), value 1, digits 6, then the inside of a container"
 unfoldable pub fieldBy : ℕ → ℕ → ℕ → List ℕ → Format → Reading FieldRead
 fieldBy id n at s Unknown = refused (no 5 at)
 fieldBy id n at s (Fixed k) = plainOf id n at 1 k s
 fieldBy id n at s (Digits d) = andThen (digitsOf d 0 (at + 1) (drop 1 s)) λ v. plainOf id n at (1 + d) v s
 fieldBy id n at s Container = containerOf n at s
 
--- R42: "A field: 5, 7". F4: "No id stands twice in a list."; seen are the ids of the fields before it
+-- R42: "A field: 5, 7". R47: "the id of the field for 5 and 7". F4: "No id stands twice in a list."; seen are the ids of the fields before it
 unfoldable pub fieldOf : List ℕ → ℕ → ℕ → List ℕ → Reading FieldRead
 fieldOf seen n at s =
     let id = getD s 0 0 in

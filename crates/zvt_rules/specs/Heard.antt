@@ -9,9 +9,8 @@ use Rattle.zvt_rules.specs.declared.ToldAnswer.the-variants.{Told as tol
 use Rattle.zvt_rules.specs.declared.HearAnswer.{HearAnswer}
 use Rattle.zvt_rules.specs.declared.HearAnswer.the-variants.{Heard as heard, Refused as header-refused}
 use Rattle.zvt_rules.specs.Reading.{Reading, got, refused}
-use Rattle.zvt_rules.specs.Message.{Heading, wholeHeader, Body, bytes, listed, Message, readOf}
+use Rattle.zvt_rules.specs.Message.{Heading, start, wholeHeader, Body, bytes, listed, Message, readOf}
 use Rattle.zvt_rules.specs.Values.{statusFields, statusIn}
-use Rattle.zvt_rules.specs.Answers.{refusalOf}
 
 -- the first byte of a plain body, if it has one
 unfoldable pub firstOf : Body → ToldCode
@@ -24,13 +23,13 @@ toldIn m = record { first = firstOf (m .body); status = statusIn (statusFields (
 
 unfoldable pub toldAnswer : Reading Message → ToldAnswer
 toldAnswer (got m) = told (toldIn m)
-toldAnswer (refused f) = body-refused (refusalOf f)
+toldAnswer (refused r) = body-refused r
 
 -- R37: "header, body": what a message tells behind a header that is refused is not asked
 unfoldable pub asHearAnswer : Reading Message → Reading Heading → HearAnswer
 asHearAnswer m (got h) =
-    heard (record { class = h .class; instruction = h .instruction; length = h .size; told = toldAnswer m })
-asHearAnswer m (refused f) = header-refused (refusalOf f)
+    heard (record { class = h .class; instruction = h .instruction; start = start h; length = h .size; told = toldAnswer m })
+asHearAnswer m (refused r) = header-refused r
 
 unfoldable pub hearAnswer : List ℕ → HearAnswer
 hearAnswer s = asHearAnswer (readOf s) (wholeHeader s)

@@ -44,7 +44,7 @@ unfoldable pub messageText : ℕ → Message → List ℕ
 messageText number m =
     startText number (m .class) (m .instruction) ++ (sizeText (length (bodyBytes (m .body))) (isShort m) ++ bodyIds (m .body))
 
--- M18: "The last line is `end`, the number of messages listed, and `ok` or `refused` with a number"
+-- M18: "The last line is `end`, the number of messages listed, and `ok` or `refused` with a number and no place"
 unfoldable pub endText : ℕ → List ℕ
 endText count = 101 ∷ 110 ∷ 100 ∷ 32 ∷ decimalText count
 
@@ -58,7 +58,7 @@ refusedText count number = endText count ++ (32 ∷ 114 ∷ 101 ∷ 102 ∷ 117 
 -- "the listing ends at a refused message, which gets no line"
 unfoldable pub lineAnd : ℕ → (ℕ → List ℕ) → Reading Message → List ℕ
 lineAnd count follows (got m) = messageText (count + 1) m ++ (10 ∷ follows (length (messageBytes m) - 1))
-lineAnd count follows (refused f) = refusedText count (f .number) ++ (10 ∷ [])
+lineAnd count follows (refused r) = refusedText count (r .number) ++ (10 ∷ [])
 
 -- the lines after count messages, the last of which has so many bytes of s left. M16: "each directly behind the one before"
 unfoldable pub linesFrom : ℕ → ℕ → List ℕ → List ℕ

@@ -52,12 +52,13 @@ twoByteLen at [] = refused (no 1 at)
 twoByteLen at (h ∷ []) = refused (no 1 (at + 1))
 twoByteLen at (h ∷ (l ∷ s)) = got (record { form = two; value = h * 256 + l })
 
--- R43: "length 1 or 4". R40: "a length byte by byte". O8: "A first length byte 80 or 83 to FF is refused (4)."
+-- R43: "length 1 or 22". R40: "a length byte by byte". O8: "A first length byte 80 or 83 to FF is refused (22)." R47: "the wrong byte
+-- itself"
 unfoldable pub lenOf : ℕ → List ℕ → Reading Len
 lenOf at [] = refused (no 1 at)
 lenOf at (b ∷ s) =
     pick (ltb b 0x80) (got (record { form = bare; value = b }))
-    (pick (eqb b 0x81) (oneByteLen (at + 1) s) (pick (eqb b 0x82) (twoByteLen (at + 1) s) (refused (no 4 at))))
+    (pick (eqb b 0x81) (oneByteLen (at + 1) s) (pick (eqb b 0x82) (twoByteLen (at + 1) s) (refused (no 22 at))))
 
 -- how many bytes the tag takes, how the length is written, and how many bytes the value takes
 pub record Head : Type 0 where
@@ -72,13 +73,14 @@ abbrev pub to : Head → ℕ
 to h = from h + h .value
 
 -- R43: "value 1". O13: "Tag, length and value end within the nearest run or container around them." R44: "What runs past the nearest
--- run or container (O13) is 1, also where more bytes follow that.": s ends where that does
+-- run or container (O13) is 1, also where more bytes follow that.": s ends where that does. R48: "the first byte behind the nearest body,
+-- container or run that ended too soon"
 unfoldable pub headWith : ℕ → List ℕ → ℕ → Len → Reading Head
 headWith at s tag l =
     unless (ltb (length s) (tag + formSize (l .form) + l .value)) (no 1 (at + length s))
     (got (record { tag = tag; form = l .form; value = l .value }))
 
--- O2: "An object is a tag, a length and a value of that many bytes." R43: "tag 1, 8, length 1 or 4, value 1"
+-- O2: "An object is a tag, a length and a value of that many bytes." R43: "tag 1, 8, length 1 or 22, value 1"
 unfoldable pub headOf : ℕ → List ℕ → Reading Head
 headOf at s = andThen (tagSize at s) λ tag. andThen (lenOf (at + tag) (drop tag s)) λ l. headWith at s tag l
 
@@ -122,8 +124,8 @@ unfoldable mutual
       andThen (runBy f left (o .count) (at + o .size) (drop (o .size) (b ∷ s))) λ r.
       got (record { objs = more (o .obj) (r .objs); count = r .count })
 
-  -- R43: "An object: 10, 9, tag 1, 8, length 1 or 4, value 1, then its inside." O5: "read as a part of the same bytes .. A value
-  -- without that bit is never looked into."
+  -- R43: "An object: 10, 9, tag 1, 8, length 1 or 22, value 1, then its inside." R47: "the first byte of the tag for 9 and 10". O5: "read
+  -- as a part of the same bytes .. A value without that bit is never looked into."
   pub oneBy : ℕ → ℕ → ℕ → ℕ → List ℕ → Reading OneRead
   oneBy zero left n at s = refused (no 0 at)
   oneBy (suc f) left n at s =

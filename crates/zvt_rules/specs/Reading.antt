@@ -4,21 +4,20 @@ use mathlib.Core.Bool.{Bool, true, false, _||_}
 use mathlib.Core.List.{List, [], _∷_}
 use lib.ListN.{take, drop}
 use lib.Dec.{eqb}
-use Rattle.zvt_rules.specs.declared.Fault.{Fault}
+use Rattle.zvt_rules.specs.declared.Refusal.{Refusal}
 use Rattle.zvt_rules.specs.declared.Place.the-variants.{Nowhere, At}
 
 pub data Reading (A : Type 0) : Type 0 where
   got : A → Reading A
-  refused : Fault → Reading A
+  refused : Refusal → Reading A
 
--- a number of refusal, at a place in the message. Readings carry the place, so that it is known where the fault lies; the public
--- answers leave it out. R31: "A refusal answers its number and nothing else."
-abbrev pub no : ℕ → ℕ → Fault
+-- R46: "Every refusal of a body names a place, counted from 0 at the message's start": a number, and that place
+abbrev pub no : ℕ → ℕ → Refusal
 no number at = record { number = number; place = At at }
 
--- the number of a header's refusal, which names no place
-abbrev pub noHeader : ℕ → Fault
-noHeader number = record { number = number; place = Nowhere }
+-- R46: "No other refusal names one"
+abbrev pub unplaced : ℕ → Refusal
+unplaced number = record { number = number; place = Nowhere }
 
 -- the one or the other, by a test
 abbrev pub pick : {A : Type 0} → Bool → A → A → A
@@ -26,7 +25,7 @@ pick true a b = a
 pick false a b = b
 
 -- refused where the test holds, else as what follows says
-unfoldable pub unless : {A : Type 0} → Bool → Fault → Reading A → Reading A
+unfoldable pub unless : {A : Type 0} → Bool → Refusal → Reading A → Reading A
 unless true r x = refused r
 unless false r x = x
 

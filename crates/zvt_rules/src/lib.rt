@@ -1,17 +1,31 @@
 // The types that the definitions of a message and the code that reads one both name. The definitions stand in specs/, their laws
 // in proofs/; the code stands in crate zvt.
 
-// A place in the message, counted from 0 at its start; number 1 names the place behind the last byte that was there. A refusal of a
-// header names none. The readers of a body carry it; the public answers have the number only (R31).
+ghost use mathlib.Core.Path.{_≡_};
+ghost use Rattle.zvt_rules.specs.Reading.{unplaced};
+
+// A place in a message, counted from 0 at its start, or none: place 0 is a place.
 pub enum Place {
     Nowhere,
     At(usize),
 }
 
-// Why bytes are refused: the number of refusal, and the place.
-pub struct Fault {
+// R31: "A refusal answers its number and, where it names one (R46), its place, and nothing else."
+pub struct Refusal {
     pub number: u8,
     pub place: Place,
+}
+
+impl Refusal {
+    // R46: "No other refusal names one"
+    pub fn unplaced(number: u8) -> Self
+        ensures { λ r. ⌜ r ≡ unplaced number ⌝ }
+    {
+        Refusal {
+            number,
+            place: Place::Nowhere,
+        }
+    }
 }
 
 // F2: how a field's value follows its id: so many bytes, that many length digits, a container's length, or no such field.
@@ -27,11 +41,6 @@ pub enum Layout {
     Plain,
     List,
     Secured,
-}
-
-// R31: "A refusal answers its number and nothing else."
-pub struct Refusal {
-    pub number: u8,
 }
 
 // What a status information tells. P20: "code (27), amount (04) and receipt (87)"
@@ -152,6 +161,7 @@ pub enum ToldAnswer {
 pub struct Heard {
     pub class: u8,
     pub instruction: u8,
+    pub start: usize,
     pub length: usize,
     pub told: ToldAnswer,
 }

@@ -1,6 +1,7 @@
 -- `desk::close` meets its contract. Assumes nothing.
 use mathlib.Core.Path.{sym, _∙_}
 use borrow.Author.Tests.{not-true, not-false}
+use Rattle.zvt_rules.specs.Reading.{unplaced}
 use Rattle.desk_rules.specs.Memory.{closeAnswer}
 use Rattle.desk.proofs.CallLaws.{valid-refused}
 use borrow.Author.Needs.{needs}
@@ -12,7 +13,7 @@ unfolding closeAnswer
 returns c =
     let q = c .before .before in
     let e = sym (q .all-idle .ensures) ∙ not-true _ (c .before .if1 .taken) in
-    (c .refused .ensures ∙ rw e, valid-refused _ _ 19 (q .before .pre) (c .refused .ensures))
+    (c .refused .ensures ∙ rw e, valid-refused _ _ (unplaced 19) (q .before .pre) (c .refused .ensures))
 
 returns-2 : tie.Need-returns-2
 unfolding closeAnswer

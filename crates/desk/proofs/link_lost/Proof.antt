@@ -3,6 +3,7 @@ use mathlib.Core.Path.{_≡_, refl, sym, _∙_}
 use mathlib.Core.Bool.{false}
 use mathlib.Core.List.{[]}
 use native.Mathlib.Omega.{arith}
+use Rattle.zvt_rules.specs.Reading.{unplaced}
 use Rattle.desk_rules.specs.declared.Reply.the-variants.{Written}
 use Rattle.desk_rules.specs.Kinds.{isIdle}
 use Rattle.desk_rules.specs.Course.{lost, laneOf, needsPlace, NumbersFit, moves, writes}
@@ -28,7 +29,7 @@ unfolding laneOf moves writes NumbersFit
 returns c =
     let q = c .before .before in
     let a = q .args in
-    let r = refused-as (a .t1) (q .pre) (lost (a .lane)) tt [] _ 12 (no-lane (a .t1) (lost (a .lane)) 0 (c .before .if1 .taken)) (c .refused .ensures) in
+    let r = refused-as (a .t1) (q .pre) (lost (a .lane)) tt [] _ (unplaced 12) (no-lane (a .t1) (lost (a .lane)) 0 (c .before .if1 .taken)) (c .refused .ensures) in
     (r .0, r .1 .1)
 
 returns-2 : tie.Need-returns-2
@@ -37,7 +38,7 @@ returns-2 c =
     let q = c .before .before .before .before .before in
     let a = q .args in
     let e = not-moved (a .t1) (lost (a .lane)) 0 (c .before .before .before .before .if1 .left) _ (lost-idle (laneAt (a .t1 .lanes) (a .lane)) (sym (c .before .before .is-idle .ensures) ∙ c .before .if2 .taken)) in
-    let r = refused-as (a .t1) (q .pre) (lost (a .lane)) tt [] _ 14 e (c .refused2 .ensures) in
+    let r = refused-as (a .t1) (q .pre) (lost (a .lane)) tt [] _ (unplaced 14) e (c .refused2 .ensures) in
     (r .0, r .1 .1)
 
 moved-requires : tie.Need-moved-requires

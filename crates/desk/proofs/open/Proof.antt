@@ -1,15 +1,16 @@
 -- `desk::open` meets its contract. Assumes nothing.
-use mathlib.Core.Path.{_≡_, sym, ap, _∙_}
+use mathlib.Core.Path.{_≡_, refl, sym, ap, _∙_}
 use mathlib.Core.Bool.{false}
 use Prim.Native.Nat.{_<_}
 use lib.ListN.{length}
+use Rattle.zvt_rules.specs.Reading.{unplaced}
 use Rattle.desk_rules.specs.declared.Reference.{Reference}
 use Rattle.desk_rules.specs.declared.Reply.the-variants.{Written}
 use Rattle.desk_rules.specs.Numbers.{laneCount}
 use Rattle.desk_rules.specs.Openings.{commandBytes, lastLine}
 use Rattle.desk_rules.specs.Course.{openedBy, Call, opening, laneOf, needsPlace, NumbersFit, moves, writes}
 use Rattle.desk_rules.specs.Desk.{laneAt, accept, decide}
-use Rattle.desk_rules.specs.Memory.{linesOfDesk, view, movedDesk}
+use Rattle.desk_rules.specs.Memory.{linesOfDesk, view, movedDesk, refusedAnswer}
 use Rattle.desk_rules.proofs.Commands.{command-size}
 use Rattle.desk_rules.proofs.Calls.{Passes}
 use Rattle.desk_rules.proofs.Memory.{moveOf, taken-line}
@@ -60,15 +61,15 @@ returns : tie.Need-returns
 unfolding laneOf NumbersFit
 returns c =
     let q = c .before .before .before in
-    refused-as (q .args .t1) (q .pre) (call q) tt (q .args .out .now) _ 12 (no-lane (q .args .t1) (call q) _ (c .before .if1 .taken)) (c .refused .ensures)
+    refused-as (q .args .t1) (q .pre) (call q) tt (q .args .out .now) _ (unplaced 12) (no-lane (q .args .t1) (call q) _ (c .before .if1 .taken)) (c .refused .ensures)
 
 returns-2 : tie.Need-returns-2
-unfolding laneOf NumbersFit
+unfolding laneOf NumbersFit refusedAnswer
 returns-2 c =
-    let h = c .before .before .before .before in
+    let h = c .before .before .before in
     let q = begun h in
     refused-as (q .args .t1) (q .pre) (call q) tt (q .args .out .now) _ _
-    (not-moved (q .args .t1) (call q) _ (low h) _ (moves-to h ∙ c .before .before .m .given .1)) (c .refused2 .ensures)
+    (not-moved (q .args .t1) (call q) _ (low h) _ (moves-to h ∙ c .before .m .given .1)) refl
 
 returns-3 : tie.Need-returns-3
 unfolding laneOf needsPlace NumbersFit
@@ -76,8 +77,8 @@ returns-3 c =
     let p = c .before .before in
     let h = p .before .before in
     let q = begun h in
-    refused-as (q .args .t1) (q .pre) (call q) tt (q .args .out .now) _ 18
-    (no-place (q .args .t1) (call q) _ (low h) (passes (p .before)) (sym (p .no-place .ensures) ∙ c .before .if2 .taken)) (c .refused3 .ensures)
+    refused-as (q .args .t1) (q .pre) (call q) tt (q .args .out .now) _ (unplaced 18)
+    (no-place (q .args .t1) (call q) _ (low h) (passes (p .before)) (sym (p .no-place .ensures) ∙ c .before .if2 .taken)) (c .refused2 .ensures)
 
 returns-4 : tie.Need-returns-4
 unfolding laneOf needsPlace writes NumbersFit
@@ -86,9 +87,9 @@ returns-4 c =
     let p = s .before in
     let h = p .before .before .before in
     let q = begun h in
-    refused-as (q .args .t1) (q .pre) (call q) tt (q .args .out .now) _ 11
+    refused-as (q .args .t1) (q .pre) (call q) tt (q .args .out .now) _ (unplaced 11)
     (no-room (q .args .t1) (call q) _ (low h) (passes (p .before .before)) (sym (p .before .no-place .ensures) ∙ placed p) (rw (size s) (c .before .if3 .taken)))
-    (c .refused4 .ensures)
+    (c .refused3 .ensures)
 
 put-command-requires : tie.Need-put-command-requires
 put-command-requires c κs = rw (size (c .before .before)) (c .before .if3 .left)
@@ -116,5 +117,5 @@ pub open-spec : {M : Type 1} → statement M
 open-spec =
     tie.close
     (tie.spec (λ c κs. search needs) returns (λ c. search needs) (λ c. search needs) (λ c κs. search needs) (λ c κs. search needs)
-    (λ c κs. search needs) (λ c. search needs) (λ c κs. search needs) returns-2 (λ c κs. search needs) (λ c κs. search needs) returns-3
+    (λ c κs. search needs) (λ c. search needs) returns-2 (λ c κs. search needs) (λ c κs. search needs) returns-3
     (λ c κs. search needs) (λ c κs. search needs) returns-4 put-command-requires moved-requires (λ c. search needs) returns-5)

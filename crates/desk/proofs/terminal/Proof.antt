@@ -2,12 +2,13 @@
 use mathlib.Core.Path.{_≡_, refl, sym, ap, _∙_}
 use Prim.Native.Nat.{_<_}
 use lib.ListN.{length}
+use Rattle.zvt_rules.specs.Reading.{unplaced}
 use Rattle.zvt_rules.specs.believed.Grammar.{Bytes}
 use Rattle.desk_rules.specs.declared.Reply.the-variants.{Written}
 use Rattle.desk_rules.specs.Numbers.{laneCount}
 use Rattle.desk_rules.specs.Course.{heard, message, laneOf, needsPlace, NumbersFit, moves, writes}
 use Rattle.desk_rules.specs.Desk.{laneAt, accept, decide}
-use Rattle.desk_rules.specs.Memory.{view, movedDesk}
+use Rattle.desk_rules.specs.Memory.{view, movedDesk, refusedAnswer}
 use Rattle.desk_rules.proofs.Calls.{Passes}
 use Rattle.desk_rules.proofs.Memory.{taken-line}
 use Rattle.desk.proofs.DeskLaws.{replied-is}
@@ -45,17 +46,17 @@ unfolding laneOf NumbersFit
 returns c =
     let k = c .before .before .before in
     let a = k .before .args in
-    refused-as (a .t1) (k .before .pre) (message (a .lane) (a .s .now)) (bytes k) (a .out .now) _ 12
+    refused-as (a .t1) (k .before .pre) (message (a .lane) (a .s .now)) (bytes k) (a .out .now) _ (unplaced 12)
     (no-lane (a .t1) (message (a .lane) (a .s .now)) _ (c .before .if1 .taken)) (c .refused .ensures)
 
 returns-2 : tie.Need-returns-2
-unfolding laneOf moves NumbersFit
+unfolding laneOf moves NumbersFit refusedAnswer
 returns-2 c =
-    let h = c .before .before .before .before in
+    let h = c .before .before .before in
     let k = known h in
     let a = k .before .args in
     refused-as (a .t1) (k .before .pre) (message (a .lane) (a .s .now)) (bytes k) (a .out .now) _ _
-    (not-moved (a .t1) (message (a .lane) (a .s .now)) _ (low h) _ (sym (h .heard .ensures) ∙ c .before .before .m .given .1)) (c .refused2 .ensures)
+    (not-moved (a .t1) (message (a .lane) (a .s .now)) _ (low h) _ (sym (h .heard .ensures) ∙ c .before .m .given .1)) refl
 
 returns-3 : tie.Need-returns-3
 unfolding laneOf needsPlace moves writes NumbersFit
@@ -64,9 +65,9 @@ returns-3 c =
     let h = r .before .before in
     let k = known h in
     let a = k .before .args in
-    refused-as (a .t1) (k .before .pre) (message (a .lane) (a .s .now)) (bytes k) (a .out .now) _ 11
+    refused-as (a .t1) (k .before .pre) (message (a .lane) (a .s .now)) (bytes k) (a .out .now) _ (unplaced 11)
     (no-room (a .t1) (message (a .lane) (a .s .now)) _ (low h) (passes (r .before)) refl (rw (r .reply-size .ensures) at (c .before .if2 .taken)))
-    (c .refused3 .ensures)
+    (c .refused2 .ensures)
 
 moved-requires : tie.Need-moved-requires
 unfolding laneOf moves
@@ -95,5 +96,5 @@ pub terminal-spec : {M : Type 1} → statement M
 terminal-spec =
     tie.close
     (tie.spec (λ c κs. search needs) returns (λ c. search needs) (λ c. search needs) (λ c κs. search needs) (λ c. search needs)
-    (λ c κs. search needs) returns-2 (λ c κs. search needs) (λ c κs. search needs) returns-3 (λ c κs. search needs) moved-requires
+    returns-2 (λ c κs. search needs) (λ c κs. search needs) returns-3 (λ c κs. search needs) moved-requires
     (λ c. search needs) returns-4)

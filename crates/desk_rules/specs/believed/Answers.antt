@@ -4,8 +4,9 @@ use mathlib.Core.Logic.{_⊎_}
 use mathlib.Core.List.{List, [], _∷_, _++_}
 use Prim.Native.Nat.{ℕ, _≤_, _<_}
 use lib.ListN.{length, drop, replicate}
+use Rattle.zvt_rules.specs.declared.Refusal.{Refusal}
 use Rattle.zvt_rules.specs.declared.Status.{Status}
-use Rattle.zvt_rules.specs.Reading.{got}
+use Rattle.zvt_rules.specs.Reading.{got, unplaced}
 use Rattle.zvt_rules.specs.Message.{Body, bytes, Message, readOf}
 use Rattle.zvt_rules.specs.Values.{missing, found, valueIn, bodyFields}
 use Rattle.zvt_rules.specs.believed.Grammar.{Bytes}
@@ -80,13 +81,14 @@ pub record Leaves (s : State) (c : Call) (t : State) : Type 0 where
 
 -- ---- the answer, and what is left of the bytes that were lent for writing
 
--- R31: "A refusal answers its number and nothing else." R32: "A refusal leaves the desk and all lent buffers as they were."
-abbrev pub refusing : Desk → ℕ → Answer
-refusing d n = record { reply = Refused (record { number = n }); desk = d }
+-- R31: "A refusal answers its number and, where it names one (R46), its place, and nothing else." R32: "A refusal leaves the desk and all
+-- lent buffers as they were."
+abbrev pub refusing : Desk → Refusal → Answer
+refusing d r = record { reply = Refused r; desk = d }
 
 -- R33: "Success leaves the bytes of a lent buffer behind those written as they were."
 pub data Answers (d : Desk) (c : Call) (out : List ℕ) : Answer → List ℕ → Type 0 where
-  refusal : {n : ℕ} → Row (view d) c (length out) (refuse n) → Answers d c out (refusing d n) out
+  refusal : {r : Refusal} → Row (view d) c (length out) (refuse r) → Answers d c out (refusing d r) out
   success : {w : List ℕ} {e : Desk} → Row (view d) c (length out) accept → Writes (view d) c w → Leaves (view d) c (view e)
       → Answers d c out (record { reply = Written (length w); desk = e }) (w ++ drop (length w) out)
 
@@ -96,13 +98,13 @@ abbrev pub blank : Line
 blank = record { lane = 0; kind = Sale; asked = 0; settled = 0; receipt = 0; outcome = Unclear; code = 0 }
 
 pub data Closes (d : Desk) : Answer → Type 0 where
-  open-payment : {i : ℕ} → i < 8 → (phaseAt (view d) i ≡ Idle → ⊥) → Closes d (refusing d 19)
+  open-payment : {i : ℕ} → i < 8 → (phaseAt (view d) i ≡ Idle → ⊥) → Closes d (refusing d (unplaced 19))
   closed : ((i : ℕ) → i < 8 → phaseAt (view d) i ≡ Idle)
       → Closes d (record { reply = Written 0; desk = record { lanes = replicate 8 idle; book = record { lines = replicate 64 blank; count = 0 } } })
 
 -- ---- questions. R36: "A question about a lane: 12."
 pub data ShowsLane (d : Desk) (i : ℕ) : LaneAnswer → Type 0 where
-  no-lane : 8 ≤ i → ShowsLane d i (lane-refused (record { number = 12 }))
+  no-lane : 8 ≤ i → ShowsLane d i (lane-refused (unplaced 12))
   lane : i < 8 → ShowsLane d i (lane-got (laneIn (view d) i))
 
 -- the line with so many before it

@@ -1,17 +1,17 @@
--- When a call of the desk is refused, and with which number, in the order of the rules; and what the command of an opening says to
--- whoever reads it. Definitions only.
+-- When a call of the desk is refused, with which number and at which place, in the order of the rules; and what the command of an opening
+-- says to whoever reads it. Definitions only.
 use mathlib.Core.Path.{_≡_}
 use mathlib.Core.Bool.{false}
 use mathlib.Core.Logic.{_⊎_}
 use mathlib.Core.List.{List, [], _∷_}
 use Prim.Native.Nat.{ℕ, _+_, _*_, _≤_, _<_}
 use lib.ListN.{length, getD}
-use Rattle.zvt_rules.specs.declared.Fault.{Fault}
+use Rattle.zvt_rules.specs.declared.Refusal.{Refusal}
 use Rattle.zvt_rules.specs.declared.Status.{Status}
 use Rattle.zvt_rules.specs.declared.ToldCode.the-variants.{Missing as no-code}
 use Rattle.zvt_rules.specs.declared.ToldAmount.the-variants.{Missing as no-amount}
 use Rattle.zvt_rules.specs.declared.ToldReceipt.the-variants.{Missing as no-receipt}
-use Rattle.zvt_rules.specs.Reading.{Reading, got, refused}
+use Rattle.zvt_rules.specs.Reading.{Reading, got, refused, no, unplaced}
 use Rattle.zvt_rules.specs.Fields.{Field, plain}
 use Rattle.zvt_rules.specs.Message.{Heading, wholeHeader, bytes, listed, Message, readOf}
 use Rattle.zvt_rules.specs.Digits.{numberOf}
@@ -29,17 +29,19 @@ use Rattle.desk_rules.specs.believed.LastSale.{Named}
 use Rattle.desk_rules.specs.believed.Due.{Reads}
 
 -- ---- rows. R30: "Of the numbers in the order of a call, one is given exactly where its row holds and none before it there does."
-unfoldable pub Given : List (ℕ → Type 0) → Decision → Type 0
+unfoldable pub Given : List (Refusal → Type 0) → Decision → Type 0
 Given [] d = d ≡ accept
-Given (Gives ∷ rows) d = ((n : ℕ) × Gives n × (d ≡ refuse n)) ⊎ (((n : ℕ) → Gives n → ⊥) × Given rows d)
+Given (Gives ∷ rows) d = ((r : Refusal) × Gives r × (d ≡ refuse r)) ⊎ (((r : Refusal) → Gives r → ⊥) × Given rows d)
 
--- a row that gives one number
-abbrev pub gives : ℕ → Type 0 → ℕ → Type 0
-gives number Holds n = Holds × (number ≡ n)
+-- a row that gives one number, which names no place (R46); one whose number names a place; and one that gives a reading's refusal
+abbrev pub gives : ℕ → Type 0 → Refusal → Type 0
+gives number Holds r = Holds × (unplaced number ≡ r)
 
--- and one that gives the number of a reading's refusal
-abbrev pub refuses : {A : Type 0} → Reading A → ℕ → Type 0
-refuses r n = (f : Fault) × (r ≡ refused f) × (f .number ≡ n)
+abbrev pub givesAt : ℕ → ℕ → Type 0 → Refusal → Type 0
+givesAt number place Holds r = Holds × (no number place ≡ r)
+
+abbrev pub refuses : {A : Type 0} → Reading A → Refusal → Type 0
+refuses x r = x ≡ refused r
 
 -- ---- lanes
 
@@ -87,7 +89,7 @@ needs (refund password amount) = 16
 needs (reversal password receipt) = 9
 
 -- R34: "12, 13, 16, 17, 18, 11". P1: "There are eight lanes, 0 to 7". R18: "lines and open payments are 64 already"
-abbrev pub openingRows : State → ℕ → Opening → ℕ → List (ℕ → Type 0)
+abbrev pub openingRows : State → ℕ → Opening → ℕ → List (Refusal → Type 0)
 openingRows s i o room =
     gives 12 (8 ≤ i)
     ∷ gives 13 (phaseAt s i ≡ Idle → ⊥)
@@ -109,23 +111,24 @@ Allowed Idle h = ⊥
 Allowed Waiting h = (h .size ≡ 0) × (((h .class ≡ 0x80) × (h .instruction ≡ 0x00)) ⊎ (h .class ≡ 0x84))
 Allowed Running h = In (h .class * 256 + h .instruction) whileRunning
 
--- R35: "12, 14, header, 15, body, 11. The 1 of P21 belongs to the body." P21: "06 1E .. an empty body is refused (1)". R38: "a reply 3"
-abbrev pub hearingRows : State → ℕ → List ℕ → ℕ → List (ℕ → Type 0)
+-- R35: "12, 14, header, 15, body, 11. The 1 of P21 belongs to the body." P21: "06 1E .. an empty body is refused (1)". R48: "for an empty 06
+-- 1E (P21) the first byte behind the body", where the message ends. R38: "a reply 3"
+abbrev pub hearingRows : State → ℕ → List ℕ → ℕ → List (Refusal → Type 0)
 hearingRows s i b room =
     gives 12 (8 ≤ i)
     ∷ gives 14 (phaseAt s i ≡ Idle)
     ∷ refuses (wholeHeader b)
     ∷ gives 15 ((h : Heading) × (wholeHeader b ≡ got h) × (Allowed (phaseAt s i) h → ⊥))
     ∷ refuses (readOf b)
-    ∷ gives 1 (Reads b 0x06 0x1E (bytes []))
+    ∷ givesAt 1 (length b) (Reads b 0x06 0x1E (bytes []))
     ∷ gives 11 ((phaseAt s i ≡ Running) × (room < 3))
     ∷ []
 
 -- ---- a lost link. R36: "12, 14"
-abbrev pub losingRows : State → ℕ → List (ℕ → Type 0)
+abbrev pub losingRows : State → ℕ → List (Refusal → Type 0)
 losingRows s i = gives 12 (8 ≤ i) ∷ gives 14 (phaseAt s i ≡ Idle) ∷ []
 
--- ---- a call is refused with a number, or accepted, by its rows
+-- ---- a call is refused, or accepted, by its rows
 abbrev pub Row : State → Call → ℕ → Decision → Type 0
 Row s (opening i o) room = Given (openingRows s i o room)
 Row s (message i b) room = Given (hearingRows s i b room)

@@ -3,7 +3,7 @@ use mathlib.Core.Path.{sym, ap, _∙_}
 use borrow.Author.Needs.{needs}
 use Rattle.zvt_rules.specs.declared.ReadAnswer.the-variants.{Accepted}
 use Rattle.zvt_rules.specs.Message.{wholeHeader, readOf}
-use Rattle.zvt_rules.specs.Answers.{refusalOf, asReadAnswer, readAnswer}
+use Rattle.zvt_rules.specs.Answers.{asReadAnswer, readAnswer}
 use Rattle.zvt.proofs.HeaderLaws.{whole-first, whole-within}
 use Rattle.zvt.proofs.Slices.{bytes-known}
 use Rattle.zvt.proofs.MessageLaws.{no-header, no-body, accepted}
@@ -14,11 +14,11 @@ body-in-requires : tie.Need-body-in-requires
 body-in-requires c κs = whole-within _ _ (sym (c .before .before .before .whole-header .ensures) ∙ c .before .h .given .1)
 
 returns : tie.Need-returns
-unfolding readAnswer readOf asReadAnswer refusalOf
+unfolding readAnswer readOf asReadAnswer
 returns c = sym (ap asReadAnswer (no-header _ (wholeHeader _) _ (sym (c .before .before .before .whole-header .ensures) ∙ c .before .f .given .1)))
 
 returns-2 : tie.Need-returns-2
-unfolding readAnswer readOf asReadAnswer refusalOf
+unfolding readAnswer readOf asReadAnswer
 returns-2 c =
     let body = c .before .before .before in
     let header = body .before .before .before .before in

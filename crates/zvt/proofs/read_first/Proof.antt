@@ -3,7 +3,7 @@ use mathlib.Core.Path.{sym, ap, _∙_}
 use native.Mathlib.Omega.{arith}
 use borrow.Author.Needs.{needs}
 use Rattle.zvt_rules.specs.Message.{headerOf, firstOf}
-use Rattle.zvt_rules.specs.Answers.{refusalOf, asFirstAnswer, firstAnswer}
+use Rattle.zvt_rules.specs.Answers.{asFirstAnswer, firstAnswer}
 use Rattle.zvt.proofs.HeaderLaws.{first-within}
 use Rattle.zvt.proofs.Slices.{bytes-known}
 use Rattle.zvt.proofs.MessageLaws.{no-header, no-body, accepted}
@@ -21,11 +21,11 @@ add-next c =
     omega (arith, w .0, w .1)
 
 returns : tie.Need-returns
-unfolding firstAnswer firstOf asFirstAnswer refusalOf
+unfolding firstAnswer firstOf asFirstAnswer
 returns c = sym (ap asFirstAnswer (no-header _ (headerOf _) _ (sym (c .before .before .before .header-of .ensures) ∙ c .before .f .given .1)))
 
 returns-2 : tie.Need-returns-2
-unfolding firstAnswer firstOf asFirstAnswer refusalOf
+unfolding firstAnswer firstOf asFirstAnswer
 returns-2 c =
     let body = c .before .before .before in
     let header = body .before .before .before .before in

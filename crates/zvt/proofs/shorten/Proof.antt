@@ -51,7 +51,9 @@ message-size-requires : tie.Need-message-size-requires
 message-size-requires c κs = omega (arith, whole-within _ _ (headed (at-header c)) .1)
 
 returns : tie.Need-returns
-returns c = no-room _ _ _ (read (c .before .before)) _ _ (c .before .message-size .ensures) (c .if1 .taken)
+returns c =
+    let sized = c .before .before in
+    rw (c .unplaced .ensures) (no-room _ _ _ (read (sized .before)) _ _ (sized .message-size .ensures) (c .before .if1 .taken))
 
 slice-aggregate-put-message : tie.Need-slice-aggregate-put-message
 slice-aggregate-put-message c =
@@ -84,5 +86,5 @@ pub shorten-spec : {M : Type 1} → statement M
 shorten-spec =
     tie.close
     (tie.spec (λ c κs. search needs) (λ c. search needs) (λ c. search needs) (λ c κs. whole-within _ _ (headed c))
-    (λ c. search needs) (λ c. search needs) (λ c. read c .spare) message-size-requires returns (λ c. search needs)
+    (λ c. search needs) (λ c. search needs) (λ c. read c .spare) message-size-requires (λ c κs. search needs) returns (λ c. search needs)
     slice-aggregate-put-message put-message-requires returns-2 returns-3 (λ c. search needs) returns-4)

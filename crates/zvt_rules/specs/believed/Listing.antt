@@ -4,7 +4,7 @@ use mathlib.Core.Logic.{_⊎_}
 use mathlib.Core.List.{List, [], _∷_, _++_}
 use Prim.Native.Nat.{ℕ, _+_, _<_, _≤_}
 use lib.ListN.{length}
-use Rattle.zvt_rules.specs.declared.Fault.{Fault}
+use Rattle.zvt_rules.specs.declared.Refusal.{Refusal}
 use Rattle.zvt_rules.specs.Reading.{refused}
 use Rattle.zvt_rules.specs.Fields.{Field, fieldId}
 use Rattle.zvt_rules.specs.Message.{Message, firstOf}
@@ -35,11 +35,11 @@ Line number m t = (n : List ℕ) × (class : List ℕ) × (instruction : List �
     × Decimal number n × Hex (m .class) class × Hex (m .instruction) instruction × Decimal (length (bodyBytes (m .body))) size
     × Form m form × Ids (bodyFields (m .body)) ids × (t ≡ words (n ∷ (class ++ instruction) ∷ size ∷ form ∷ ids) ++ ascii "\n")
 
--- M18: "The last line is `end`, the number of messages listed, and `ok` or `refused` with a number: the listing ends at a refused
--- message"; s is what follows those listed
+-- M18: "The last line is `end`, the number of messages listed, and `ok` or `refused` with a number and no place: the listing ends at a
+-- refused message"; s is what follows those listed
 unfoldable pub Last : ℕ → List ℕ → List ℕ → Type 0
 Last count s t = (n : List ℕ) × Decimal count n × (((s ≡ []) × (t ≡ words (ascii "end" ∷ n ∷ ascii "ok" ∷ []) ++ ascii "\n"))
-    ⊎ ((f : Fault) × (no : List ℕ) × (0 < length s) × (firstOf s ≡ refused f) × Decimal (f .number) no
+    ⊎ ((f : Refusal) × (no : List ℕ) × (0 < length s) × (firstOf s ≡ refused f) × Decimal (f .number) no
     × (t ≡ words (ascii "end" ∷ n ∷ ascii "refused" ∷ no ∷ []) ++ ascii "\n")))
 
 -- M16: "messages .., each directly behind the one before". M17: "It prints a line for each". These messages, after count others

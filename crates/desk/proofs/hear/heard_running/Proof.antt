@@ -7,9 +7,9 @@ use Rattle.desk.proofs.hear.heard_running.Statement.{statement}
 use Rattle.desk.proofs.hear.heard_running.Tie as tie
 
 taken : (c : tie.At-match-keys2) → let h = c .before .before .args .h in
-    runningMoved (c .before .before .args .l) h ≡ afterTold (c .before .said-by .result) (c .before .before .args .l) (h .told)
+    runningMoved (c .before .before .args .l) h ≡ afterTold (c .before .said-by .result) (c .before .before .args .l) (h .start) (h .told)
 unfolding runningMoved
-taken c = rw (← c .before .said-by .ensures) (running-allowed _ _ _ (allowed-tag _ (c .match .keys2)))
+taken c = rw (← c .before .said-by .ensures) (running-allowed _ _ _ _ (allowed-tag _ (c .match .keys2)))
 
 returns : tie.Need-returns
 unfolding runningFor runningMoved

@@ -3,7 +3,7 @@ use mathlib.Core.Path.{sym, ap, _∙_}
 use borrow.Author.Needs.{needs}
 use Rattle.zvt_rules.specs.declared.ReadAnswer.the-variants.{Accepted}
 use Rattle.zvt_rules.specs.Message.{wholeHeader, readOf}
-use Rattle.zvt_rules.specs.Answers.{refusalOf, asReadAnswer, readAnswer}
+use Rattle.zvt_rules.specs.Answers.{asReadAnswer, readAnswer}
 use Rattle.zvt_rules.specs.Heard.{toldAnswer}
 use Rattle.zvt.proofs.HeaderLaws.{whole-first, whole-within}
 use Rattle.zvt.proofs.Slices.{bytes-known}
@@ -23,7 +23,7 @@ told-in-requires c κs =
     (bytes, ap asReadAnswer (m .1) ∙ ap Accepted (m .2 ∙ sym (c .outline-of .ensures)))
 
 returns : tie.Need-returns
-unfolding readOf toldAnswer refusalOf
+unfolding readOf toldAnswer
 returns c =
     let body = c .before .before .before in
     sym (ap toldAnswer (no-body _ (wholeHeader _) _ (body .before .before .pre) _ (sym (body .body-in .ensures) ∙ c .before .f .given .1)))
