@@ -8,6 +8,7 @@ use native.Mathlib.Omega.{arith}
 use lib.ListN.{length, take, drop}
 use lib.Seq.{take-at, drop-at}
 use Rattle.zvt_rules.specs.declared.Refusal.{Refusal}
+use Rattle.zvt_rules.specs.declared.Header.{Header}
 use Rattle.zvt_rules.specs.declared.Outline.{Outline}
 use Rattle.zvt_rules.specs.Reading.{Reading, got, refused, unplaced}
 use Rattle.zvt_rules.specs.Message.{Heading, wholeHeader, Message, readOf, firstOf}
@@ -35,6 +36,9 @@ yes-same e = cc
 
 pub no-yes : {A : Type 0} {n : Refusal} {a : A} → _≡_ {A = Said A} (no n) (yes a) → ⊥
 no-yes e = let z : _≡_ {A = ℕ} 0 1 = cc in omega arith
+
+pub refuse-same : {r q : Refusal} → _≡_ {A = Decision} (refuse r) (refuse q) → r ≡ q
+refuse-same e = cc
 
 -- ---- a reading that is answered by a value of what is read, or by its refusal
 unfoldable pub said : {A B : Type 0} → (A → B) → Reading A → Said B
@@ -97,6 +101,10 @@ first-says s = said-no firstTold (firstOf s) (first-said (firstOf s))
 pub short-says : (room : ℕ) (s : List ℕ) (r : Refusal) → (shortSays (shortenAnswer room s) ≡ no r) ↔ (shortened room s ≡ refused r)
 unfolding shortenAnswer
 short-says room s = said-no length (shortened room s) (short-said (shortened room s))
+
+pub header-gives : (s : List ℕ) (t : Header) → (headerSays (headerAnswer s) ≡ yes t) ↔ ((h : Heading) × (wholeHeader s ≡ got h) × (headerIn h ≡ t))
+unfolding headerAnswer
+header-gives s = said-yes headerIn (wholeHeader s) (header-said (wholeHeader s))
 
 pub read-gives : (s : List ℕ) (t : Outline) → (readSays (readAnswer s) ≡ yes t) ↔ ((m : Message) × (readOf s ≡ got m) × (outlineOf m ≡ t))
 unfolding readAnswer

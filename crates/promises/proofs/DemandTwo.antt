@@ -3,7 +3,7 @@
 -- shortest form." Assumes nothing.
 use mathlib.Core.Path.{_≡_, refl, sym, ap, _∙_}
 use mathlib.Core.Bool.{true, false}
-use mathlib.Core.Logic.{_↔_, Iff·trans}
+use mathlib.Core.Logic.{_↔_, _⊎_, Iff·trans}
 use mathlib.Core.Option.{none, some}
 use mathlib.Core.List.{List, [], _∷_, _++_}
 use Prim.Native.Nat.{ℕ, _<_, _≤_}
@@ -15,6 +15,8 @@ use Rattle.zvt_rules.specs.Message.{bytes, listed, Message, lengthOf, headerWit
 use Rattle.zvt_rules.specs.Message.{wholeHeader, readOf, firstOf, countOf}
 use Rattle.zvt_rules.specs.Shortest.{shortMessage, isShort, write, shorten}
 use Rattle.zvt_rules.specs.Values.{statusOf}
+use Rattle.zvt_rules.specs.declared.Refusal.{Refusal}
+use Rattle.zvt_rules.specs.declared.Place.the-variants.{Nowhere as Unplaced}
 use Rattle.zvt_rules.specs.declared.Header.{Header}
 use Rattle.zvt_rules.specs.declared.Outline.{Outline}
 use Rattle.zvt_rules.specs.declared.Listed.{Listed}
@@ -31,6 +33,7 @@ use Rattle.zvt_rules.specs.believed.Answers.{Framed, inBody, Reported, FirstRep
 use Rattle.zvt_rules.specs.believed.Values.{Is, Tells, TellsNumber}
 use Rattle.zvt_rules.specs.believed.Found.{Stands, ListStands}
 use Rattle.zvt_rules.specs.believed.Names.{UpToZero, Shown}
+use Rattle.zvt_rules.specs.believed.Faults.{Names}
 use Rattle.zvt_rules.proofs.Readings.{got-same, then-on}
 use Rattle.zvt_rules.proofs.MessageBytes as reading
 use Rattle.zvt_rules.proofs.MessageShort as shortest
@@ -42,13 +45,16 @@ use Rattle.zvt_rules.proofs.Names as names
 use Rattle.desk_rules.specs.declared.Desk.{Desk}
 use Rattle.desk_rules.specs.declared.Opening.{Opening}
 use Rattle.desk_rules.specs.Openings.{withinLimits, commandBytes}
-use Rattle.desk_rules.specs.Course.{replyBytes, Call, writes}
+use Rattle.desk_rules.specs.Course.{replyBytes, Call, NumbersFit, writes}
+use Rattle.desk_rules.specs.Desk.{refuse}
 use Rattle.desk_rules.specs.believed.Table.{Commands}
-use Rattle.desk_rules.specs.Memory.{laneFor, answerOf, leavesOf}
+use Rattle.desk_rules.specs.Memory.{view, laneFor, answerOf, leavesOf}
+use Rattle.desk_rules.proofs.Rows.{table}
 use Rattle.desk_rules.proofs.Commands as commands
-use Rattle.promises.specs.Answers.{yes, headerSays, readSays, firstSays, shortSays, heardSays, toldSays, placeSays, fieldSays}
-use Rattle.promises.specs.Answers.{codeSays, amountSays, receiptSays, answerSays, At}
-use Rattle.promises.proofs.Answers.{read-gives, call-wrote, call-size}
+use Rattle.promises.specs.Answers.{no, yes, headerSays, readSays, firstSays, shortSays, heardSays, toldSays, placeSays, fieldSays}
+use Rattle.promises.specs.Answers.{codeSays, amountSays, receiptSays, answerSays, Placed, At}
+use Rattle.promises.proofs.Answers.{header-says, header-gives, read-says, read-gives, first-says, short-says, decided-no, call-wrote, call-size}
+use Rattle.promises.proofs.Placing.{header-nowhere, body-names, first-placed, short-placed, call-placed}
 use Rattle.promises.proofs.Asked.{header-is, read-is, first-is, short-is, place-is, field-is, field-is-none}
 use Rattle.promises.proofs.Asked.{code-is, amount-is, receipt-is, heard-yes, told-is, id-found}
 
@@ -79,7 +85,32 @@ module _ (s : List ℕ) (b : Bytes s) where
   pub first-exactly : (t : Outline) (next : ℕ) → (firstSays (firstAnswer s) ≡ yes (t, next)) ↔ FirstReported s t next
   first-exactly t next = Iff·trans (first-is (firstAnswer s) t next) (reports.first-exactly s t next b)
 
--- No two messages have the same bytes.
+-- ---- the place of a refusal. Number and place together are those of a row, both ways: read-refused-exactly and its sisters (DemandOne)
+
+module _ (s : List ℕ) (b : Bytes s) (r : Refusal) where
+  -- R46: the refusal of a header names no place.
+  pub header-unplaced : headerSays (headerAnswer s) ≡ no r → r .place ≡ Unplaced
+  header-unplaced h = header-nowhere s b r (header-says s r .0 h)
+
+  -- R46 to R48: that of a body always names one: of a byte of the message, which is what the number says, or for 1 alone the place where
+  -- body, container or run ended too soon, in the message or directly behind it.
+  pub body-placed : (t : Header) → headerSays (headerAnswer s) ≡ yes t → readSays (readAnswer s) ≡ no r → Names s r
+  body-placed t h e = let g = header-gives s t .0 h in body-names s b r (g .0) (g .1) (read-says s r .0 e)
+
+  -- Where further messages may follow, the place lies in the first, or directly behind it.
+  pub first-placed-in : firstSays (firstAnswer s) ≡ no r
+      → (r .place ≡ Unplaced) ⊎ ((front : List ℕ) × (rest : List ℕ) × (front ++ rest ≡ s) × Names front r)
+  first-placed-in h = first-placed s b r (first-says s r .0 h)
+
+  -- Shortening names the places of reading; where its output is too small (11) it names none.
+  pub shorten-placed : (room : ℕ) → shortSays (shortenAnswer room s) ≡ no r → (r .place ≡ Unplaced) ⊎ Names s r
+  shorten-placed room h = short-placed s b r room (short-says room s r .0 h)
+
+-- A call of the desk that is refused names a place only of a terminal's message, and then such a one.
+pub desk-placed : (d : Desk) (c : Call) (room : ℕ) (r : Refusal) → NumbersFit c → answerSays (answerOf d c room) ≡ no r → Placed c r
+desk-placed d c room r n h = call-placed (view d) c room r n (table (view d) c room (refuse r) .0 (decided-no d c room r .0 h))
+
+-- ---- no two messages have the same bytes
 pub one-reading : (m m′ : Message) → MessageOk m → MessageOk m′ → messageBytes m ≡ messageBytes m′ → m ≡ m′
 one-reading m m′ ok ok′ e = got-same (sym (reading.read-complete m ok) ∙ ap readOf e ∙ reading.read-complete m′ ok′)
 

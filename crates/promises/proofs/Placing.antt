@@ -1,24 +1,25 @@
 -- What the refusal of a message and of a call names: a place of the message where its body is refused, and else none. Assumes nothing.
 use mathlib.Core.Path.{_≡_, refl, sym, ap, _∙_, subst}
 use mathlib.Core.Logic.{_⊎_, inl, inr, ⊎-elim}
-use mathlib.Core.List.{List, []}
+use mathlib.Core.List.{List, [], _∷_, _++_}
 use Prim.Native.Nat.{ℕ}
 use native.Mathlib.Omega.{arith}
-use lib.ListN.{length}
 use Rattle.zvt_rules.specs.declared.Refusal.{Refusal}
 use Rattle.zvt_rules.specs.declared.Place.the-variants.{Nowhere}
-use Rattle.zvt_rules.specs.Reading.{got, refused, no as no-at, unplaced}
-use Rattle.zvt_rules.specs.Message.{wholeHeader, readOf}
+use Rattle.zvt_rules.specs.Reading.{got, refused}
+use Rattle.zvt_rules.specs.Message.{Heading, wholeHeader, readOf, firstOf}
+use Rattle.zvt_rules.specs.Answers.{shortened}
 use Rattle.zvt_rules.specs.believed.Grammar.{Bytes}
-use Rattle.zvt_rules.specs.believed.Rows.{ReadNo}
+use Rattle.zvt_rules.specs.believed.Rows.{ShortNo, unread, tight}
 use Rattle.zvt_rules.specs.believed.Faults.{Names, behind}
 use Rattle.zvt_rules.proofs.Readings.{got-not-refused}
-use Rattle.zvt_rules.proofs.RowMessages.{whole-exactly, read-no-exactly}
-use Rattle.zvt_rules.proofs.Faults.{whole-names, whole-unplaced}
+use Rattle.zvt_rules.proofs.RowMessages.{whole-exactly, read-no-exactly, first-no-exactly, short-no-exactly}
+use Rattle.zvt_rules.proofs.Faults.{framed-names, whole-names, header-unplaced, whole-unplaced}
 use Rattle.desk_rules.specs.Course.{Call, opening, message, lost, NumbersFit}
-use Rattle.desk_rules.specs.Desk.{State, Decision, refuse, accept}
-use Rattle.desk_rules.specs.believed.Table.{Given, gives, givesAt, Row}
+use Rattle.desk_rules.specs.Desk.{State, refuse}
+use Rattle.desk_rules.specs.believed.Table.{Given, gives, Row}
 use Rattle.promises.specs.Answers.{Placed}
+use Rattle.promises.proofs.Answers.{refuse-same}
 
 -- ---- a message
 module _ (s : List ℕ) (b : Bytes s) (r : Refusal) where
@@ -28,13 +29,26 @@ module _ (s : List ℕ) (b : Bytes s) (r : Refusal) where
   pub read-placed : readOf s ≡ refused r → (r .place ≡ Nowhere) ⊎ Names s r
   read-placed e = ⊎-elim (λ h. inl (whole-unplaced h)) (λ h. inr (whole-names s r h)) (read-no-exactly s b r .0 e)
 
-  pub body-names : {A : Type 0} {t : A} → ((wholeHeader s ≡ refused r) → ⊥) → readOf s ≡ refused r → Names s r
-  body-names framed e = ⊎-elim (λ h. absurd (framed (whole-exactly s b r .1 h))) (whole-names s r) (read-no-exactly s b r .0 e)
+  -- where the header is read, it is the body's
+  pub body-names : (h : Heading) → wholeHeader s ≡ got h → readOf s ≡ refused r → Names s r
+  body-names h w e =
+      ⊎-elim (λ k. absurd (got-not-refused (sym w ∙ whole-exactly s b r .1 k))) (whole-names s r) (read-no-exactly s b r .0 e)
+
+  -- the first of several messages: the place lies in it, or directly behind it
+  pub first-placed : firstOf s ≡ refused r → (r .place ≡ Nowhere) ⊎ ((front : List ℕ) × (rest : List ℕ) × (front ++ rest ≡ s) × Names front r)
+  first-placed e =
+      ⊎-elim (λ h. inl (header-unplaced h)) (λ (rest, h). let f = framed-names s rest r h in inr (f .0, rest, f .1, f .2))
+      (first-no-exactly s b r .0 e)
+
+  -- shortening
+  pub short-placed : (room : ℕ) → shortened room s ≡ refused r → (r .place ≡ Nowhere) ⊎ Names s r
+  short-placed room e = go (short-no-exactly s b room r .0 e)
+    where
+      go : {q : Refusal} → ShortNo room s q → (q .place ≡ Nowhere) ⊎ Names s q
+      go (unread h) = ⊎-elim (λ k. inl (whole-unplaced k)) (λ k. inr (whole-names s _ k)) h
+      go (tight w k l) = inl refl
 
 -- ---- a call, row by row
-refuse-same : {r q : Refusal} → _≡_ {A = Decision} (refuse r) (refuse q) → r ≡ q
-refuse-same e = cc
-
 module _ (P : Refusal → Type 0) (r : Refusal) where
   -- what holds of all that a row gives, and of what those behind it give, holds of what is given
   given-by : (Gives : Refusal → Type 0) (rows : List (Refusal → Type 0)) → ((q : Refusal) → Gives q → P q) → (Given rows (refuse r) → P r)

@@ -1,13 +1,16 @@
 -- What an answer of the tape's functions says of the reading or the decision behind it. Assumes nothing.
 use mathlib.Core.Path.{_≡_, refl, sym, ap, _∙_}
-use mathlib.Core.Logic.{_↔_, inr}
+use mathlib.Core.Logic.{_↔_, _⊎_, inl, inr}
 use mathlib.Core.List.{List, []}
-use Prim.Native.Nat.{ℕ, _+_, _<_, _≤_}
+use Prim.Native.Nat.{ℕ, _+_, _-_, _<_, _≤_}
 use native.Mathlib.Omega.{arith}
 use lib.ListN.{length, take, drop}
+use lib.Dec.{ltb}
 use Rattle.zvt_rules.specs.declared.Refusal.{Refusal}
+use Rattle.zvt_rules.specs.declared.Place.the-variants.{Nowhere}
 use Rattle.zvt_rules.specs.Reading.{Reading, got, refused, unplaced}
 use Rattle.zvt_rules.specs.Buffers.{writtenLeaves}
+use Rattle.zvt_rules.proofs.Tests.{pick-test}
 use Rattle.desk_rules.specs.declared.Reply.{Reply}
 use Rattle.desk_rules.specs.declared.Reply.the-variants.{Written, Refused}
 use Rattle.desk_rules.specs.declared.Answer.{Answer}
@@ -26,14 +29,15 @@ use Rattle.desk_rules.proofs.Memory.{refused-same, accepted-answer, accepted-le
 use Rattle.tape_rules.specs.declared.Taped.{Taped}
 use Rattle.tape_rules.specs.declared.TapedAnswer.{TapedAnswer}
 use Rattle.tape_rules.specs.declared.ClosedAnswer.{ClosedAnswer}
+use Rattle.tape_rules.specs.Block.{mostNumber}
 use Rattle.tape_rules.specs.Tape.{blocksFor}
-use Rattle.tape_rules.specs.Tails.{Tidy}
-use Rattle.tape_rules.specs.Recording.{freshTaped, ValidTaped, blockAnswer, writtenAnswer, decideTaped, tapedAnswer, tapedOut, tapedRoom}
+use Rattle.tape_rules.specs.Tails.{Tidy, changedPieces, changedBlocks, decideKeep}
+use Rattle.tape_rules.specs.Recording.{freshTaped, ValidTaped, blockAnswer, writtenAnswer, recordsOf, thenKeep, decideTaped, tapedAnswer, tapedOut, tapedRoom}
 use Rattle.tape_rules.specs.Recording.{heldBytes, closeTaped}
 use Rattle.tape_rules.proofs.Taping.{taped-taken, taped-refused, taped-accepted, ten-blocks, tape-enough, closed, close-kept}
-use Rattle.promises.specs.Answers.{no, yes, replySays, tapedSays, blockSays, Open}
+use Rattle.promises.specs.Answers.{no, yes, replySays, answerSays, tapedSays, blockSays, Open}
 use Rattle.promises.specs.TapeDays.{ClosedRow, still-open, all-ended}
-use Rattle.promises.proofs.Answers.{no-same, yes-same, no-yes, said, said-no, said-yes}
+use Rattle.promises.proofs.Answers.{no-same, yes-same, no-yes, refuse-same, said, said-no, said-yes}
 use Rattle.promises.proofs.Answers.{left-same, left-first, left-beyond, closing-no, closing-yes}
 
 -- ---- what is written into a buffer
@@ -79,6 +83,9 @@ pub block-holds : (x : Reading (List ℕ)) (k : ℕ) → (blockSays (blockAnswer
 block-holds x = said-yes length x (block-said x)
 
 -- ---- a call of a desk with its tape
+bare : {number : ℕ} {r : Refusal} → refuse (unplaced number) ≡ refuse r → r .place ≡ Nowhere
+bare e = ap (λ (x : Refusal). x .place) (sym (refuse-same e))
+
 module _ (t : Taped) (c : Call) (out room : List ℕ) where
   abbrev answer : TapedAnswer
   answer = tapedAnswer t c (length out) (length room)
@@ -102,6 +109,23 @@ module _ (t : Taped) (c : Call) (out room : List ℕ) where
       to : (x : Decision) → decision ≡ x → tapedSays answer ≡ yes k → decision ≡ accept
       to (refuse m) e h = absurd (no-yes (sym (ap tapedSays (taped-refused t c out room m e .0)) ∙ h))
       to accept e h = e
+
+  -- a refusal is the desk's, or one for the tape's sake
+  pub taped-own : (n : Refusal) → tapedSays answer ≡ no n → (answerSays deskSays ≡ no n) ⊎ (n .place ≡ Nowhere)
+  unfolding decideTaped thenKeep decideKeep refusedAnswer
+  taped-own n h = go (decide (view (t .desk)) c (length out)) refl (decision-no n h)
+    where
+      Bare : Decision → Type 0
+      Bare x = x ≡ refuse n → n .place ≡ Nowhere
+
+      go : (x : Decision) → decide (view (t .desk)) c (length out) ≡ x → thenKeep x (t .tail) (recordsOf t c) (length room) ≡ refuse n
+          → (answerSays deskSays ≡ no n) ⊎ (n .place ≡ Nowhere)
+      go (refuse m) e q = inl (rw (refused-same (t .desk) c (length out) m e) (ap no (refuse-same q)))
+      go accept e q =
+          inr
+          (pick-test Bare (ltb (mostNumber - t .tail .full) (length (changedPieces (t .tail) (recordsOf t c)))) (λ _. bare)
+          (λ _. pick-test Bare (ltb (length room) (length (changedBlocks (t .tail) (recordsOf t c)))) (λ _. bare)
+          (λ _ z. absurd (let y : _≡_ {A = ℕ} 0 1 = cc in omega arith))) q)
 
   pub taped-same : (n : Refusal) → tapedSays answer ≡ no n
       → (answer .taped ≡ t) × (tapedOut t c (length room) out ≡ out) × (tapedRoom t c (length out) room ≡ room)

@@ -3,13 +3,14 @@
 -- Assumes nothing.
 use mathlib.Core.Path.{_≡_, refl, sym, ap, _∙_}
 use mathlib.Core.Bool.{Bool, false}
-use mathlib.Core.Logic.{_↔_, Iff·trans}
+use mathlib.Core.Logic.{_↔_, _⊎_, Iff·trans}
 use mathlib.Core.List.{List, [], _++_}
 use Prim.Native.Nat.{ℕ, _+_, _-_, _*_, _<_, _≤_}
 use native.Mathlib.Omega.{arith}
 use lib.ListN.{length, getD, take, drop, set, length-take, length-drop, drop-of-length-le}
 use lib.Seq.{ext-getD}
 use Rattle.zvt_rules.specs.declared.Refusal.{Refusal}
+use Rattle.zvt_rules.specs.declared.Place.the-variants.{Nowhere}
 use Rattle.zvt_rules.specs.Reading.{Reading, got, unplaced}
 use Rattle.zvt_rules.specs.Message.{Message, readOf}
 use Rattle.zvt_rules.specs.believed.Grammar.{Bytes}
@@ -49,7 +50,7 @@ use Rattle.tape_rules.proofs.Unseen.{mask-heard}
 use Rattle.tape_rules.proofs.Taping.{taped-table, taped-valid, close-taped-valid}
 use Rattle.tape_rules.proofs.Playing.{fresh-whole}
 use Rattle.promises.specs.TapeDays.{LentBytes, exchanges, DeskAlone, ClosedRow, Hiding, AlikeDays}
-use Rattle.promises.specs.Answers.{no, yes, replySays, tapedSays, closedSays, blockSays}
+use Rattle.promises.specs.Answers.{no, yes, replySays, answerSays, tapedSays, closedSays, blockSays}
 use Rattle.promises.proofs.TapeAnswers as answers
 use Rattle.promises.proofs.TapeDays as days
 use Rattle.promises.proofs.Secrets as secrets
@@ -160,6 +161,11 @@ tape-reads-back p room back s w h = tape-read-exactly s p back .1 (tapes.payload
 pub taped-answered-exactly : (t : Taped) (c : Call) (out room : List ℕ) → NumbersFit c → (a : TapedAnswer) (left : List ℕ) → Bytes left
     → ((tapedAnswer t c (length out) (length room) ≡ a) × (tapedRoom t c (length out) room ≡ left)) ↔ TapedRow t c (length out) room a left
 taped-answered-exactly t c out room n = taped-table t c n (length out) room
+
+-- R46: a refusal of its own for the tape, 16 or 11, names no place; every other is the desk's, with the desk's place.
+pub taped-placed : (t : Taped) (c : Call) (out room : List ℕ) (r : Refusal) → tapedSays (tapedAnswer t c (length out) (length room)) ≡ no r
+    → (answerSays (answerOf (t .desk) c (length out)) ≡ no r) ⊎ (r .place ≡ Nowhere)
+taped-placed = answers.taped-own
 
 module _ (t : Taped) (c : Call) (out room : List ℕ) where
   -- With an accepted call a desk with its tape does what the desk alone does.

@@ -109,7 +109,7 @@ framed-names s rest r (class, instruction, long, body, bytes, fits, row) =
 pub whole-names : (s : List ℕ) (r : Refusal) → FramedNo s [] r → Names s r
 whole-names s r h = let f = framed-names s [] r h in subst (λ (x : List ℕ). Names x r) (rw (append-nil) at (f .1)) (f .2)
 
-header-unplaced : {s : List ℕ} {r : Refusal} → HeaderNo s r → r .place ≡ Nowhere
+pub header-unplaced : {s : List ℕ} {r : Refusal} → HeaderNo s r → r .place ≡ Nowhere
 header-unplaced (short class instruction long body ok c) = refl
 header-unplaced (tooLong h) = refl
 
