@@ -279,11 +279,11 @@ pair-test class instruction c i = and-test (eqb-test class c) (eqb-test instruct
 abort-test : (m : Message) → (emptyAbort m ≡ true) ↔ (((m .class ≡ 0x06) × (m .instruction ≡ 0x1E)) × (m .body ≡ bytes []))
 abort-test m = and-test (pair-test (m .class) (m .instruction) 0x06 0x1E) (empty-test (m .body))
 
-aborted-says : (start : ℕ) (x : Decision) (y : Body) (t : List ℕ) → y ≡ bytes t
-    → unlessRefused (abortedBy start (firstOf y)) x ≡ pick (isEmpty y) (refuse (no 1 start)) x
+aborted-says : (at : ℕ) (x : Decision) (y : Body) (t : List ℕ) → y ≡ bytes t
+    → unlessRefused (abortedBy at (firstOf y)) x ≡ pick (isEmpty y) (refuse (no 1 at)) x
 unfolding unlessRefused abortedBy firstOf isEmpty
-aborted-says start x y [] e = rw e
-aborted-says start x y (b ∷ t) e = rw e
+aborted-says at x y [] e = rw e
+aborted-says at x y (b ∷ t) e = rw e
 
 moved-says : (b : List ℕ) (l : Lane) (m : Message) (x : Decision) → readOf b ≡ got m
     → unlessRefused (movedBy l (m .class) (m .instruction) (headerSize (m .long)) (toldIn m)) x ≡ pick (emptyAbort m) (refuse (no 1 (length b))) x

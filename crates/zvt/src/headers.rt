@@ -1,8 +1,8 @@
 // The header of a message: class byte, instruction byte, length.
-use zvt_rules::Refusal;
 use zvt_rules::Header;
 use zvt_rules::Outline;
 use zvt_rules::Place;
+use zvt_rules::Refusal;
 ghost use mathlib.Core.Path.{_≡_};
 ghost use Rattle.zvt.specs.HeaderSteps.{fitting, firstHeader, wholeAnswer};
 

@@ -1,7 +1,7 @@
 // Data objects: a run of objects, each tag, length, value; the value of some is again a run.
-use zvt_rules::Refusal;
 use zvt_rules::Outline;
 use zvt_rules::Place;
+use zvt_rules::Refusal;
 ghost use mathlib.Core.Path.{_≡_};
 ghost use Prim.Native.Nat.{_+_, _-_, _≤_};
 ghost use lib.ListN.{length};

@@ -34,7 +34,7 @@ unfolding digitsOf
 digits-more d v at [] u e h l = absurd (omega arith)
 digits-more zero v at (b ∷ s) u e h l = unless-on _ _ (ap not l) ∙ ap (λ (x : ℕ). got (x * 10 + (b - 0xF0))) (got-same e)
 digits-more (suc d) v at (b ∷ s) u e h l =
-    let k = unless-got (not (lengthDigit b)) (no 4 at) (digitsOf d (v * 10 + (b - 0xF0)) (at + 1) s) u e in
+    let k = unless-got (not (lengthDigit b)) _ (digitsOf d (v * 10 + (b - 0xF0)) (at + 1) s) u e in
     unless-on _ _ (k .0) ∙ digits-more d (v * 10 + (b - 0xF0)) (at + 1) s u (k .1) (omega arith) l
 
 pub digitBytes-size : (d v : ℕ) → length (digitBytes d v) ≡ d
@@ -138,7 +138,7 @@ plain-back id n at p value rest d size h =
     let whole : 1 + d + length value ≡ suc (length (p ++ value)) = omega (arith, length-append p value) in
     let none : n ≡ n + 0 = omega arith in
     then-on _ value (value-back at s (1 + d) (length value) value (back-within id p value rest d size) (back id p value rest d size))
-    ∙ digits-read id (at + (1 + d)) value _ h ∙ cc
+    ∙ digits-read id _ value _ h ∙ cc
 
 -- what a field's reading gives, and how many bytes the field takes
 abbrev Back : List ℕ → ℕ → ℕ → Field → List ℕ → Type 0
@@ -178,7 +178,7 @@ container-sound id n at t o b six e =
     let d = formSize (g .0 .form) in
     let v = g .0 .value in
     let value = part (1 + d) (1 + d + v) (id ∷ t) in
-    let r = run-sound deepest n (at + (1 + d)) value (g .1) (bytes-part (1 + d) (1 + d + v) (id ∷ t) b) (g .4) in
+    let r = run-sound deepest n _ value (g .1) (bytes-part (1 + d) (1 + d + v) (id ∷ t) b) (g .4) in
     let l = len-sound (at + 1) t (g .0) (bytes-drop 1 (id ∷ t) b) (g .2) in
     let size : length value ≡ v = omega (arith, part-length (id ∷ t) (1 + d) (1 + d + v) (omega arith) (g .3)) in
     rw (g .5)

@@ -59,12 +59,12 @@ pub digits-last : (d v at : ℕ) (s : List ℕ) (w : ℕ) → digitsOf (suc d) v
 unfolding digitsOf
 digits-last d v at [] w e = absurd (got-not-refused (sym e))
 digits-last zero v at (b ∷ s) w e =
-    let k = unless-got (not (lengthDigit b)) (no 4 at) (got (v * 10 + (b - 0xF0))) w e in
+    let k = unless-got (not (lengthDigit b)) _ (got (v * 10 + (b - 0xF0))) w e in
     (v, refl, omega arith, not-false (lengthDigit b) (k .0), sym (got-same (k .1)))
 digits-last (suc d) v at (b ∷ s) w e =
-    let k = unless-got (not (lengthDigit b)) (no 4 at) (digitsOf (suc d) (v * 10 + (b - 0xF0)) (at + 1) s) w e in
+    let k = unless-got (not (lengthDigit b)) _ (digitsOf (suc d) (v * 10 + (b - 0xF0)) (at + 1) s) w e in
     let h = digits-last d (v * 10 + (b - 0xF0)) (at + 1) s w (k .1) in
-    (h .0, unless-on (no 4 at) (digitsOf d (v * 10 + (b - 0xF0)) (at + 1) s) (k .0) ∙ h .1, omega arith, h .3, h .4)
+    (h .0, unless-on _ (digitsOf d (v * 10 + (b - 0xF0)) (at + 1) s) (k .0) ∙ h .1, omega arith, h .3, h .4)
 
 -- so much is read, and no more than so many digits can say
 pub digits-in : (d v at : ℕ) (s : List ℕ) (w : ℕ) → digitsOf d v at s ≡ got w → (d ≤ length s) × (w < (v + 1) * 10 ^ d)

@@ -71,7 +71,7 @@ unfolding headOf headWith
 head-got at s h e =
     let t = then-got (tagSize at s) _ h e in
     let l = then-got (lenOf (at + t .0) (drop (t .0) s)) _ h (t .2) in
-    let g = unless-got (ltb (length s) (t .0 + formSize (l .0 .form) + l .0 .value)) (no 1 (at + length s)) _ h (l .2) in
+    let g = unless-got (ltb (length s) (t .0 + formSize (l .0 .form) + l .0 .value)) _ _ h (l .2) in
     subst (HeadRead at s) (got-same (g .1)) (record { tag = t .1; len = l .1; within = ltb-false _ _ (g .0) })
 
 pub head-in : (at : ℕ) (s : List ℕ) (h : Head) → headOf at s ≡ got h → (1 ≤ h .tag) × (2 ≤ from h) × (to h ≤ length s)

@@ -104,7 +104,7 @@ head-sized at tag s run r ok h =
     let size = length-append tag s in
     let less : length (tag ++ s) < length tag + formSize (l .form) + l .value = omega (arith, x .2) in
     let end : at + length (tag ++ s) ≡ at + length tag + length s = omega arith in
-    then-on _ l (x .1) ∙ rw (lt-ltb _ _ less, end) (ap refused (x .3))) h)
+    then-on _ l (x .1) ∙ rw (lt-ltb _ _ less) (moved 1 end ∙ ap refused (x .3))) h)
 
 -- a tag is not empty
 tag-append : (tag s : List ℕ) (run : Bool) → TagOk tag run → 0 < length (tag ++ s)
