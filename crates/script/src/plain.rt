@@ -5,7 +5,10 @@ use buffers::upto;
 use desk_rules::Reply;
 use script_reads::WORD;
 use script_reads::cut;
+use script_reads::due_of;
 use script_reads::messages;
+use script_reads::standing;
+use script_reads::standing::Spoken;
 use script_text::answers;
 use script_text::answers::BLANK;
 use script_text::answers::bytes_line;
@@ -17,12 +20,6 @@ use tape_rules::BlockAnswer;
 ghost use mathlib.Core.Path.{_≡_};
 ghost use Prim.Native.Nat.{_<_, _≤_};
 ghost use lib.ListN.{length};
-
-// Where a script then stands, and how long the text of its answer is.
-pub(crate) struct Spoken {
-    pub(crate) at: Script,
-    pub(crate) size: usize,
-}
 
 // 1,024 digits of a block, each with 15 other values; so many changes of one byte.
 const CHANGES: usize = 15360;
@@ -91,16 +88,6 @@ fn damage(due: Block, s: &mut [u8], out: &mut [u8]) -> usize {
     add_all(b" refused 20\n", to, out)
 }
 
-// The block that is due, by its number: the last of its tape, or one before the last.
-fn due_of(o: Order) -> Block {
-    let what = o.what;
-    let number = cut(o.first, WORD) as u32;
-    match what {
-        What::LastBlock | What::DamageLast => Block::at_end(number),
-        _ => Block::before_last(number),
-    }
-}
-
 // What is read of bytes, and nothing changed; or the digits of a number.
 fn reading(o: Order, s: &[u8], out: &mut [u8]) -> usize {
     let what = o.what;
@@ -147,17 +134,6 @@ fn change(o: Order, s: &mut [u8], out: &mut [u8]) -> usize {
     damage(due_of(o), s, out)
 }
 
-// So many times the bytes s, behind the first at bytes of out.
-fn repeated(s: &[u8], times: u64, at: usize, out: &mut [u8]) -> usize {
-    let mut to = at;
-    let mut k: u64 = 0;
-    while k < times {
-        to = add_all(s, to, out);
-        k += 1;
-    }
-    to
-}
-
 // What a line comes to that leaves the script as it is.
 fn asked_of(o: Order, room: usize, bytes: &mut [u8], out: &mut [u8]) -> usize
     requires { ⌜ (o .size ≤ o .end) × (o .end ≤ length (now bytes)) ⌝ }
@@ -178,39 +154,6 @@ fn asked_of(o: Order, room: usize, bytes: &mut [u8], out: &mut [u8]) -> usize
     }
 }
 
-// A line that is not understood ends the script.
-fn ended(at: Script, out: &mut [u8]) -> Spoken {
-    let mut after = at;
-    after.more = false;
-    Spoken {
-        at: after,
-        size: answers::not_understood(at.number, out),
-    }
-}
-
-// So many bytes are lent from now on, if there are that many.
-fn roomed(at: Script, room: u64, out: &mut [u8]) -> Spoken {
-    if (Script::ROOM as u64) < room {
-        return ended(at, out);
-    }
-    let mut after = at;
-    after.room = room as usize;
-    Spoken {
-        at: after,
-        size: add_all(b"ok\n", 0, out),
-    }
-}
-
-// So many times the bytes s are added.
-fn extended(at: Script, s: &[u8], times: u64, added: &mut [u8], out: &mut [u8]) -> Spoken {
-    let mut after = at;
-    after.added = repeated(s, times, at.added, added);
-    Spoken {
-        at: after,
-        size: answers::counted(b"bytes", after.added as u64, 0, out),
-    }
-}
-
 // A line that asks nothing of the desk.
 pub(crate) fn answered(
     at: Script,
@@ -224,9 +167,9 @@ pub(crate) fn answered(
     let what = o.what;
     let size = o.size;
     match what {
-        What::Bad => ended(at, out),
-        What::Room => roomed(at, o.first, out),
-        What::Add => extended(at, &bytes[..size], o.first, added, out),
+        What::Bad => standing::ended(at, out),
+        What::Room => standing::roomed(at, o.first, out),
+        What::Add => standing::extended(at, &bytes[..size], o.first, added, out),
         _ => Spoken {
             at,
             size: asked_of(o, at.room, bytes, out),

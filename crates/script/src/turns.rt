@@ -2,13 +2,11 @@
 use crate::plain;
 use buffers::fill;
 use buffers::upto;
-use desk_rules::Opening;
 use desk_rules::Reply;
 use script_reads::BYTE;
-use script_reads::SHORT;
-use script_reads::WORD;
 use script_reads::cut;
 use script_reads::desks;
+use script_reads::opening_of;
 use script_text::answers;
 use script_text::orders;
 use script_text::orders::Order;
@@ -45,16 +43,6 @@ pub(crate) fn fresh(further: bool) -> Turn
         taped: Taped::fresh(),
         at: Script::start(further),
         size: 0,
-    }
-}
-
-// What a line opens. A number over the width of its type is passed on as the greatest of that type: the desk refuses it.
-fn opening_of(o: Order) -> Opening {
-    let what = o.what;
-    match what {
-        What::Sale => Opening::Sale(o.second),
-        What::Refund => Opening::Refund(cut(o.second, WORD) as u32, o.third),
-        _ => Opening::Reversal(cut(o.second, WORD) as u32, cut(o.third, SHORT) as u16),
     }
 }
 
