@@ -5,24 +5,11 @@ mod turns;
 
 use buffers::upto;
 use libc::STDOUT_FILENO;
+use script_reads::files;
 use script_text::orders::Script;
-ghost use mathlib.Core.Path.{_≡_};
-ghost use Prim.Native.Nat.{_+_, _≤_, min};
-ghost use lib.ListN.{length};
 
 // The most bytes of a script.
 pub const LIMIT: usize = 65536;
-
-// Where the line behind one begins that ends there.
-pub(crate) fn behind(end: usize, s: &[u8]) -> usize
-    requires { ⌜ end ≤ length (now s) ⌝ }
-    ensures { λ r. ⌜ r ≡ min (end + 1) (length (now (s .entry))) ⌝ }
-{
-    if end == s.len() {
-        return end;
-    }
-    end + 1
-}
 
 // The answers to a script go to standard output. No contract can say what is written there.
 pub fn play(script: &[u8]) {
@@ -46,6 +33,6 @@ fn play_in(script: &[u8], file: &mut [u8], room: &mut [u8], added: &mut [u8], te
         turn = turns::line(turn, &script[from..to], file, room, added, text);
         let end = upto(turn.size, text);
         io::write_all(STDOUT_FILENO, &text[..end]);
-        from = behind(to, script);
+        from = files::behind(to, script);
     }
 }

@@ -1,33 +1,22 @@
 // What a line does to a desk with its tape, and its answer.
 use crate::plain;
-use crate::plain::BYTE;
-use crate::plain::SHORT;
-use crate::plain::WORD;
-use crate::plain::cut;
-use buffers::add;
-use buffers::add_bytes;
 use buffers::fill;
 use buffers::upto;
-use desk_rules::Book;
-use desk_rules::Desk;
-use desk_rules::Lane;
-use desk_rules::LaneAnswer;
-use desk_rules::LineAnswer;
-use desk_rules::Opening;
 use desk_rules::Reply;
+use script_reads::BYTE;
+use script_reads::cut;
+use script_reads::desks;
+use script_reads::opening_of;
 use script_text::answers;
 use script_text::orders;
 use script_text::orders::Order;
 use script_text::orders::Script;
 use script_text::orders::What;
 use std::num::wrapping_add_u64;
-use tape_rules::Block;
-use tape_rules::Tail;
 use tape_rules::Taped;
 use tape_rules::TapedAnswer;
 ghost use Prim.Native.Nat.{_≤_};
 ghost use lib.ListN.{length};
-ghost use Rattle.desk_rules.specs.Memory.{Valid};
 ghost use Rattle.tape_rules.specs.Recording.{ValidTaped};
 
 // The file of the day's tape has 261 blocks, more than a script can fill.
@@ -57,95 +46,6 @@ pub(crate) fn fresh(further: bool) -> Turn
     }
 }
 
-// The lines of the book, and their count.
-fn book(desk: Desk, out: &mut [u8]) -> usize
-    requires { ⌜ Valid desk ⌝ }
-{
-    let mut to: usize = 0;
-    let mut k: usize = 0;
-    while k < Book::LINES {
-        match desk::line_at(desk, k) {
-            LineAnswer::End => return answers::counted(b"end", k as u64, to, out),
-            LineAnswer::Line(l) => {
-                k += 1;
-                to = answers::add_line(k as u64, l, to, out);
-            }
-        }
-    }
-    answers::counted(b"end", k as u64, to, out)
-}
-
-// The eight lanes.
-fn lanes(desk: Desk, out: &mut [u8]) -> usize
-    requires { ⌜ Valid desk ⌝ }
-{
-    let mut to: usize = 0;
-    let mut lane: u8 = 0;
-    while lane < Lane::COUNT {
-        match desk::lane_at(desk, lane) {
-            LaneAnswer::Refused(_) => return to,
-            LaneAnswer::Lane(l) => {
-                to = answers::add_lane(lane, l, to, out);
-            }
-        }
-        lane += 1;
-    }
-    to
-}
-
-// The blocks of a tape, a line of hex for each, and their count.
-fn add_blocks(blocks: &[u8], out: &mut [u8]) -> usize {
-    let mut to: usize = 0;
-    let mut at: usize = 0;
-    while Block::SIZE <= blocks.len() - at {
-        let end = at + Block::SIZE;
-        to = add_bytes(&blocks[at..end], to, out);
-        to = add(b'\n', to, out);
-        at = end;
-    }
-    answers::counted(b"end", (at / Block::SIZE) as u64, to, out)
-}
-
-// Where the open block begins in the file.
-fn open_at(tail: Tail, file: &[u8]) -> usize
-    ensures { λ r. ⌜ r ≤ length (now (file .entry)) ⌝ }
-{
-    upto(tail.full as usize * Block::SIZE, file)
-}
-
-// The tape so far: the blocks of the file that are full, and the open one.
-fn tape_of(tail: Tail, file: &[u8], out: &mut [u8]) -> usize {
-    let at = open_at(tail, file);
-    if tail.used == 0 {
-        return add_blocks(&file[..at], out);
-    }
-    let end = upto(at + Block::SIZE, file);
-    add_blocks(&file[..end], out)
-}
-
-// What is asked about the desk: the book, the lanes, the net turnover or the tape.
-fn question(taped: Taped, what: What, file: &[u8], out: &mut [u8]) -> usize
-    requires { ⌜ ValidTaped taped ⌝ }
-{
-    let desk = taped.desk;
-    match what {
-        What::Book => book(desk, out),
-        What::Lanes => lanes(desk, out),
-        What::Net => answers::signed(desk::net(desk), out),
-        _ => tape_of(taped.tail, file, out),
-    }
-}
-
-// What a line opens. A number over the width of its type is passed on as the greatest of that type: the desk refuses it.
-fn opening_of(o: Order) -> Opening {
-    let what = o.what;
-    match what {
-        What::Sale => Opening::Sale(o.second),
-        What::Refund => Opening::Refund(cut(o.second, WORD) as u32, o.third),
-        _ => Opening::Reversal(cut(o.second, WORD) as u32, cut(o.third, SHORT) as u16),
-    }
-}
-
 // The call itself. What is lent to its blocks is the file from the open block on, so that each is written at its place. The lane is
 // passed on as numbers of an opening are.
 fn made(taped: Taped, o: Order, s: &[u8], lent: &mut [u8], file: &mut [u8]) -> TapedAnswer
@@ -154,7 +54,7 @@ fn made(taped: Taped, o: Order, s: &[u8], lent: &mut [u8], file: &mut [u8]) -> T
 {
     let what = o.what;
     let lane = cut(o.first, BYTE) as u8;
-    let at = open_at(taped.tail, file);
+    let at = desks::open_at(taped.tail, file);
     let room = &mut file[at..];
     match what {
         What::Terminal => tape::terminal(taped, lane, s, lent, room),
@@ -204,7 +104,7 @@ fn asked(turn: Turn, what: What, file: &[u8], out: &mut [u8]) -> Turn
     ensures { λ r. ⌜ ValidTaped (r .taped) ⌝ }
 {
     let mut after = turn;
-    after.size = question(turn.taped, what, file, out);
+    after.size = desks::question(turn.taped, what, file, out);
     after
 }
 

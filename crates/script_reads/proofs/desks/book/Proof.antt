@@ -3,8 +3,8 @@ use Prim.Native.Nat.{_-_, _≤_}
 use lib.ListN.{length}
 use mathlib.Core.Path.{_≡_}
 use borrow.Author.Needs.{needs}
-use Rattle.script.proofs.turns.book.Statement.{statement}
-use Rattle.script.proofs.turns.book.Tie as tie
+use Rattle.script_reads.proofs.desks.book.Statement.{statement}
+use Rattle.script_reads.proofs.desks.book.Tie as tie
 
 abbrev Inv-loop : tie.InvT-loop
 Inv-loop desk out₀ to₀ k₀ t6 t7 out to k =

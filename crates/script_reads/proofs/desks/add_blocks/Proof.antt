@@ -3,8 +3,8 @@ use Prim.Native.Nat.{_-_, _≤_}
 use lib.ListN.{length}
 use mathlib.Core.Path.{_≡_}
 use borrow.Author.Needs.{needs}
-use Rattle.script.proofs.turns.add_blocks.Statement.{statement}
-use Rattle.script.proofs.turns.add_blocks.Tie as tie
+use Rattle.script_reads.proofs.desks.add_blocks.Statement.{statement}
+use Rattle.script_reads.proofs.desks.add_blocks.Tie as tie
 
 abbrev Inv-loop : tie.InvT-loop
 Inv-loop blocks out₀ to₀ at₀ t6 out to at =

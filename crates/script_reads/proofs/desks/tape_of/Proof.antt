@@ -2,8 +2,8 @@
 use lib.Seq.{length-take-le}
 use mathlib.Core.Path.{sym}
 use borrow.Author.Needs.{needs}
-use Rattle.script.proofs.turns.tape_of.Statement.{statement}
-use Rattle.script.proofs.turns.tape_of.Tie as tie
+use Rattle.script_reads.proofs.desks.tape_of.Statement.{statement}
+use Rattle.script_reads.proofs.desks.tape_of.Tie as tie
 
 full : tie.Need-slice-aggregate-add-blocks
 full c = sym (length-take-le _ _ (c .before .before .before .open-at .ensures))

@@ -3,8 +3,8 @@ use Prim.Native.Nat.{_-_, _≤_}
 use lib.ListN.{length}
 use mathlib.Core.Path.{_≡_}
 use borrow.Author.Needs.{needs}
-use Rattle.script.proofs.turns.lanes.Statement.{statement}
-use Rattle.script.proofs.turns.lanes.Tie as tie
+use Rattle.script_reads.proofs.desks.lanes.Statement.{statement}
+use Rattle.script_reads.proofs.desks.lanes.Tie as tie
 
 abbrev Inv-loop : tie.InvT-loop
 Inv-loop desk out₀ to₀ lane₀ out to lane =

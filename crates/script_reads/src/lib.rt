@@ -1,0 +1,45 @@
+// What is done for a script that changes no desk: messages are read, a desk with its tape is asked, files of lines are read.
+pub mod desks;
+pub mod files;
+pub mod messages;
+pub mod standing;
+
+use desk_rules::Opening;
+use script_text::orders::Order;
+use script_text::orders::What;
+use tape_rules::Block;
+ghost use Prim.Native.Nat.{_≤_};
+
+// The greatest numbers of the types u8, u16 and u32.
+pub const BYTE: u64 = 255;
+
+pub const SHORT: u64 = 65535;
+
+pub const WORD: u64 = 4294967295;
+
+// n, or that number where n is greater.
+pub fn cut(n: u64, greatest: u64) -> u64
+    ensures { λ r. ⌜ r ≤ greatest ⌝ }
+{
+    if greatest < n { greatest } else { n }
+}
+
+// What a line opens. A number over the width of its type is passed on as the greatest of that type: the desk refuses it.
+pub fn opening_of(o: Order) -> Opening {
+    let what = o.what;
+    match what {
+        What::Sale => Opening::Sale(o.second),
+        What::Refund => Opening::Refund(cut(o.second, WORD) as u32, o.third),
+        _ => Opening::Reversal(cut(o.second, WORD) as u32, cut(o.third, SHORT) as u16),
+    }
+}
+
+// The block that is due, by its number: the last of its tape, or one before the last.
+pub fn due_of(o: Order) -> Block {
+    let what = o.what;
+    let number = cut(o.first, WORD) as u32;
+    match what {
+        What::LastBlock | What::DamageLast => Block::at_end(number),
+        _ => Block::before_last(number),
+    }
+}
