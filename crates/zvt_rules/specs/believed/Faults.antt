@@ -5,8 +5,8 @@ use mathlib.Core.List.{List}
 use Prim.Native.Nat.{ℕ, _<_, _≤_}
 use lib.ListN.{length, getD}
 use Rattle.zvt_rules.specs.declared.Refusal.{Refusal}
+use Rattle.zvt_rules.specs.declared.Place.the-variants.{At}
 use Rattle.zvt_rules.specs.declared.Format.the-variants.{Unknown}
-use Rattle.zvt_rules.specs.Reading.{no}
 use Rattle.zvt_rules.specs.Fields.{formatOf}
 use Rattle.zvt_rules.specs.believed.Rows.{Undecimal}
 
@@ -25,5 +25,5 @@ pub data WrongByte (b : ℕ) : ℕ → Type 0 where
 -- R46: "in the message, or directly behind it": s is the message. The place is that of such a byte of s; or, for 1 alone, R48: "the first
 -- byte behind the nearest body, container or run"
 pub data Names (s : List ℕ) : Refusal → Type 0 where
-  byte : {n p : ℕ} → p < length s → WrongByte (getD s p 0) n → Names s (no n p)
-  behind : {p : ℕ} → p ≤ length s → Names s (no 1 p)
+  byte : {n p : ℕ} → p < length s → WrongByte (getD s p 0) n → Names s (record { number = n; place = At p })
+  behind : {p : ℕ} → p ≤ length s → Names s (record { number = 1; place = At p })
