@@ -33,6 +33,7 @@ use Rattle.zvt_rules.specs.believed.Answers.{Framed, inBody, Reported, FirstRep
 use Rattle.zvt_rules.specs.believed.Values.{Is, Tells, TellsNumber}
 use Rattle.zvt_rules.specs.believed.Found.{Stands, ListStands}
 use Rattle.zvt_rules.specs.believed.Names.{UpToZero, Shown}
+use Rattle.zvt_rules.specs.believed.Rows.{FramedNo}
 use Rattle.zvt_rules.specs.believed.Faults.{Names}
 use Rattle.zvt_rules.proofs.Readings.{got-same, then-on}
 use Rattle.zvt_rules.proofs.MessageBytes as reading
@@ -54,7 +55,7 @@ use Rattle.desk_rules.proofs.Commands as commands
 use Rattle.promises.specs.Answers.{no, yes, headerSays, readSays, firstSays, shortSays, heardSays, toldSays, placeSays, fieldSays}
 use Rattle.promises.specs.Answers.{codeSays, amountSays, receiptSays, answerSays, Placed, At}
 use Rattle.promises.proofs.Answers.{header-says, header-gives, read-says, read-gives, first-says, short-says, decided-no, call-wrote, call-size}
-use Rattle.promises.proofs.Placing.{header-nowhere, body-names, first-placed, short-placed, call-placed}
+use Rattle.promises.proofs.Placing.{header-nowhere, body-rows, body-names, first-placed, short-placed, call-placed}
 use Rattle.promises.proofs.Asked.{header-is, read-is, first-is, short-is, place-is, field-is, field-is-none}
 use Rattle.promises.proofs.Asked.{code-is, amount-is, receipt-is, heard-yes, told-is, id-found}
 
@@ -85,9 +86,15 @@ module _ (s : List ℕ) (b : Bytes s) where
   pub first-exactly : (t : Outline) (next : ℕ) → (firstSays (firstAnswer s) ≡ yes (t, next)) ↔ FirstReported s t next
   first-exactly t next = Iff·trans (first-is (firstAnswer s) t next) (reports.first-exactly s t next b)
 
--- ---- the place of a refusal. Number and place together are those of a row, both ways: read-refused-exactly and its sisters (DemandOne)
+-- ---- the pair of number and place, with which a message is refused. Of all that reads a message: read-refused-exactly and its sisters
+-- (DemandOne)
 
 module _ (s : List ℕ) (b : Bytes s) (r : Refusal) where
+  -- Behind a header that is read, the body is refused with a number and at a place exactly where a row of bodies (R41 to R44) has both.
+  pub body-refused-exactly : (t : Header) → headerSays (headerAnswer s) ≡ yes t → (readSays (readAnswer s) ≡ no r) ↔ FramedNo s [] r
+  body-refused-exactly t h =
+      let g = header-gives s t .0 h in Iff·trans (read-says s r) (body-rows s b r (g .0) (g .1))
+
   -- R46: the refusal of a header names no place.
   pub header-unplaced : headerSays (headerAnswer s) ≡ no r → r .place ≡ Unplaced
   header-unplaced h = header-nowhere s b r (header-says s r .0 h)

@@ -1,6 +1,6 @@
 -- What the refusal of a message and of a call names: a place of the message where its body is refused, and else none. Assumes nothing.
 use mathlib.Core.Path.{_≡_, refl, sym, ap, _∙_, subst}
-use mathlib.Core.Logic.{_⊎_, inl, inr, ⊎-elim}
+use mathlib.Core.Logic.{_↔_, _⊎_, inl, inr, ⊎-elim}
 use mathlib.Core.List.{List, [], _∷_, _++_}
 use Prim.Native.Nat.{ℕ}
 use native.Mathlib.Omega.{arith}
@@ -10,7 +10,7 @@ use Rattle.zvt_rules.specs.Reading.{got, refused}
 use Rattle.zvt_rules.specs.Message.{Heading, wholeHeader, readOf, firstOf}
 use Rattle.zvt_rules.specs.Answers.{shortened}
 use Rattle.zvt_rules.specs.believed.Grammar.{Bytes}
-use Rattle.zvt_rules.specs.believed.Rows.{ShortNo, unread, tight}
+use Rattle.zvt_rules.specs.believed.Rows.{FramedNo, ShortNo, unread, tight}
 use Rattle.zvt_rules.specs.believed.Faults.{Names, behind}
 use Rattle.zvt_rules.proofs.Readings.{got-not-refused}
 use Rattle.zvt_rules.proofs.RowMessages.{whole-exactly, read-no-exactly, first-no-exactly, short-no-exactly}
@@ -30,9 +30,15 @@ module _ (s : List ℕ) (b : Bytes s) (r : Refusal) where
   read-placed e = ⊎-elim (λ h. inl (whole-unplaced h)) (λ h. inr (whole-names s r h)) (read-no-exactly s b r .0 e)
 
   -- where the header is read, it is the body's
-  pub body-names : (h : Heading) → wholeHeader s ≡ got h → readOf s ≡ refused r → Names s r
-  body-names h w e =
-      ⊎-elim (λ k. absurd (got-not-refused (sym w ∙ whole-exactly s b r .1 k))) (whole-names s r) (read-no-exactly s b r .0 e)
+  module _ (h : Heading) (w : wholeHeader s ≡ got h) where
+    pub body-rows : (readOf s ≡ refused r) ↔ FramedNo s [] r
+    body-rows = (
+      λ e. ⊎-elim (λ k. absurd (got-not-refused (sym w ∙ whole-exactly s b r .1 k))) (λ k. k) (read-no-exactly s b r .0 e),
+      λ k. read-no-exactly s b r .1 (inr k),
+    )
+
+    pub body-names : readOf s ≡ refused r → Names s r
+    body-names e = whole-names s r (body-rows .0 e)
 
   -- the first of several messages: the place lies in it, or directly behind it
   pub first-placed : firstOf s ≡ refused r → (r .place ≡ Nowhere) ⊎ ((front : List ℕ) × (rest : List ℕ) × (front ++ rest ≡ s) × Names front r)
