@@ -1,20 +1,23 @@
 -- The kinds of opening, a row for each in every table: what it opens, its limits, the line that it refers to, the amount that it asks
 -- for, the receipt that it names, its command. Definitions only.
-use Prim.Native.Nat.{ℕ}
+use Prim.Native.Nat.{ℕ, zero, suc, _+_}
 use mathlib.Core.Bool.{Bool, true, false, _&&_}
 use mathlib.Core.List.{List, [], _∷_}
+use lib.ListN.{getD}
 use lib.Dec.{eqb}
 use Rattle.zvt_rules.specs.Reading.{pick}
 use Rattle.zvt_rules.specs.Fields.{Field, plain}
 use Rattle.zvt_rules.specs.Message.{Message, listed}
 use Rattle.zvt_rules.specs.believed.Writing.{messageBytes}
-use Rattle.zvt_rules.specs.Digits.{digitBytesOf}
+use Rattle.zvt_rules.specs.Digits.{digitBytesOf, numberOf}
 use Rattle.desk_rules.specs.declared.Kind.{Kind}
 use Rattle.desk_rules.specs.declared.Kind.the-variants.{Sale, Refund, Reversal}
 use Rattle.desk_rules.specs.declared.Line.{Line}
 use Rattle.desk_rules.specs.declared.Lane.{Lane}
 use Rattle.desk_rules.specs.declared.Opening.{Opening}
 use Rattle.desk_rules.specs.declared.Opening.the-variants.{Sale as sale, Refund as refund, Reversal as reversal}
+use Rattle.desk_rules.specs.declared.OpeningAnswer.{OpeningAnswer}
+use Rattle.desk_rules.specs.declared.OpeningAnswer.the-variants.{Nothing as no-opening, Opening as opened}
 use Rattle.desk_rules.specs.declared.Reference.{Reference}
 use Rattle.desk_rules.specs.declared.Reference.the-variants.{Nothing, Sold}
 use Rattle.desk_rules.specs.Numbers.{amountOk, receiptOk, passwordOk}
@@ -119,3 +122,32 @@ abbrev pub commandSize : Opening → ℕ
 commandSize (sale amount) = 13
 commandSize (refund password amount) = mostCommand
 commandSize (reversal password receipt) = 9
+
+-- ---- the opening that a command on a tape is
+
+-- T15: "A password is recorded as three zero bytes."
+abbrev pub withoutPassword : Opening → Opening
+withoutPassword (sale amount) = sale amount
+withoutPassword (refund password amount) = refund 0 amount
+withoutPassword (reversal password receipt) = reversal 0 receipt
+
+-- n bytes of s from place a on, zeros where s has none
+unfoldable pub window : ℕ → ℕ → List ℕ → List ℕ
+window zero a s = []
+window (suc n) a s = getD s a 0 ∷ window n (a + 1) s
+
+-- what s would open, by its instruction: the number stands where that command has it
+unfoldable pub supposed : List ℕ → Opening
+supposed s =
+    pick (eqb (getD s 1 0) 0x30) (reversal 0 (numberOf (window 2 7 s)))
+    (pick (eqb (getD s 1 0) 0x31) (refund 0 (numberOf (window 6 7 s))) (sale (numberOf (window 6 4 s))))
+
+unfoldable pub same : List ℕ → List ℕ → Bool
+same [] [] = true
+same [] (b ∷ t) = false
+same (b ∷ s) [] = false
+same (b ∷ s) (c ∷ t) = eqb b c && same s t
+
+-- T26: "a command with numbers within their limits (P4, P5) and password 0": just its bytes
+unfoldable pub openingIn : List ℕ → OpeningAnswer
+openingIn s = let o = supposed s in pick (withinLimits o && same s (commandBytes o)) (opened o) no-opening

@@ -42,6 +42,12 @@ pub enum Opening {
     Reversal(u32, u16),
 }
 
+// The opening that the bytes of a command are, with password 0, or none.
+pub enum OpeningAnswer {
+    Nothing,
+    Opening(Opening),
+}
+
 // The line that an opening refers to: none, or the sale with that receipt.
 pub enum Reference {
     Nothing,

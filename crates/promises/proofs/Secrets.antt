@@ -23,7 +23,7 @@ use Rattle.desk_rules.specs.declared.Opening.{Opening}
 use Rattle.desk_rules.specs.declared.Opening.the-variants.{Sale as sale, Refund as refund, Reversal as reversal}
 use Rattle.desk_rules.specs.declared.Reference.{Reference}
 use Rattle.desk_rules.specs.Kinds.{booked}
-use Rattle.desk_rules.specs.Openings.{kindOf, refersTo, lastLine, commandOf, commandBytes, commandSize}
+use Rattle.desk_rules.specs.Openings.{kindOf, refersTo, lastLine, commandOf, commandBytes, commandSize, withoutPassword}
 use Rattle.desk_rules.specs.Course.{openedBy, heard, Call, opening, message, lost, laneOf, needsPlace, moves, replyBytes, answered, writes, NumbersFit}
 use Rattle.desk_rules.specs.Desk.{State, laneAt, Decision, refuse, accept, decide, step, Accepts, Accepted}
 use Rattle.desk_rules.specs.Memory.{linesOfDesk, view, answerBy}
@@ -37,7 +37,7 @@ use Rattle.tape_rules.specs.Tails.{changedPieces, changedBlocks}
 use Rattle.tape_rules.specs.Recording.{callBytes, recordsOf, decideTaped, tapedBy, tapedAnswer, roomBy, tapedRoom}
 use Rattle.tape_rules.specs.Taping.{TapeTurn, Day, filed, afterTurn, tapedRun}
 use Rattle.tape_rules.specs.believed.Masking.{RecordedAs}
-use Rattle.tape_rules.proofs.Masks.{Each, mask-same, mask-reads, masked-got, masked-refused, masked-twice, withoutPassword, opening-masked, alike-listed, mask-alike}
+use Rattle.tape_rules.proofs.Masks.{Each, mask-same, mask-reads, masked-got, masked-refused, masked-twice, opening-masked, alike-listed, mask-alike}
 use Rattle.tape_rules.proofs.Places.{recorded-own, recorded-exactly}
 use Rattle.tape_rules.proofs.RecordLaws.{command-own}
 use Rattle.tape_rules.proofs.TailLaws.{changed-size}
