@@ -1,5 +1,5 @@
 -- The kinds of opening, a row for each in every table: what it opens, its limits, the line that it refers to, the amount that it asks
--- for, the receipt that it names, its command. Definitions only.
+-- for, the receipt that it names, its command, and the opening that a command is. Definitions only.
 use Prim.Native.Nat.{ℕ, zero, suc, _+_}
 use mathlib.Core.Bool.{Bool, true, false, _&&_}
 use mathlib.Core.List.{List, [], _∷_}
