@@ -114,7 +114,7 @@ is-not = (λ n. n, λ n. n)
 
 -- ---- opening
 
-within-test : (o : Opening) → (withinLimits o ≡ true) ↔ Within o
+pub within-test : (o : Opening) → (withinLimits o ≡ true) ↔ Within o
 within-test (sale amount) = between amount mostAsked
 within-test (refund password amount) = and-test (leb-test password mostPassword) (between amount mostAsked)
 within-test (reversal password receipt) = and-test (leb-test password mostPassword) (between receipt mostReceipt)
