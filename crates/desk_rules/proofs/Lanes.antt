@@ -2,7 +2,7 @@
 use mathlib.Core.Path.{_≡_, refl, ap, sym, subst}
 use mathlib.Core.Bool.{Bool, true, false, _&&_}
 use mathlib.Core.List.{List, [], _∷_, _++_, append-nil}
-use Prim.Native.Nat.{ℕ, zero, suc, _+_, _<_}
+use Prim.Native.Nat.{ℕ, zero, suc, _+_, _<_, _≤_}
 use native.Mathlib.Omega.{arith}
 use lib.Dec.{eqb, leb}
 use lib.ListN.{length, getD, set, length-append, length-set}
@@ -164,6 +164,14 @@ tell s c t =
     let l = laneAt (s .lanes) (laneOf c) in
     let n = length (writes l c) in
     rw (lt-leb laneCount (laneOf c) (t .lane), passing (moves l (s .lines) c) _ (t .moved), room-tell (needsPlace c) (load s) (t .room), le-ltb n n (omega arith))
+
+-- and one that is accepted is so in any room for what it writes
+pub accepts-room : (s : State) (c : Call) (room : ℕ) → Accepts s c → length (writes (laneAt (s .lanes) (laneOf c)) c) ≤ room → decide s c room ≡ accept
+unfolding decide
+accepts-room s c room a h =
+    let t = told s c a in
+    let l = laneAt (s .lanes) (laneOf c) in
+    rw (lt-leb laneCount (laneOf c) (t .lane), passing (moves l (s .lines) c) _ (t .moved), room-tell (needsPlace c) (load s) (t .room), le-ltb room (length (writes l c)) h)
 
 -- a call that is accepted in some room is accepted in as much as it writes
 pub accepts-any : (s : State) (c : Call) (room : ℕ) → decide s c room ≡ accept → Accepts s c

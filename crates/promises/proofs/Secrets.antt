@@ -41,7 +41,7 @@ use Rattle.tape_rules.proofs.Masks.{Each, mask-same, mask-reads, masked-got, ma
 use Rattle.tape_rules.proofs.Places.{recorded-own, recorded-exactly}
 use Rattle.tape_rules.proofs.RecordLaws.{command-own}
 use Rattle.tape_rules.proofs.TailLaws.{changed-size}
-use Rattle.tape_rules.proofs.Unseen.{mask-heard, heard-reads, same-status}
+use Rattle.tape_rules.proofs.Unseen.{mask-heard, heard-reads, same-status, Agree, decide-agree}
 use Rattle.promises.specs.TapeDays.{Hiding, AlikeOpening, refunds, reversals, AlikeCall, unchanged, openings, messages, AlikeDays}
 use Rattle.promises.proofs.DemandTwo.{reply-reads-back}
 
@@ -125,13 +125,6 @@ run-hides s (c ∷ cs) a n =
     (run-hides (step s c) cs (a .1) (n .1))
 
 -- ---- calls that differ in secrets alone
-record Agree (c e : Call) : Type 0 where
-  lane : laneOf c ≡ laneOf e
-  needs : needsPlace c ≡ needsPlace e
-  move : (l : Lane) (ls : List Line) → moves l ls c ≡ moves l ls e
-  size : (l : Lane) → length (writes l c) ≡ length (writes l e)
-  entries : (l : Lane) → entriesBy l c ≡ entriesBy l e
-
 -- two openings that differ in a password alone ask for the same, and are recorded as the same
 alike-opened : {o e : Opening} → AlikeOpening o e → (l : Lane) (line : Line) → openedBy l o line ≡ openedBy l e line
 unfolding openedBy
@@ -166,12 +159,6 @@ agree (messages i s t w b d r q) =
     }
 
 module _ (c e : Call) (a : Agree c e) where
-  decide-agree : (s : State) (room : ℕ) → decide s c room ≡ decide s e room
-  unfolding decide
-  decide-agree s room =
-      let l = laneAt (s .lanes) (laneOf e) in
-      rw (a .lane, a .needs, a .move l (s .lines), a .size l)
-
   bytes-agree : (s : State) → callBytes s c ≡ callBytes s e
   unfolding callBytes
   bytes-agree s = rw (a .lane, a .entries (laneAt (s .lanes) (laneOf e)))
@@ -179,7 +166,7 @@ module _ (c e : Call) (a : Agree c e) where
   module _ (t : Taped) where
     decide-taped-agree : (out room : ℕ) → decideTaped t c out room ≡ decideTaped t e out room
     unfolding decideTaped
-    decide-taped-agree out room = rw (decide-agree (view (t .desk)) out, bytes-agree (view (t .desk)))
+    decide-taped-agree out room = rw (decide-agree c e a (view (t .desk)) out, bytes-agree (view (t .desk)))
 
     answer-agree : (x : Decision) → tapedBy x t c ≡ tapedBy x t e
     unfolding tapedBy answerBy
