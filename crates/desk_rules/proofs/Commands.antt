@@ -98,10 +98,10 @@ command-reads o = read-complete (commandOf o) (command-ok o)
 password-same : (password : ℕ) → passwordOk password ≡ true → numberOf (digitBytesOf 3 password) ≡ password
 password-same password h = number-same 3 password (omega (arith, leb-true password mostPassword h))
 
-amount-same : (amount : ℕ) → amountOk amount ≡ true → numberOf (digitBytesOf 6 amount) ≡ amount
+pub amount-same : (amount : ℕ) → amountOk amount ≡ true → numberOf (digitBytesOf 6 amount) ≡ amount
 amount-same amount h = number-same 6 amount (omega (arith, between amount mostAsked .0 h))
 
-receipt-same : (receipt : ℕ) → receiptOk receipt ≡ true → numberOf (digitBytesOf 2 receipt) ≡ receipt
+pub receipt-same : (receipt : ℕ) → receiptOk receipt ≡ true → numberOf (digitBytesOf 2 receipt) ≡ receipt
 receipt-same receipt h = number-same 2 receipt (omega (arith, between receipt mostReceipt .0 h))
 
 command-says : (o : Opening) → withinLimits o ≡ true → Commands o (commandOf o)
