@@ -1,10 +1,10 @@
-// The commands that opening writes.
+// The commands that opening writes, and what the bytes of one open.
 use desk_rules::Opening;
 ghost use mathlib.Core.Path.{_≡_};
 ghost use Prim.Native.Nat.{_≤_};
 ghost use lib.ListN.{length};
 ghost use Rattle.zvt_rules.specs.Buffers.{front};
-ghost use Rattle.desk_rules.specs.Openings.{commandBytes};
+ghost use Rattle.desk_rules.specs.Openings.{commandBytes, mostCommand, supposed, same};
 
 // 06 01: amount, currency.
 fn sale_bytes(amount: u64) -> [u8; 13]
@@ -65,4 +65,45 @@ pub(crate) fn put_command(opening: Opening, out: &mut [u8])
             bytes::copy(&reversal_bytes(password, receipt), out);
         }
     }
+}
+
+// What such bytes would open, by their instruction: the number stands where that command has it.
+fn supposed_in(b: [u8; Opening::MOST_COMMAND]) -> Opening
+    ensures { λ r. ⌜ r ≡ supposed b ⌝ }
+{
+    let instruction = b[1];
+    match instruction {
+        0x30 => {
+            let receipt = zvt::receipt_in([b[7], b[8]]);
+            Opening::Reversal(0, receipt)
+        }
+        0x31 => {
+            let amount = zvt::amount_in([b[7], b[8], b[9], b[10], b[11], b[12]]);
+            Opening::Refund(0, amount)
+        }
+        _ => {
+            let amount = zvt::amount_in([b[4], b[5], b[6], b[7], b[8], b[9]]);
+            Opening::Sale(amount)
+        }
+    }
+}
+
+// What s would open.
+pub(crate) fn would_open(s: &[u8]) -> Opening
+    requires { ⌜ length (now s) ≤ mostCommand ⌝ }
+    ensures { λ r. ⌜ r ≡ supposed (now (s .entry)) ⌝ }
+{
+    let mut b = [0u8; Opening::MOST_COMMAND];
+    bytes::copy(s, &mut b);
+    supposed_in(b)
+}
+
+// Whether s is the command of that opening.
+pub(crate) fn is_command(opening: Opening, s: &[u8]) -> bool
+    ensures { λ r. ⌜ r ≡ same (now (s .entry)) (commandBytes opening) ⌝ }
+{
+    let mut b = [0u8; Opening::MOST_COMMAND];
+    put_command(opening, &mut b);
+    let size = opening.command_size();
+    check::same(s, &b[..size])
 }

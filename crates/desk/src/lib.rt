@@ -4,7 +4,9 @@ mod commands;
 mod hear;
 mod memory;
 
+use commands::is_command;
 use commands::put_command;
+use commands::would_open;
 use desk_rules::Answer;
 use desk_rules::Desk;
 use desk_rules::Lane;
@@ -12,6 +14,7 @@ use desk_rules::LaneAnswer;
 use desk_rules::LineAnswer;
 use desk_rules::Moved;
 use desk_rules::Opening;
+use desk_rules::OpeningAnswer;
 use desk_rules::Outcome;
 use desk_rules::Reply;
 use memory::all_idle;
@@ -26,7 +29,7 @@ ghost use lib.ListN.{length};
 ghost use Rattle.zvt_rules.specs.Reading.{unplaced};
 ghost use Rattle.desk_rules.specs.Numbers.{bookLines};
 ghost use Rattle.desk_rules.specs.Kinds.{booked};
-ghost use Rattle.desk_rules.specs.Openings.{kindOf};
+ghost use Rattle.desk_rules.specs.Openings.{kindOf, openingIn};
 ghost use Rattle.desk_rules.specs.Course.{opening as call, message, lost};
 ghost use Rattle.desk_rules.specs.Desk.{load};
 ghost use Rattle.desk_rules.specs.Memory.{Valid, linesOfDesk, view, refusedAnswer, answerOf, leavesOf, closeAnswer, lineAnswer, laneAnswer};
@@ -195,4 +198,21 @@ pub fn lane_at(desk: Desk, lane: u8) -> LaneAnswer
     }
     let at = lane as usize;
     LaneAnswer::Lane(desk.lanes[at])
+}
+
+// The opening whose command s is, with password 0: the one that a command on a tape is.
+pub fn opening_in(s: &[u8]) -> OpeningAnswer
+    ensures { λ r. ⌜ r ≡ openingIn (now (s .entry)) ⌝ }
+{
+    if Opening::MOST_COMMAND < s.len() {
+        return OpeningAnswer::Nothing;
+    }
+    let opening = would_open(s);
+    if !opening.within_limits() {
+        return OpeningAnswer::Nothing;
+    }
+    if !is_command(opening, s) {
+        return OpeningAnswer::Nothing;
+    }
+    OpeningAnswer::Opening(opening)
 }

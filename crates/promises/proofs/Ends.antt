@@ -30,6 +30,8 @@ pub every-call-ends : {M : Type 1}
     × zvt.amount_bytes.Statement.statement M
     × zvt.password_bytes.Statement.statement M
     × zvt.receipt_bytes.Statement.statement M
+    × zvt.amount_in.Statement.statement M
+    × zvt.receipt_in.Statement.statement M
     × desk.«open».Statement.statement M
     × desk.terminal.Statement.statement M
     × desk.link_lost.Statement.statement M
@@ -37,6 +39,7 @@ pub every-call-ends : {M : Type 1}
     × desk.net.Statement.statement M
     × desk.line_at.Statement.statement M
     × desk.lane_at.Statement.statement M
+    × desk.opening_in.Statement.statement M
     × desk_rules.Desk.fresh.Statement.statement M
     × desk_rules.Book.empty.Statement.statement M
     × desk_rules.Line.blank.Statement.statement M
@@ -114,6 +117,8 @@ every-call-ends = (
   zvt.amount_bytes.Met.met,
   zvt.password_bytes.Met.met,
   zvt.receipt_bytes.Met.met,
+  zvt.amount_in.Met.met,
+  zvt.receipt_in.Met.met,
   desk.«open».Met.met,
   desk.terminal.Met.met,
   desk.link_lost.Met.met,
@@ -121,6 +126,7 @@ every-call-ends = (
   desk.net.Met.met,
   desk.line_at.Met.met,
   desk.lane_at.Met.met,
+  desk.opening_in.Met.met,
   desk_rules.Desk.fresh.Met.met,
   desk_rules.Book.empty.Met.met,
   desk_rules.Line.blank.Met.met,
@@ -202,6 +208,8 @@ pub nothing-to-test :
     × ((κs : _) (a : _) → zvt.amount_bytes.Reads.Asked κs a ≡ Unit {0})
     × ((κs : _) (a : _) → zvt.password_bytes.Reads.Asked κs a ≡ Unit {0})
     × ((κs : _) (a : _) → zvt.receipt_bytes.Reads.Asked κs a ≡ Unit {0})
+    × ((κs : _) (a : _) → zvt.amount_in.Reads.Asked κs a ≡ Unit {0})
+    × ((κs : _) (a : _) → zvt.receipt_in.Reads.Asked κs a ≡ Unit {0})
     × ((κs : _) (a : _) → desk.«open».Reads.Asked κs a ≡ Valid (a .0))
     × ((κs : _) (a : _) → desk.terminal.Reads.Asked κs a ≡ Valid (a .0))
     × ((κs : _) (a : _) → desk.link_lost.Reads.Asked κs a ≡ Valid (a .0))
@@ -209,6 +217,7 @@ pub nothing-to-test :
     × ((κs : _) (a : _) → desk.net.Reads.Asked κs a ≡ Valid (a .0))
     × ((κs : _) (a : _) → desk.line_at.Reads.Asked κs a ≡ Valid (a .0))
     × ((κs : _) (a : _) → desk.lane_at.Reads.Asked κs a ≡ Valid (a .0))
+    × ((κs : _) (a : _) → desk.opening_in.Reads.Asked κs a ≡ Unit {0})
     × ((κs : _) (a : _) → desk_rules.Desk.fresh.Reads.Asked κs a ≡ Unit {0})
     × ((κs : _) (a : _) → desk_rules.Book.empty.Reads.Asked κs a ≡ Unit {0})
     × ((κs : _) (a : _) → desk_rules.Line.blank.Reads.Asked κs a ≡ Unit {0})
@@ -270,6 +279,9 @@ pub nothing-to-test :
     × ((κs : _) (a : _) → buffers.add_decimal.Reads.Asked κs a ≡ Unit {0})
     × ((κs : _) (a : _) → buffers.hex_value.Reads.Asked κs a ≡ Unit {0})
 nothing-to-test = (
+  λ κs a. refl,
+  λ κs a. refl,
+  λ κs a. refl,
   λ κs a. refl,
   λ κs a. refl,
   λ κs a. refl,

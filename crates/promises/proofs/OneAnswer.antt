@@ -68,6 +68,12 @@ password-bytes-one κs a = only _ _ (λ r e h. (h, refl))
 pub receipt-bytes-one : (κs : _) (a : _) → Only itself nothing (zvt.receipt_bytes.Reads.Learnt κs a)
 receipt-bytes-one κs a = only _ _ (λ r e h. (h, refl))
 
+pub amount-in-one : (κs : _) (a : _) → Only itself nothing (zvt.amount_in.Reads.Learnt κs a)
+amount-in-one κs a = only _ _ (λ r e h. (h, refl))
+
+pub receipt-in-one : (κs : _) (a : _) → Only itself nothing (zvt.receipt_in.Reads.Learnt κs a)
+receipt-in-one κs a = only _ _ (λ r e h. (h, refl))
+
 -- ---- the desk: an answer, one content of what was lent, and beside them that the desk is valid
 pub open-one : (κs : _) (a : _) → Only itself (λ e. now (e .1 .1 .1 .0)) (desk.«open».Reads.Learnt κs a)
 open-one κs a = only _ _ (λ r e h. (h .0, h .1 .0))
@@ -89,6 +95,9 @@ line-at-one κs a = only _ _ (λ r e h. (h, refl))
 
 pub lane-at-one : (κs : _) (a : _) → Only itself nothing (desk.lane_at.Reads.Learnt κs a)
 lane-at-one κs a = only _ _ (λ r e h. (h, refl))
+
+pub opening-in-one : (κs : _) (a : _) → Only itself nothing (desk.opening_in.Reads.Learnt κs a)
+opening-in-one κs a = only _ _ (λ r e h. (h, refl))
 
 -- ---- what a desk is made of, and the questions to it
 pub desk-fresh-one : (κs : _) (a : _) → Only itself nothing (desk_rules.Desk.fresh.Reads.Learnt κs a)

@@ -32,3 +32,12 @@ pub(crate) fn number(s: &[u8]) -> u64
     }
     v
 }
+
+// The same of two bytes: small enough, digits or not.
+pub(crate) fn short_number(s: &[u8]) -> u16
+    requires { ⌜ length (now s) ≤ 2 ⌝ }
+    ensures { λ r. ⌜ r ≡ numberOf (now (s .entry)) ⌝ }
+{
+    let n = number(s);
+    n as u16
+}

@@ -29,7 +29,7 @@ ghost use mathlib.Core.Path.{_≡_};
 ghost use lib.ListN.{length};
 ghost use Rattle.zvt_rules.specs.Answers.{headerAnswer, readAnswer, firstAnswer, shortenAnswer, shortenLeaves};
 ghost use Rattle.zvt_rules.specs.Buffers.{Whole};
-ghost use Rattle.zvt_rules.specs.Digits.{digitBytesOf};
+ghost use Rattle.zvt_rules.specs.Digits.{digitBytesOf, numberOf};
 ghost use Rattle.zvt_rules.specs.Heard.{hearAnswer};
 ghost use Rattle.zvt_rules.specs.Listed.{fieldAnswer, namedAnswer, idsAnswer, listPlace, placesAnswer};
 ghost use Rattle.zvt_rules.specs.Name.{nameAt, cardName, namePlace};
@@ -216,4 +216,18 @@ pub fn receipt_bytes(n: u16) -> [u8; 2]
     let mut b = [0u8; 2];
     digits::put_digits(n as u64, &mut b);
     b
+}
+
+// The number that the digits of an amount are.
+pub fn amount_in(b: [u8; 6]) -> u64
+    ensures { λ r. ⌜ r ≡ numberOf b ⌝ }
+{
+    digits::number(&b)
+}
+
+// The number that the digits of a receipt number are.
+pub fn receipt_in(b: [u8; 2]) -> u16
+    ensures { λ r. ⌜ r ≡ numberOf b ⌝ }
+{
+    digits::short_number(&b)
 }
