@@ -6,6 +6,7 @@ pub mod DemandTwo
 pub mod DemandThree
 pub mod Questions
 pub mod TheTape
+pub mod TheReplay
 pub mod TheLister
 pub mod Ends
 pub mod OneAnswer
@@ -19,3 +20,4 @@ pub mod Turns
 pub mod OtherDays
 pub mod Counted
 pub mod Openings
+pub mod ReplayedDays

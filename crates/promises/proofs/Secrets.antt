@@ -28,6 +28,7 @@ use Rattle.desk_rules.specs.Course.{openedBy, heard, Call, opening, message, lo
 use Rattle.desk_rules.specs.Desk.{State, laneAt, Decision, refuse, accept, decide, step, Accepts, Accepted}
 use Rattle.desk_rules.specs.Memory.{linesOfDesk, view, answerBy}
 use Rattle.desk_rules.proofs.Commands.{command-size, command-reads}
+use Rattle.desk_rules.proofs.Recognised.{password-gone}
 use Rattle.tape_rules.specs.declared.Taped.{Taped}
 use Rattle.tape_rules.specs.Records.{secret, maskBody, maskMessage, masked, Record, replyEntry, entriesBy, entriesOf}
 use Rattle.tape_rules.specs.declared.TapedAnswer.{TapedAnswer}
@@ -85,12 +86,7 @@ opening-hides : (o : Opening) → RecordedAs (masked (commandBytes o)) (masked (
 opening-hides o =
     let e = withoutPassword o in
     rw (opening-masked o)
-    (recorded-own (commandBytes e) (command-own e) (commandBytes e) .1 ((commandOf e, command-reads e), opening-masked e ∙ ap commandBytes (twice o)))
-  where
-    twice : (o : Opening) → withoutPassword (withoutPassword o) ≡ withoutPassword o
-    twice (sale amount) = refl
-    twice (refund password amount) = refl
-    twice (reversal password receipt) = refl
+    (recorded-own (commandBytes e) (command-own e) (commandBytes e) .1 ((commandOf e, command-reads e), opening-masked e ∙ ap commandBytes (password-gone o)))
 
 -- and so is what is recorded of a message
 masked-hides : (s : List ℕ) (m : Message) → Bytes s → readOf s ≡ got m → RecordedAs (masked s) (masked s)

@@ -22,7 +22,8 @@ use Rattle.tape_rules.specs.declared.Taped.{Taped}
 use Rattle.tape_rules.specs.declared.TapedAnswer.{TapedAnswer}
 use Rattle.tape_rules.specs.declared.ClosedAnswer.{ClosedAnswer}
 use Rattle.tape_rules.specs.Records.{Record, entriesOf, recorded}
-use Rattle.tape_rules.specs.Tape.{cut}
+use Rattle.tape_rules.specs.Block.{mostNumber}
+use Rattle.tape_rules.specs.Tape.{cut, tapeBytes}
 use Rattle.tape_rules.specs.Recording.{freshTaped, ValidTaped, readTape}
 use Rattle.tape_rules.specs.Taping.{TapeTurn, Day, freshDay, decideTurn, afterTurn, tapedRun, keptIf, keptCalls}
 use Rattle.tape_rules.specs.believed.Blocks.{usedOf}
@@ -78,6 +79,8 @@ pub record Known (e : Day) (cs : List Call) (p : List ℕ) : Type 0 where
   pub accepted : Accepted fresh cs
   pub fit : Each NumbersFit cs
   pub valid : ValidTaped (e .taped)
+  pub file : e .file ≡ tapeBytes p
+  pub few : length (cut p) ≤ mostNumber
   pub drawn : DrawnTape p (e .file) (length (cut p))
   pub ends : EndsBehind 0 p (e .taped .tail)
 
@@ -96,6 +99,8 @@ a-day us b e cs played =
           accepted = f .0;
           fit = kept-fit us freshDay b;
           valid = (day-follows us n .files .valid, rw (f .2) (tidy-of _));
+          file = f .3;
+          few = f .4;
           drawn = d .0;
           ends = d .1;
         }
@@ -119,10 +124,12 @@ module _ {e : Day} {cs : List Call} {p : List ℕ} (k : Known e cs p) where
   pub file-reads : (room : ℕ) → length p ≤ room → readTape (e .file) room ≡ got p
   file-reads room h = read-tape-drawn (e .file) p room .1 ((length (cut p), k .drawn), h)
 
+  -- no other payload is drawn on its file
+  pub drawn-is : (q : List ℕ) (n : ℕ) → DrawnTape q (e .file) n → p ≡ q
+  drawn-is q n d = got-same (sym (payload-drawn (e .file) p .1 (length (cut p), k .drawn)) ∙ payload-drawn (e .file) q .1 (n, d))
+
   pub read-is : (room : ℕ) (q : List ℕ) → readTape (e .file) room ≡ got q → p ≡ q
-  read-is room q h =
-      let d = read-tape-drawn (e .file) q room .0 h .0 in
-      got-same (sym (payload-drawn (e .file) p .1 (length (cut p), k .drawn)) ∙ payload-drawn (e .file) q .1 d)
+  read-is room q h = let d = read-tape-drawn (e .file) q room .0 h .0 in drawn-is q (d .0) (d .1)
 
   -- how many bytes block j has: none where there is no such block
   used-at : (j : ℕ) → usedOf (blockAt j (e .file)) ≡ min 504 (length p - j * 504)
@@ -180,13 +187,13 @@ some-records (unanswered i s w r) j = some-bytes j
 some-records (answered-by i s w b t r) j = some-bytes j
 some-records (of-lost i) j = some-bytes j
 
-record Placed (t : Taped) (c : Call) (out : ℕ) (a : TapedAnswer) (left : List ℕ) : Type 0 where
-  alone : answerOf (t .desk) c out ≡ record { reply = a .reply; desk = a .taped .desk }
+pub record Placed (t : Taped) (c : Call) (out : ℕ) (a : TapedAnswer) (left : List ℕ) : Type 0 where
+  pub alone : answerOf (t .desk) c out ≡ record { reply = a .reply; desk = a .taped .desk }
   first : a .first ≡ t .tail .full + 1
   some : 1 ≤ a .blocks
   held : a .blocks * 512 ≤ length left
 
-placed : {t : Taped} {c : Call} {out : ℕ} {room : List ℕ} {a : TapedAnswer} {left : List ℕ} {k : ℕ}
+pub placed : {t : Taped} {c : Call} {out : ℕ} {room : List ℕ} {a : TapedAnswer} {left : List ℕ} {k : ℕ}
     → TapedRow t c out room a left → a .reply ≡ Written k → Placed t c out a left
 placed (own h) e = absurd (no-yes (ap replySays e))
 placed (no-number h p l) e = absurd (no-yes (ap replySays e))
@@ -223,7 +230,7 @@ follows (accepted-one {d} {u} {a} {k} row y reply new more) =
       leaves = rw x (r .leaves);
     }
 
-of-bytes : (cs : List Call) → Each NumbersFit cs → OfBytes cs
+pub of-bytes : (cs : List Call) → Each NumbersFit cs → OfBytes cs
 unfolding OfBytes
 of-bytes [] b = tt
 of-bytes (c ∷ cs) b = (b .0, of-bytes cs (b .1))

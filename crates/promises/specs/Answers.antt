@@ -1,4 +1,4 @@
--- What an answer says, for each enum that a public function answers with: a number of refusal (R1 to R22) and its place, or values. The
+-- What an answer says, for each enum that a public function answers with: a number of refusal (R1 to R23) and its place, or values. The
 -- promises are stated through it. Definitions only.
 use mathlib.Core.Path.{_≡_}
 use mathlib.Core.Logic.{_⊎_}
@@ -43,6 +43,9 @@ use Rattle.desk_rules.specs.declared.Desk.{Desk}
 use Rattle.desk_rules.specs.declared.Answer.{Answer}
 use Rattle.desk_rules.specs.declared.Reply.{Reply}
 use Rattle.desk_rules.specs.declared.Reply.the-variants.{Written, Refused}
+use Rattle.desk_rules.specs.declared.Opening.{Opening}
+use Rattle.desk_rules.specs.declared.OpeningAnswer.{OpeningAnswer}
+use Rattle.desk_rules.specs.declared.OpeningAnswer.the-variants.{Nothing as no-opening, Opening as opened}
 use Rattle.desk_rules.specs.declared.LineAnswer.{LineAnswer}
 use Rattle.desk_rules.specs.declared.LineAnswer.the-variants.{End as no-line, Line as line-got}
 use Rattle.desk_rules.specs.declared.LaneAnswer.{LaneAnswer}
@@ -52,8 +55,12 @@ use Rattle.desk_rules.specs.believed.Table.{phaseAt}
 use Rattle.desk_rules.specs.Memory.{view}
 use Rattle.tape_rules.specs.declared.BlockAnswer.{BlockAnswer}
 use Rattle.tape_rules.specs.declared.BlockAnswer.the-variants.{Payload, Refused as block-refused}
+use Rattle.tape_rules.specs.declared.Ending.{Ending}
+use Rattle.tape_rules.specs.declared.Ending.the-variants.{Whole, Refused as broken}
+use Rattle.tape_rules.specs.declared.Held.{Held}
 use Rattle.tape_rules.specs.declared.TapedAnswer.{TapedAnswer}
 use Rattle.tape_rules.specs.declared.ClosedAnswer.{ClosedAnswer}
+use Rattle.replaying_rules.specs.declared.Replayed.{Replayed}
 
 -- R31: "A refusal answers its number and, where it names one (R46), its place, and nothing else.": refused so, or these values
 pub data Said (A : Type 0) : Type 0 where
@@ -145,6 +152,23 @@ laneSays (lane-refused r) = no r
 abbrev pub blockSays : BlockAnswer → Said ℕ
 blockSays (Payload k) = yes k
 blockSays (block-refused r) = no r
+
+-- the opening that bytes are: they may be none, which is not refused
+abbrev pub openingSays : OpeningAnswer → Said (Option Opening)
+openingSays no-opening = yes none
+openingSays (opened o) = yes (some o)
+
+-- so much, up to the end of a tape, or up to where it is refused
+abbrev pub endingSays : Ending → ℕ → Said ℕ
+endingSays Whole n = yes n
+endingSays (broken r) n = no r
+
+-- how many bytes the blocks hold, and at which place a replay stopped
+abbrev pub heldSays : Held → Said ℕ
+heldSays h = endingSays (h .ending) (h .bytes)
+
+abbrev pub replaySays : Replayed → Said ℕ
+replaySays r = endingSays (r .ending) (r .place)
 
 -- ---- what the promises say of answers
 

@@ -1,5 +1,6 @@
 -- What the promises speak of, beside the rules' second writing in the crates below: the cases and how they are judged; what an answer
--- says, which bytes count a line, and what one answer of a function is; a day at the desk, and one with its tape.
+-- says, which bytes count a line, and what one answer of a function is; a day at the desk, and one with its tape; a tape
+-- that was torn off, and what comes back of its day.
 pub mod Cases
 pub mod Asking
 pub mod Answers
@@ -7,3 +8,4 @@ pub mod Counted
 pub mod OneAnswer
 pub mod Days
 pub mod TapeDays
+pub mod Replays
