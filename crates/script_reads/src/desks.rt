@@ -1,5 +1,6 @@
-// What a desk with its tape is asked about: the book, the lanes, the net turnover, the blocks.
+// What a desk with its tape is asked about: the book, the lanes, the net turnover, the blocks; and what a replay of a tape tells.
 use buffers::add;
+use buffers::add_all;
 use buffers::add_bytes;
 use buffers::upto;
 use desk_rules::Book;
@@ -7,9 +8,11 @@ use desk_rules::Desk;
 use desk_rules::Lane;
 use desk_rules::LaneAnswer;
 use desk_rules::LineAnswer;
+use replaying_rules::Replayed;
 use script_text::answers;
 use script_text::orders::What;
 use tape_rules::Block;
+use tape_rules::Ending;
 use tape_rules::Tail;
 use tape_rules::Taped;
 ghost use Prim.Native.Nat.{_≤_};
@@ -17,22 +20,46 @@ ghost use lib.ListN.{length};
 ghost use Rattle.desk_rules.specs.Memory.{Valid};
 ghost use Rattle.tape_rules.specs.Recording.{ValidTaped};
 
-// The lines of the book, and their count.
-fn book(desk: Desk, out: &mut [u8]) -> usize
+// The lines of the book.
+fn add_lines(desk: Desk, out: &mut [u8]) -> usize
     requires { ⌜ Valid desk ⌝ }
 {
     let mut to: usize = 0;
     let mut k: usize = 0;
     while k < Book::LINES {
         match desk::line_at(desk, k) {
-            LineAnswer::End => return answers::counted(b"end", k as u64, to, out),
+            LineAnswer::End => return to,
             LineAnswer::Line(l) => {
                 k += 1;
                 to = answers::add_line(k as u64, l, to, out);
             }
         }
     }
-    answers::counted(b"end", k as u64, to, out)
+    to
+}
+
+// And their count.
+fn book(desk: Desk, out: &mut [u8]) -> usize
+    requires { ⌜ Valid desk ⌝ }
+{
+    let to = add_lines(desk, out);
+    let b = desk.book;
+    answers::counted(b"end", b.count as u64, to, out)
+}
+
+// What a replay gives: the lines of the book, the place at which it stopped, and how it ended there.
+pub fn replayed(r: Replayed, out: &mut [u8]) -> usize
+    requires { ⌜ Valid (r .desk) ⌝ }
+{
+    let desk = r.desk;
+    let ending = r.ending;
+    let mut to = add_lines(desk, out);
+    to = add_all(b"end", to, out);
+    to = answers::add_number(r.place as u64, to, out);
+    match ending {
+        Ending::Whole => add_all(b" ok\n", to, out),
+        Ending::Refused(f) => answers::counted(b" refused", f.number as u64, to, out),
+    }
 }
 
 // The eight lanes.
@@ -73,13 +100,19 @@ pub fn open_at(tail: Tail, file: &[u8]) -> usize
     upto(tail.full as usize * Block::SIZE, file)
 }
 
-// The tape so far: the blocks of the file that are full, and the open one.
-fn tape_of(tail: Tail, file: &[u8], out: &mut [u8]) -> usize {
+// Where the tape so far ends: behind the blocks of the file that are full, and the open one.
+pub fn tape_end(tail: Tail, file: &[u8]) -> usize
+    ensures { λ r. ⌜ r ≤ length (now (file .entry)) ⌝ }
+{
     let at = open_at(tail, file);
     if tail.used == 0 {
-        return add_blocks(&file[..at], out);
+        return at;
     }
-    let end = upto(at + Block::SIZE, file);
+    upto(at + Block::SIZE, file)
+}
+
+fn tape_of(tail: Tail, file: &[u8], out: &mut [u8]) -> usize {
+    let end = tape_end(tail, file);
     add_blocks(&file[..end], out)
 }
 

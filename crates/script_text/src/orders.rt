@@ -47,6 +47,7 @@ pub enum What {
     Lanes,
     Net,
     Tape,
+    Replay,
     Room,
     Read,
     Name,
@@ -64,6 +65,8 @@ pub enum What {
     Write,
     Records,
     Blocks,
+    ReplayTape,
+    ReplayRecords,
     Amount,
     Password,
     Receipt,
@@ -99,7 +102,7 @@ fn written(what: What, numbers: usize, bytes: usize) -> Form {
 fn script_form(name: &[u8]) -> Form {
     match place(
         name,
-        b"close sale refund reversal terminal lost book lanes net tape room read name shorten",
+        b"close sale refund reversal terminal lost book lanes net tape replay room read name shorten",
     ) {
         0 => written(What::Close, 0, 0),
         1 => written(What::Sale, 2, 0),
@@ -111,10 +114,11 @@ fn script_form(name: &[u8]) -> Form {
         7 => written(What::Lanes, 0, 0),
         8 => written(What::Net, 0, 0),
         9 => written(What::Tape, 0, 0),
-        10 => written(What::Room, 1, 0),
-        11 => written(What::Read, 0, 1),
-        12 => written(What::Name, 0, 2),
-        13 => written(What::Shorten, 0, 1),
+        10 => written(What::Replay, 0, 0),
+        11 => written(What::Room, 1, 0),
+        12 => written(What::Read, 0, 1),
+        13 => written(What::Name, 0, 2),
+        14 => written(What::Shorten, 0, 1),
         _ => written(What::Bad, 0, 0),
     }
 }
@@ -142,7 +146,7 @@ fn reader_form(name: &[u8]) -> Form {
 fn tape_form(name: &[u8]) -> Form {
     match place(
         name,
-        b"block last-block damage damage-last write records blocks",
+        b"block last-block damage damage-last write records blocks replay-tape replay-records",
     ) {
         0 => written(What::Block, 1, 1),
         1 => written(What::LastBlock, 1, 1),
@@ -151,6 +155,8 @@ fn tape_form(name: &[u8]) -> Form {
         4 => written(What::Write, 1, 1),
         5 => written(What::Records, 0, 1),
         6 => written(What::Blocks, 0, 1),
+        7 => written(What::ReplayTape, 0, 1),
+        8 => written(What::ReplayRecords, 0, 1),
         _ => written(What::Bad, 0, 0),
     }
 }
