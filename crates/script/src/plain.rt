@@ -1,10 +1,11 @@
-// Lines that leave the desk alone: what the reader, the lister and the blocks of a tape answer.
+// Lines that leave the desk alone: what the reader, the lister, the blocks of a tape and the replay of one answer.
 use buffers::add_all;
 use buffers::add_decimal;
 use buffers::upto;
 use desk_rules::Reply;
 use script_reads::WORD;
 use script_reads::cut;
+use script_reads::desks;
 use script_reads::due_of;
 use script_reads::messages;
 use script_reads::standing;
@@ -25,6 +26,9 @@ ghost use lib.ListN.{length};
 const CHANGES: usize = 15360;
 
 const OF_BYTE: usize = 30;
+
+// No line's bytes are the payload of a longer tape: 131 blocks.
+const TAPE: usize = 67_072;
 
 fn block(due: Block, s: &[u8], out: &mut [u8]) -> usize {
     match tape::read_block(due, s) {
@@ -88,11 +92,25 @@ fn damage(due: Block, s: &mut [u8], out: &mut [u8]) -> usize {
     add_all(b" refused 20\n", to, out)
 }
 
+// The replay of the tape of a payload.
+fn retold(s: &[u8], out: &mut [u8]) -> usize {
+    let mut blocks = [0u8; TAPE];
+    match tape::write_tape(s, &mut blocks) {
+        Reply::Refused(f) => answers::refused(f, out),
+        Reply::Written(n) => {
+            let end = upto(n, &blocks);
+            desks::replayed(replaying::replay(&blocks[..end]), out)
+        }
+    }
+}
+
 // What is read of bytes, and nothing changed; or the digits of a number.
 fn reading(o: Order, s: &[u8], out: &mut [u8]) -> usize {
     let what = o.what;
     match what {
         What::Block | What::LastBlock => block(due_of(o), s, out),
+        What::ReplayTape => desks::replayed(replaying::replay(s), out),
+        What::ReplayRecords => retold(s, out),
         _ => messages::reading(o, s, out),
     }
 }

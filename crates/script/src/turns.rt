@@ -98,13 +98,22 @@ fn closed(turn: Turn, out: &mut [u8]) -> Turn
     }
 }
 
-// A question about the desk, which leaves all as it is.
+// The replay of the tape so far.
+fn replayed(taped: Taped, file: &[u8], out: &mut [u8]) -> usize {
+    let end = desks::tape_end(taped.tail, file);
+    desks::replayed(replaying::replay(&file[..end]), out)
+}
+
+// A question about the desk or its tape, which leaves all as it is.
 fn asked(turn: Turn, what: What, file: &[u8], out: &mut [u8]) -> Turn
     requires { ⌜ ValidTaped (turn .taped) ⌝ }
     ensures { λ r. ⌜ ValidTaped (r .taped) ⌝ }
 {
     let mut after = turn;
-    after.size = desks::question(turn.taped, what, file, out);
+    after.size = match what {
+        What::Replay => replayed(turn.taped, file, out),
+        _ => desks::question(turn.taped, what, file, out),
+    };
     after
 }
 
@@ -143,7 +152,9 @@ fn done(
             call(turn, o, &bytes[..size], file, room, out)
         }
         What::Close => closed(turn, out),
-        What::Book | What::Lanes | What::Net | What::Tape => asked(turn, what, file, out),
+        What::Book | What::Lanes | What::Net | What::Tape | What::Replay => {
+            asked(turn, what, file, out)
+        }
         _ => aside(turn, o, bytes, added, out),
     }
 }
