@@ -1,5 +1,5 @@
 -- Assumes nothing.
-use Rattle.script.proofs.Zeros.{zeros-size}
+use Rattle.buffers.proofs.Zeros.{zeros-size}
 use Rattle.script.proofs.cases.check.Statement.{statement}
 use Rattle.script.proofs.cases.check.Tie as tie
 

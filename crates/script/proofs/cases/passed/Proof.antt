@@ -1,6 +1,6 @@
 -- Assumes nothing.
 use borrow.Author.Needs.{needs}
-use Rattle.script.proofs.Zeros.{zeros-size}
+use Rattle.buffers.proofs.Zeros.{zeros-size}
 use Rattle.script.proofs.cases.passed.Statement.{statement}
 use Rattle.script.proofs.cases.passed.Tie as tie
 
