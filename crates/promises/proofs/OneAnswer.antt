@@ -10,6 +10,8 @@ use Rattle.desk.proofs as desk
 use Rattle.desk_rules.proofs as desk_rules
 use Rattle.tape_rules.proofs as tape_rules
 use Rattle.tape.proofs as tape
+use Rattle.replaying_rules.proofs as replaying_rules
+use Rattle.replaying.proofs as replaying
 use Rattle.listing.proofs as listing
 use Rattle.buffers.proofs as buffers
 use Rattle.zvt_rules.specs.Text.{Text}
@@ -240,6 +242,9 @@ write-tape-one κs a = only _ _ (λ r e h. h)
 pub read-tape-one : (κs : _) (a : _) → Only itself (λ e. now (e .1 .0)) (tape.read_tape.Reads.Learnt κs a)
 read-tape-one κs a = only _ _ (λ r e h. h)
 
+pub held-one : (κs : _) (a : _) → Only itself nothing (tape.held.Reads.Learnt κs a)
+held-one κs a = only _ _ (λ r e h. (h, refl))
+
 pub taped-open-one : (κs : _) (a : _) → Only itself (λ e. contents (e .1 .1 .1 .0) (e .1 .1 .1 .1 .0)) (tape.«open».Reads.Learnt κs a)
 taped-open-one κs a = only _ _ (λ r e h. (h .0, both (h .1 .0) (h .1 .1 .0)))
 
@@ -251,6 +256,13 @@ taped-link-lost-one κs a = only _ _ (λ r e h. (h .0, h .1 .0))
 
 pub taped-close-one : (κs : _) (a : _) → Only itself nothing (tape.close.Reads.Learnt κs a)
 taped-close-one κs a = only _ _ (λ r e h. (h .0, refl))
+
+-- ---- the replay of a tape
+pub standing-fresh-one : (κs : _) (a : _) → Only itself nothing (replaying_rules.Standing.fresh.Reads.Learnt κs a)
+standing-fresh-one κs a = only _ _ (λ r e h. (h .0, refl))
+
+pub replay-one : (κs : _) (a : _) → Only itself nothing (replaying.replay.Reads.Learnt κs a)
+replay-one κs a = only _ _ (λ r e h. (h .0, refl))
 
 -- ---- the text of a listing, and text in a lent buffer: how far the buffer is taken, and its bytes
 pub text-add-ids-one : (κs : _) (a : _) → Only itself (λ e. now (e .1 .1 .0)) (listing.add_ids.Reads.Learnt κs a)

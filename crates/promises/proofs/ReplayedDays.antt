@@ -279,9 +279,11 @@ module _ (s : List ℕ) (b : Bytes s) where
       → replayOf (tapeBytes (recorded fresh calls)) ≡ record { desk = replayOf s .desk; place = length (recorded fresh calls); ending = Whole })
   again =
       let l = replay-leads s b in
-      let a : Accepted fresh (l .calls) = rw view-fresh at (l .accepted) in
-      (l .calls, alone-so (l .calls) (replayOf s .desk) (l .accepted) (l .fit) (l .leaves),
-      λ few. rw (← (l .leaves)) (replay-day (l .calls) a (l .fit) (omega arith)))
+      let a : Accepted fresh (l .calls) = rw view-fresh at (l .accepted) in (
+        l .calls,
+        alone-so (l .calls) (replayOf s .desk) (l .accepted) (l .fit) (l .leaves),
+        λ few. rw (← (l .leaves)) (replay-day (l .calls) a (l .fit) (omega arith)),
+      )
 
 -- ---- T26
 module _ (s : List ℕ) (b : Bytes s) where

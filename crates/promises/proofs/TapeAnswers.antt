@@ -29,11 +29,15 @@ use Rattle.desk_rules.proofs.Memory.{refused-same, accepted-answer, accepted-le
 use Rattle.tape_rules.specs.declared.Taped.{Taped}
 use Rattle.tape_rules.specs.declared.TapedAnswer.{TapedAnswer}
 use Rattle.tape_rules.specs.declared.ClosedAnswer.{ClosedAnswer}
+use Rattle.tape_rules.specs.declared.Held.{Held}
 use Rattle.tape_rules.specs.Block.{mostNumber}
 use Rattle.tape_rules.specs.Tape.{blocksFor}
+use Rattle.tape_rules.specs.Good.{goodOf, heldAnswer}
 use Rattle.tape_rules.specs.Tails.{Tidy, changedPieces, changedBlocks, decideKeep}
 use Rattle.tape_rules.specs.Recording.{freshTaped, ValidTaped, blockAnswer, writtenAnswer, recordsOf, thenKeep, decideTaped, tapedAnswer, tapedOut, tapedRoom}
 use Rattle.tape_rules.specs.Recording.{heldBytes, closeTaped}
+use Rattle.tape_rules.specs.believed.Tapes.{GoodBlocks}
+use Rattle.tape_rules.proofs.GoodLaws.{good-exactly}
 use Rattle.tape_rules.proofs.Taping.{taped-taken, taped-refused, taped-accepted, ten-blocks, tape-enough, closed, close-kept}
 use Rattle.promises.specs.Answers.{no, yes, replySays, answerSays, tapedSays, blockSays, Open}
 use Rattle.promises.specs.TapeDays.{ClosedRow, still-open, all-ended}
@@ -229,3 +233,10 @@ module _ (t : Taped) (v : ValidTaped t) where
 
   pub close-exactly : (a : ClosedAnswer) → (closeTaped t ≡ a) ↔ ClosedRow t a
   close-exactly a = (λ e. rw e at closed-row, row-closed)
+
+-- ---- the good blocks of a tape
+pub held-drawn : (s : List ℕ) (h : Held) → (heldAnswer (goodOf s) ≡ h) ↔ ((p : List ℕ) × GoodBlocks s p (h .ending) × (length p ≡ h .bytes))
+held-drawn s h = (
+  λ e. rw (← e) (goodOf s .payload, good-exactly s _ _ .0 refl, refl),
+  λ (p, g, size). ap heldAnswer (good-exactly s p (h .ending) .1 g) ∙ rw size,
+)

@@ -32,11 +32,13 @@ use Rattle.tape_rules.specs.declared.TapedAnswer.{TapedAnswer}
 use Rattle.tape_rules.specs.declared.ClosedAnswer.{ClosedAnswer}
 use Rattle.tape_rules.specs.Block.{blockBytes, writeBlock, readBlock}
 use Rattle.tape_rules.specs.Records.{Record, masked, recorded}
+use Rattle.tape_rules.specs.declared.Held.{Held}
+use Rattle.tape_rules.specs.Good.{goodOf, heldAnswer}
 use Rattle.tape_rules.specs.Recording.{freshTaped, ValidTaped, blockAnswer, writtenAnswer, writeTape, readTape}
 use Rattle.tape_rules.specs.Recording.{tapedAnswer, tapedOut, tapedRoom, closeTaped}
 use Rattle.tape_rules.specs.Taping.{TapeTurn, Day, freshDay}
 use Rattle.tape_rules.specs.believed.Blocks.{usedOf, Drawn, Outside, Unplaced, WriteNo, BlockNo}
-use Rattle.tape_rules.specs.believed.Tapes.{pieceAt, blockAt, Pieces, DrawnTape, TapeWriteNo, TapeReadNo}
+use Rattle.tape_rules.specs.believed.Tapes.{pieceAt, blockAt, Pieces, DrawnTape, TapeWriteNo, TapeReadNo, GoodBlocks}
 use Rattle.tape_rules.specs.believed.Masking.{OnTape}
 use Rattle.tape_rules.specs.believed.Recorded.{Joined, DayRecords, DayTape, TapedRow}
 use Rattle.tape_rules.specs.believed.Filed.{Filed, Played}
@@ -153,6 +155,10 @@ tape-read-exactly = tapes.read-tape-drawn
 -- A written tape reads back as its payload: what was joined and cut is put together again, byte for byte.
 pub tape-reads-back : (p : List ℕ) (room back : ℕ) (s : List ℕ) → writeTape p room ≡ got s → length p ≤ back → readTape s back ≡ got p
 tape-reads-back p room back s w h = tape-read-exactly s p back .1 (tapes.payload-drawn s p .0 (tapes.tape-joins-again p room s w), h)
+
+-- T24: of a tape that is not good to its end, the payload of the blocks before the first refused one, and that one's refusal.
+pub held-exactly : (s : List ℕ) (h : Held) → (heldAnswer (goodOf s) ≡ h) ↔ ((p : List ℕ) × GoodBlocks s p (h .ending) × (length p ≡ h .bytes))
+held-exactly s h = answers.held-drawn s h
 
 -- ---- T21: a call of a desk with its tape
 

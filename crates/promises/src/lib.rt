@@ -1,5 +1,5 @@
-// What is promised of the reader, the desk and the tape, for an auditor: nothing here runs. The words of the promises and the cases stand
-// in specs/, the theorems in proofs/.
+// What is promised of the reader, the desk, the tape and its replay, for an auditor: nothing here runs. The words of the promises and the
+// cases stand in specs/, the theorems in proofs/.
 //
 // The wrong programs that the requirements rule out by name, and the must-fail edits that show that each breaks a promise:
 // a desk that refuses everything          desk_rules/must-fail/refuses_everything

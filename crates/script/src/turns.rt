@@ -100,8 +100,7 @@ fn closed(turn: Turn, out: &mut [u8]) -> Turn
 
 // The replay of the tape so far.
 fn replayed(taped: Taped, file: &[u8], out: &mut [u8]) -> usize {
-    let end = desks::tape_end(taped.tail, file);
-    desks::replayed(replaying::replay(&file[..end]), out)
+    desks::replayed(replaying::replay(desks::tape_in(taped.tail, file)), out)
 }
 
 // A question about the desk or its tape, which leaves all as it is.

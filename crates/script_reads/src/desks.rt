@@ -100,20 +100,14 @@ pub fn open_at(tail: Tail, file: &[u8]) -> usize
     upto(tail.full as usize * Block::SIZE, file)
 }
 
-// Where the tape so far ends: behind the blocks of the file that are full, and the open one.
-pub fn tape_end(tail: Tail, file: &[u8]) -> usize
-    ensures { λ r. ⌜ r ≤ length (now (file .entry)) ⌝ }
-{
+// The tape so far: the blocks of the file that are full, and the open one.
+pub fn tape_in(tail: Tail, file: &[u8]) -> &[u8] {
     let at = open_at(tail, file);
     if tail.used == 0 {
-        return at;
+        return &file[..at];
     }
-    upto(at + Block::SIZE, file)
-}
-
-fn tape_of(tail: Tail, file: &[u8], out: &mut [u8]) -> usize {
-    let end = tape_end(tail, file);
-    add_blocks(&file[..end], out)
+    let end = upto(at + Block::SIZE, file);
+    &file[..end]
 }
 
 // What is asked about the desk: the book, the lanes, the net turnover or the tape.
@@ -125,6 +119,6 @@ pub fn question(taped: Taped, what: What, file: &[u8], out: &mut [u8]) -> usize
         What::Book => book(desk, out),
         What::Lanes => lanes(desk, out),
         What::Net => answers::signed(desk::net(desk), out),
-        _ => tape_of(taped.tail, file, out),
+        _ => add_blocks(tape_in(taped.tail, file), out),
     }
 }
