@@ -30,7 +30,7 @@ ghost use Rattle.zvt_rules.specs.Reading.{unplaced};
 ghost use Rattle.desk_rules.specs.Numbers.{bookLines};
 ghost use Rattle.desk_rules.specs.Kinds.{booked};
 ghost use Rattle.desk_rules.specs.Openings.{kindOf, openingIn};
-ghost use Rattle.desk_rules.specs.Course.{opening as call, message, lost};
+ghost use Rattle.desk_rules.specs.Course.{opening as call, heard, message, lost};
 ghost use Rattle.desk_rules.specs.Desk.{load};
 ghost use Rattle.desk_rules.specs.Memory.{Valid, linesOfDesk, view, refusedAnswer, answerOf, leavesOf, closeAnswer, lineAnswer, laneAnswer};
 ghost use Rattle.desk_rules.specs.Turnover.{netOf};
@@ -118,6 +118,14 @@ pub fn terminal(desk: Desk, lane: u8, s: &[u8], out: &mut [u8]) -> Answer
         reply: Reply::Written(size),
         desk: d,
     }
+}
+
+// What one message from its terminal does to a lane. A desk is large: who takes many messages asks the lane first, and the desk where its
+// payment ends.
+pub fn hears(lane: Lane, s: &[u8]) -> Moved
+    ensures { λ r. ⌜ r ≡ heard lane (now (s .entry)) ⌝ }
+{
+    hear::heard(lane, s)
 }
 
 // The link to a lane's terminal is lost.
