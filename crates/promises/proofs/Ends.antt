@@ -36,6 +36,7 @@ pub every-call-ends : {M : Type 1}
     × zvt.receipt_in.Statement.statement M
     × desk.«open».Statement.statement M
     × desk.terminal.Statement.statement M
+    × desk.hears.Statement.statement M
     × desk.link_lost.Statement.statement M
     × desk.close.Statement.statement M
     × desk.net.Statement.statement M
@@ -126,6 +127,7 @@ every-call-ends = (
   zvt.receipt_in.Met.met,
   desk.«open».Met.met,
   desk.terminal.Met.met,
+  desk.hears.Met.met,
   desk.link_lost.Met.met,
   desk.close.Met.met,
   desk.net.Met.met,
@@ -226,6 +228,7 @@ pub nothing-to-test :
     × ((κs : _) (a : _) → desk.line_at.Reads.Asked κs a ≡ Valid (a .0))
     × ((κs : _) (a : _) → desk.lane_at.Reads.Asked κs a ≡ Valid (a .0))
     × ((κs : _) (a : _) → desk.opening_in.Reads.Asked κs a ≡ Unit {0})
+    × ((κs : _) (a : _) → desk.hears.Reads.Asked κs a ≡ Unit {0})
     × ((κs : _) (a : _) → desk_rules.Desk.fresh.Reads.Asked κs a ≡ Unit {0})
     × ((κs : _) (a : _) → desk_rules.Book.empty.Reads.Asked κs a ≡ Unit {0})
     × ((κs : _) (a : _) → desk_rules.Line.blank.Reads.Asked κs a ≡ Unit {0})
@@ -290,6 +293,7 @@ pub nothing-to-test :
     × ((κs : _) (a : _) → buffers.add_decimal.Reads.Asked κs a ≡ Unit {0})
     × ((κs : _) (a : _) → buffers.hex_value.Reads.Asked κs a ≡ Unit {0})
 nothing-to-test = (
+  λ κs a. refl,
   λ κs a. refl,
   λ κs a. refl,
   λ κs a. refl,

@@ -101,6 +101,9 @@ lane-at-one κs a = only _ _ (λ r e h. (h, refl))
 pub opening-in-one : (κs : _) (a : _) → Only itself nothing (desk.opening_in.Reads.Learnt κs a)
 opening-in-one κs a = only _ _ (λ r e h. (h, refl))
 
+pub hears-one : (κs : _) (a : _) → Only itself nothing (desk.hears.Reads.Learnt κs a)
+hears-one κs a = only _ _ (λ r e h. (h, refl))
+
 -- ---- what a desk is made of, and the questions to it
 pub desk-fresh-one : (κs : _) (a : _) → Only itself nothing (desk_rules.Desk.fresh.Reads.Learnt κs a)
 desk-fresh-one κs a = only _ _ (λ r e h. (h .0, refl))
