@@ -6,16 +6,9 @@ use borrow.Author.Needs.{needs}
 use Rattle.script_reads.proofs.desks.add_lines.Statement.{statement}
 use Rattle.script_reads.proofs.desks.add_lines.Tie as tie
 
-abbrev Inv-loop : tie.InvT-loop
-Inv-loop desk out₀ to₀ k₀ out to k =
-    (k ≤ 64) × (length out ≡ length out₀)
-
-abbrev μ-loop : tie.MeasureT-loop
-μ-loop desk out₀ to₀ k₀ out to k = 64 - k
-
 pub add-lines-spec : {M : Type 1} → statement M
 add-lines-spec =
     tie.close
-    (tie.spec Inv-loop μ-loop (λ c. search needs) (λ c κs. search needs) (λ c. search needs) (λ c. search needs) (λ c. search needs)
-    (λ c. search needs) (λ c. search needs) (λ c κs. search needs) (λ c. search needs) (λ c. search needs) (λ c. search needs)
-    (λ c. search needs))
+    (tie.spec (λ desk out₀ to₀ k₀ out to k. (k ≤ 64) × (length out ≡ length out₀)) (λ desk out₀ to₀ k₀ out to k. 64 - k)
+    (λ c. search needs) (λ c κs. search needs) (λ c. search needs) (λ c. search needs) (λ c. search needs) (λ c. search needs)
+    (λ c. search needs) (λ c κs. search needs) (λ c. search needs) (λ c. search needs) (λ c. search needs) (λ c. search needs))
