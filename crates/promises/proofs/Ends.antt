@@ -7,7 +7,6 @@ use Rattle.desk.proofs as desk
 use Rattle.desk_rules.proofs as desk_rules
 use Rattle.tape_rules.proofs as tape_rules
 use Rattle.tape.proofs as tape
-use Rattle.replaying_rules.proofs as replaying_rules
 use Rattle.replaying.proofs as replaying
 use Rattle.listing.proofs as listing
 use Rattle.buffers.proofs as buffers
@@ -89,7 +88,6 @@ pub every-call-ends : {M : Type 1}
     × tape.write_tape.Statement.statement M
     × tape.read_tape.Statement.statement M
     × tape.held.Statement.statement M
-    × replaying_rules.Standing.fresh.Statement.statement M
     × replaying.replay.Statement.statement M
     × tape.«open».Statement.statement M
     × tape.terminal.Statement.statement M
@@ -180,7 +178,6 @@ every-call-ends = (
   tape.write_tape.Met.met,
   tape.read_tape.Met.met,
   tape.held.Met.met,
-  replaying_rules.Standing.fresh.Met.met,
   replaying.replay.Met.met,
   tape.«open».Met.met,
   tape.terminal.Met.met,
@@ -275,7 +272,6 @@ pub nothing-to-test :
     × ((κs : _) (a : _) → tape.write_tape.Reads.Asked κs a ≡ Unit {0})
     × ((κs : _) (a : _) → tape.read_tape.Reads.Asked κs a ≡ Unit {0})
     × ((κs : _) (a : _) → tape.held.Reads.Asked κs a ≡ Unit {0})
-    × ((κs : _) (a : _) → replaying_rules.Standing.fresh.Reads.Asked κs a ≡ Unit {0})
     × ((κs : _) (a : _) → replaying.replay.Reads.Asked κs a ≡ Unit {0})
     × ((κs : _) (a : _) → tape.«open».Reads.Asked κs a ≡ ValidTaped (a .0))
     × ((κs : _) (a : _) → tape.terminal.Reads.Asked κs a ≡ ValidTaped (a .0))
@@ -293,7 +289,6 @@ pub nothing-to-test :
     × ((κs : _) (a : _) → buffers.add_decimal.Reads.Asked κs a ≡ Unit {0})
     × ((κs : _) (a : _) → buffers.hex_value.Reads.Asked κs a ≡ Unit {0})
 nothing-to-test = (
-  λ κs a. refl,
   λ κs a. refl,
   λ κs a. refl,
   λ κs a. refl,

@@ -10,7 +10,6 @@ use Rattle.desk.proofs as desk
 use Rattle.desk_rules.proofs as desk_rules
 use Rattle.tape_rules.proofs as tape_rules
 use Rattle.tape.proofs as tape
-use Rattle.replaying_rules.proofs as replaying_rules
 use Rattle.replaying.proofs as replaying
 use Rattle.listing.proofs as listing
 use Rattle.buffers.proofs as buffers
@@ -261,9 +260,6 @@ pub taped-close-one : (κs : _) (a : _) → Only itself nothing (tape.close.Read
 taped-close-one κs a = only _ _ (λ r e h. (h .0, refl))
 
 -- ---- the replay of a tape
-pub standing-fresh-one : (κs : _) (a : _) → Only itself nothing (replaying_rules.Standing.fresh.Reads.Learnt κs a)
-standing-fresh-one κs a = only _ _ (λ r e h. (h .0, refl))
-
 pub replay-one : (κs : _) (a : _) → Only itself nothing (replaying.replay.Reads.Learnt κs a)
 replay-one κs a = only _ _ (λ r e h. (h .0, refl))
 
