@@ -5,7 +5,7 @@ use mathlib.Core.Option.{none, some}
 use mathlib.Core.List.{List, [], _∷_, _++_, append-assoc, append-nil}
 use Prim.Native.Nat.{ℕ, _+_, _*_, _/_, _%_, _≤_}
 use native.Mathlib.Omega.{arith}
-use lib.ListN.{length, take, length-append}
+use lib.ListN.{length, take}
 use lib.Seq.{take-append-seam}
 use lib.Dec.{eqb}
 use borrow.Author.Tests.{eqb-true, eqb-false}
@@ -48,8 +48,8 @@ use Rattle.replaying_rules.proofs.Days.{deskRun, next-view, next-valid, run-vie
 use Rattle.replaying_rules.proofs.Calls.{replay-leads, replay-torn, replay-day}
 use Rattle.promises.specs.Answers.{no, yes, replySays, openingSays, replaySays}
 use Rattle.promises.specs.Days.{DeskTurn, callsIn, buffer, OfBytes, Taken, deskAfter}
-use Rattle.promises.specs.TapeDays.{exchanges, DeskAlone}
-use Rattle.promises.specs.Replays.{Moment, Back, CutAt, between-blocks, within-a-block, RefusedAt, at-a-record, at-a-block}
+use Rattle.promises.specs.TapeDays.{DeskAlone}
+use Rattle.promises.specs.Replays.{Back, CutAt, between-blocks, within-a-block, RefusedAt, at-a-record, at-a-block}
 use Rattle.promises.proofs.Answers.{no-yes, no-same, decided-yes}
 use Rattle.promises.proofs.Turns as turns
 use Rattle.promises.proofs.TapeDays.{Known, placed, its-records, of-bytes}

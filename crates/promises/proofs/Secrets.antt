@@ -8,7 +8,7 @@ use lib.ListN.{length, take, drop}
 use lib.Seq.{take-at}
 use borrow.Author.Tests.{le-leb}
 use Rattle.zvt_rules.specs.Reading.{Reading, got, refused}
-use Rattle.zvt_rules.specs.Message.{bytes, Message, readOf}
+use Rattle.zvt_rules.specs.Message.{Message, readOf}
 use Rattle.zvt_rules.specs.believed.Writing.{bodyBytes, lengthBytes, messageBytes}
 use Rattle.zvt_rules.specs.believed.Grammar.{Bytes}
 use Rattle.zvt_rules.specs.Values.{statusFields, statusOf, isStatus, statusIn, bodyFields}
@@ -20,17 +20,16 @@ use Rattle.desk_rules.specs.declared.Phase.the-variants.{Idle, Waiting, Running
 use Rattle.desk_rules.specs.declared.Lane.{Lane}
 use Rattle.desk_rules.specs.declared.Line.{Line}
 use Rattle.desk_rules.specs.declared.Opening.{Opening}
-use Rattle.desk_rules.specs.declared.Opening.the-variants.{Sale as sale, Refund as refund, Reversal as reversal}
 use Rattle.desk_rules.specs.declared.Reference.{Reference}
 use Rattle.desk_rules.specs.Kinds.{booked}
 use Rattle.desk_rules.specs.Openings.{kindOf, refersTo, lastLine, commandOf, commandBytes, commandSize, withoutPassword}
 use Rattle.desk_rules.specs.Course.{openedBy, heard, Call, opening, message, lost, laneOf, needsPlace, moves, replyBytes, answered, writes, NumbersFit}
-use Rattle.desk_rules.specs.Desk.{State, laneAt, Decision, refuse, accept, decide, step, Accepts, Accepted}
+use Rattle.desk_rules.specs.Desk.{State, laneAt, Decision, refuse, accept, step, Accepts, Accepted}
 use Rattle.desk_rules.specs.Memory.{linesOfDesk, view, answerBy}
 use Rattle.desk_rules.proofs.Commands.{command-size, command-reads}
 use Rattle.desk_rules.proofs.Recognised.{password-gone}
 use Rattle.tape_rules.specs.declared.Taped.{Taped}
-use Rattle.tape_rules.specs.Records.{secret, maskBody, maskMessage, masked, Record, replyEntry, entriesBy, entriesOf}
+use Rattle.tape_rules.specs.Records.{maskBody, maskMessage, masked, Record, replyEntry, entriesBy, entriesOf}
 use Rattle.tape_rules.specs.declared.TapedAnswer.{TapedAnswer}
 use Rattle.tape_rules.specs.Block.{blockSize}
 use Rattle.tape_rules.specs.Cuts.{laid}

@@ -1,18 +1,17 @@
 -- The day book from the tape alone: T24 to T30. A desk's disk was swapped, or the power was cut, and only the tape is left. Assumes nothing.
-use mathlib.Core.Path.{_≡_, refl, sym, ap, _∙_}
+use mathlib.Core.Path.{_≡_, sym, _∙_}
 use mathlib.Core.Logic.{_↔_}
 use mathlib.Core.Option.{none, some}
-use mathlib.Core.List.{List, [], _++_}
-use Prim.Native.Nat.{ℕ, _+_, _*_, _/_, _^_, _≤_}
-use native.Mathlib.Omega.{arith}
+use mathlib.Core.List.{List}
+use Prim.Native.Nat.{ℕ, _*_, _/_, _≤_}
 use lib.ListN.{length, take}
 use Rattle.zvt_rules.specs.declared.Refusal.{Refusal}
 use Rattle.zvt_rules.specs.believed.Grammar.{Bytes}
 use Rattle.desk_rules.specs.declared.Opening.{Opening}
 use Rattle.desk_rules.specs.Openings.{openingIn}
 use Rattle.desk_rules.specs.Course.{Call}
-use Rattle.desk_rules.specs.Desk.{fresh, run}
-use Rattle.desk_rules.specs.Memory.{freshDesk, linesOfDesk, view, Valid}
+use Rattle.desk_rules.specs.Desk.{fresh}
+use Rattle.desk_rules.specs.Memory.{linesOfDesk, Valid}
 use Rattle.tape_rules.specs.declared.Ending.{Ending}
 use Rattle.tape_rules.specs.declared.Ending.the-variants.{Whole}
 use Rattle.tape_rules.specs.Records.{recorded}

@@ -57,7 +57,6 @@ use Rattle.tape_rules.specs.declared.BlockAnswer.{BlockAnswer}
 use Rattle.tape_rules.specs.declared.BlockAnswer.the-variants.{Payload, Refused as block-refused}
 use Rattle.tape_rules.specs.declared.Ending.{Ending}
 use Rattle.tape_rules.specs.declared.Ending.the-variants.{Whole, Refused as broken}
-use Rattle.tape_rules.specs.declared.Held.{Held}
 use Rattle.tape_rules.specs.declared.TapedAnswer.{TapedAnswer}
 use Rattle.tape_rules.specs.declared.ClosedAnswer.{ClosedAnswer}
 use Rattle.replaying_rules.specs.declared.Replayed.{Replayed}
@@ -163,10 +162,7 @@ abbrev pub endingSays : Ending → ℕ → Said ℕ
 endingSays Whole n = yes n
 endingSays (broken r) n = no r
 
--- how many bytes the blocks hold, and at which place a replay stopped
-abbrev pub heldSays : Held → Said ℕ
-heldSays h = endingSays (h .ending) (h .bytes)
-
+-- at which place a replay stopped
 abbrev pub replaySays : Replayed → Said ℕ
 replaySays r = endingSays (r .ending) (r .place)
 

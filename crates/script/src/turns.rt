@@ -2,7 +2,6 @@
 use crate::plain;
 use buffers::fill;
 use buffers::upto;
-use desk_rules::Reply;
 use script_reads::BYTE;
 use script_reads::cut;
 use script_reads::desks;
