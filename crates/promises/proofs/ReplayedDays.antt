@@ -5,7 +5,7 @@ use mathlib.Core.Option.{none, some}
 use mathlib.Core.List.{List, [], _∷_, _++_, append-assoc, append-nil}
 use Prim.Native.Nat.{ℕ, _+_, _*_, _/_, _%_, _≤_}
 use native.Mathlib.Omega.{arith}
-use lib.ListN.{length, take}
+use lib.ListN.{length, take, length-append}
 use lib.Seq.{take-append-seam}
 use lib.Dec.{eqb}
 use borrow.Author.Tests.{eqb-true, eqb-false}
@@ -19,19 +19,19 @@ use Rattle.desk_rules.specs.declared.Reply.the-variants.{Written}
 use Rattle.desk_rules.specs.declared.Opening.{Opening}
 use Rattle.desk_rules.specs.declared.OpeningAnswer.{OpeningAnswer}
 use Rattle.desk_rules.specs.declared.OpeningAnswer.the-variants.{Nothing as no-opening, Opening as opened}
-use Rattle.desk_rules.specs.Openings.{openingIn}
+use Rattle.desk_rules.specs.Openings.{commandBytes, openingIn}
 use Rattle.desk_rules.specs.Course.{Call, NumbersFit}
 use Rattle.desk_rules.specs.Desk.{State, fresh, step, Accepted, run}
 use Rattle.desk_rules.specs.Memory.{freshDesk, linesOfDesk, view, Valid, laneFor, answerOf}
 use Rattle.desk_rules.proofs.Commands.{writes-short}
+use Rattle.desk_rules.proofs.Recognised.{opening-exactly}
 use Rattle.desk_rules.proofs.Lanes.{accepts-room, accepts-any}
 use Rattle.desk_rules.proofs.Runs.{run-append}
 use Rattle.desk_rules.proofs.Memory.{accepted-answer, fresh-valid, view-fresh}
 use Rattle.tape_rules.specs.declared.Ending.{Ending}
-use Rattle.tape_rules.specs.declared.Ending.the-variants.{Whole}
-use Rattle.tape_rules.specs.Block.{mostNumber}
+use Rattle.tape_rules.specs.declared.Ending.the-variants.{Whole, Refused}
 use Rattle.tape_rules.specs.Records.{Record, entriesOf, joined, recorded}
-use Rattle.tape_rules.specs.Tape.{cut, tapeBytes}
+use Rattle.tape_rules.specs.Tape.{cut}
 use Rattle.tape_rules.specs.Good.{goodOf}
 use Rattle.tape_rules.specs.Taping.{TapeTurn, Day, freshDay}
 use Rattle.tape_rules.specs.believed.Tapes.{DrawnTape, all-good, up-to}
@@ -41,7 +41,7 @@ use Rattle.tape_rules.proofs.RecordLaws.{Small, joined-exactly, joined-append, 
 use Rattle.tape_rules.proofs.CutOff.{cutEnding, good-cut}
 use Rattle.replaying_rules.specs.declared.Replayed.{Replayed}
 use Rattle.replaying_rules.specs.Replay.{replayOf}
-use Rattle.replaying_rules.specs.believed.Retold.{Opens, answers, Replays, to-the-end, up-to-a-record}
+use Rattle.replaying_rules.specs.believed.Retold.{Opens, answers, Replays, to-the-end, up-to-a-record, callsMade}
 use Rattle.replaying_rules.proofs.MeaningLaws.{opens-exactly, none-exactly}
 use Rattle.replaying_rules.proofs.Rows.{replays-exactly}
 use Rattle.replaying_rules.proofs.Days.{deskRun, next-view, next-valid, run-view, CutOff, entries-cut}
@@ -178,13 +178,15 @@ module _ {us : List TapeTurn} {e : Day} {cs : List Call} {p : List ℕ} (played 
     abbrev size : ℕ
     size = length (joined (c .whole))
 
-    front-is : take size p ≡ joined (c .whole)
+    payload-is : p ≡ joined (c .whole) ++ joined (c .missing ++ others)
     unfolding recorded
-    front-is =
-        let all : joined (entriesOf fresh cs) ≡ joined (c .whole) ++ joined (c .missing ++ others) =
-        ap joined entries-so ∙ joined-append (c .whole) (c .missing ++ others)
-        in
-        ap (take size) (sym (k .payload) ∙ all) ∙ take-append-seam (joined (c .whole)) (joined (c .missing ++ others))
+    payload-is = sym (k .payload) ∙ ap joined entries-so ∙ joined-append (c .whole) (c .missing ++ others)
+
+    front-is : take size p ≡ joined (c .whole)
+    front-is = ap (take size) payload-is ∙ take-append-seam (joined (c .whole)) (joined (c .missing ++ others))
+
+    size-most : size ≤ length p
+    size-most = omega (arith, ap length payload-is, length-append (joined (c .whole)) (joined (c .missing ++ others)))
 
     pub comes : (r : Replayed) → r ≡ record { desk = deskRun freshDesk (c .before); place = length (joined (c .whole)); ending = x }
         → Back us cs p m x r
@@ -209,7 +211,7 @@ module _ {us : List TapeTurn} {e : Day} {cs : List Call} {p : List ℕ} (played 
           day-has = records-exactly fresh cs (k .accepted) (k .fit) _ .1 entries-so;
           a-reply = c .lacks;
           place = rw front-is (joined-exactly (c .whole) (joined (c .whole)) .1 (refl, each-front Small (c .whole) _ (rw entries-so at small-entries)));
-          inside = c .within;
+          inside = (c .within, size-most);
           cut = c .next;
           ending = refl;
         }
@@ -260,30 +262,30 @@ module _ {us : List TapeTurn} {e : Day} {cs : List Call} {p : List ℕ} (played 
 
 -- ---- every tape
 module _ (s : List ℕ) (b : Bytes s) where
-  refused-so : {r : Replayed} {f : Refusal} → Replays s r → replaySays r ≡ no f → RefusedAt s f
+  refused-so : {r : Replayed} {f : Refusal} → Replays s r → replaySays r ≡ no f → RefusedAt s f (r .desk) (r .place)
   refused-so (to-the-end (all-good n d) k last) h = absurd (no-yes (sym h))
   refused-so (to-the-end (up-to n first d full) k last) h = at-a-block n first (no-same h) d full k last
   refused-so (up-to-a-record g k begun stop) h = rw (← (no-same h)) (at-a-record g k begun stop)
 
-  says-so : {f : Refusal} → RefusedAt s f → replaySays (replayOf s) ≡ no f
-  says-so (at-a-record g k begun stop) = ap replaySays (replays-exactly s b _ .1 (up-to-a-record g k begun stop))
-  says-so (at-a-block n first same d full k last) =
-      ap replaySays (replays-exactly s b _ .1 (to-the-end (up-to n first d full) k last)) ∙ ap no same
+  says-so : {f : Refusal} {d : Desk} {n : ℕ} → RefusedAt s f d n → replayOf s ≡ record { desk = d; place = n; ending = Refused f }
+  says-so (at-a-record g k begun stop) = replays-exactly s b _ .1 (up-to-a-record g k begun stop)
+  says-so (at-a-block n first same d full k last) = replays-exactly s b _ .1 (rw (← same) (to-the-end (up-to n first d full) k last))
 
-  pub refused-at : (f : Refusal) → (replaySays (replayOf s) ≡ no f) ↔ RefusedAt s f
-  refused-at f = (refused-so (replays-exactly s b _ .0 refl), says-so)
+  pub refused-at : (f : Refusal) (d : Desk) (n : ℕ)
+      → ((replaySays (replayOf s) ≡ no f) × (replayOf s .desk ≡ d) × (replayOf s .place ≡ n)) ↔ RefusedAt s f d n
+  refused-at f d n = (
+    λ (e, desk, place). rw (← desk, ← place) (refused-so (replays-exactly s b _ .0 refl) e),
+    λ k. rw (says-so k) (refl, refl, refl),
+  )
 
   -- ---- the calls of a replay are a day at the desk alone
-  pub again : (calls : List Call) × DeskAlone calls (replayOf s .desk)
-      × (length (cut (recorded fresh calls)) ≤ mostNumber
-      → replayOf (tapeBytes (recorded fresh calls)) ≡ record { desk = replayOf s .desk; place = length (recorded fresh calls); ending = Whole })
-  again =
-      let l = replay-leads s b in
-      let a : Accepted fresh (l .calls) = rw view-fresh at (l .accepted) in (
-        l .calls,
-        alone-so (l .calls) (replayOf s .desk) (l .accepted) (l .fit) (l .leaves),
-        λ few. rw (← (l .leaves)) (replay-day (l .calls) a (l .fit) (omega arith)),
-      )
+  module _ {r : Replayed} (k : Replays s r) where
+    pub made-alone : DeskAlone (callsMade k) (r .desk)
+    made-alone = let l = replay-leads b k in alone-so (callsMade k) (r .desk) (l .accepted) (l .fit) (l .leaves)
+
+    -- and leave the same desk on every day
+    pub made-again : {us : List TapeTurn} {e : Day} → Played freshDay us e (callsMade k) → e .taped .desk ≡ r .desk
+    made-again played = played-desk played ∙ replay-leads b k .leaves
 
 -- ---- T26
 module _ (s : List ℕ) (b : Bytes s) where
@@ -293,6 +295,9 @@ module _ (s : List ℕ) (b : Bytes s) where
       to : (x : OpeningAnswer) → openingSays x ≡ yes (some o) → x ≡ opened o
       to no-opening e = absurd (let z : _≡_ {A = ℕ} 0 1 = cc in omega arith)
       to (opened q) e = cc
+
+  pub its-bytes : (o : Opening) → Opens o s → s ≡ commandBytes o
+  its-bytes o k = opening-exactly s o .0 (opens-exactly o s b .1 k) .0
 
   pub known-none : (openingSays (openingIn s) ≡ yes none) ↔ ((o : Opening) → Opens o s → ⊥)
   known-none = Iff·trans (to (openingIn s), λ e. ap openingSays e) (none-exactly s b)

@@ -162,7 +162,7 @@ abbrev pub endingSays : Ending → ℕ → Said ℕ
 endingSays Whole n = yes n
 endingSays (broken r) n = no r
 
--- at which place a replay stopped
+-- how a replay ended: refused so, or without a refusal at this place; desk and place of a refused one stand beside that (T29)
 abbrev pub replaySays : Replayed → Said ℕ
 replaySays r = endingSays (r .ending) (r .place)
 

@@ -1,4 +1,4 @@
--- What comes back of a day whose tape was torn off, and where a replay is refused: T24 to T30. Definitions only.
+-- What comes back of a day whose tape was torn off, and where a replay is refused, with which desk: T24 to T30. Definitions only.
 use mathlib.Core.Path.{_≡_}
 use mathlib.Core.Logic.{_⊎_}
 use Prim.Native.Nat.{ℕ, _+_, _*_, _%_, _≤_, _<_}
@@ -6,6 +6,7 @@ use mathlib.Core.List.{List, [], _∷_, _++_}
 use lib.ListN.{length, take}
 use Rattle.zvt_rules.specs.declared.Refusal.{Refusal}
 use Rattle.zvt_rules.specs.Reading.{unplaced}
+use Rattle.desk_rules.specs.declared.Desk.{Desk}
 use Rattle.desk_rules.specs.Course.{Call}
 use Rattle.desk_rules.specs.Memory.{freshDesk}
 use Rattle.tape_rules.specs.declared.Ending.{Ending}
@@ -47,7 +48,7 @@ pub record Back (day : List TapeTurn) (calls : List Call) (p : List ℕ) (m : �
   pub a-reply : (missing ≡ []) ⊎ ((i : ℕ) × (missing ≡ replyOn i ∷ []))
   -- where it stopped: behind the whole records, and the next one is not whole in what is left
   pub place : Joined whole (take (r .place) p)
-  pub inside : r .place ≤ m
+  pub inside : (r .place ≤ m) × (r .place ≤ length p)
   pub cut : (x : Record) (xs : List Record) → missing ++ others ≡ x ∷ xs → m < r .place + (4 + length (x .content))
   pub ending : r .ending ≡ e
 
@@ -56,10 +57,11 @@ pub data CutAt (n : ℕ) : Ending → Type 0 where
   between-blocks : n % 512 ≡ 0 → CutAt n Whole
   within-a-block : (n % 512 ≡ 0 → ⊥) → CutAt n (Refused (unplaced 1))
 
--- a replay is refused at a record, or at a block behind the last whole one. T30: "also where the last record ends just there"
-pub data RefusedAt (s : List ℕ) (f : Refusal) : Type 0 where
+-- a replay is refused, with this desk and at this place: at a record, or at a block behind the last whole one. T29: "The place is the number
+-- of payload bytes before it, and the desk is as it stood before it". T30: "also where the last record ends just there"
+pub data RefusedAt (s : List ℕ) (f : Refusal) : Desk → ℕ → Type 0 where
   at-a-record : {p rest more : List ℕ} {e : Ending} {t : Standing} {r : Record} {n : ℕ} → GoodBlocks s p e
-      → Retold (at freshDesk Nothing) p n t rest → Begins rest r more → Stops t r f → RefusedAt s f
+      → Retold (at freshDesk Nothing) p n t rest → Begins rest r more → Stops t r f → RefusedAt s f (t .desk) n
   at-a-block : {p rest : List ℕ} {t : Standing} {n : ℕ} (number : ℕ) (first : FirstNo s number) → unplaced number ≡ f
       → DrawnTape p (take (first .at * 512) s) (first .at) → length p ≡ first .at * 504 → Retold (at freshDesk Nothing) p n t rest → NoneWhole rest
-      → RefusedAt s f
+      → RefusedAt s f (t .desk) n
