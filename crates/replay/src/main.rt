@@ -18,7 +18,9 @@ fn print(input: &mut [u8]) {
         return;
     }
     let mut text = [0u8; TEXT];
-    let size = desks::replayed(replaying::replay(&input[..n]), &mut text);
+    let r = replaying::replay(&input[..n]);
+    let ending = r.ending;
+    let size = desks::replayed(r.desk, r.place, ending, &mut text);
     let end = upto(size, &text);
     io::write_all(STDOUT_FILENO, &text[..end]);
 }

@@ -92,14 +92,21 @@ fn damage(due: Block, s: &mut [u8], out: &mut [u8]) -> usize {
     add_all(b" refused 20\n", to, out)
 }
 
-// The replay of the tape of a payload.
+// The replay of a tape.
+pub(crate) fn replayed(s: &[u8], out: &mut [u8]) -> usize {
+    let r = replaying::replay(s);
+    let ending = r.ending;
+    desks::replayed(r.desk, r.place, ending, out)
+}
+
+// That of the tape of a payload.
 fn retold(s: &[u8], out: &mut [u8]) -> usize {
     let mut blocks = [0u8; TAPE];
     match tape::write_tape(s, &mut blocks) {
         Reply::Refused(f) => answers::refused(f, out),
         Reply::Written(n) => {
             let end = upto(n, &blocks);
-            desks::replayed(replaying::replay(&blocks[..end]), out)
+            replayed(&blocks[..end], out)
         }
     }
 }
@@ -109,7 +116,7 @@ fn reading(o: Order, s: &[u8], out: &mut [u8]) -> usize {
     let what = o.what;
     match what {
         What::Block | What::LastBlock => block(due_of(o), s, out),
-        What::ReplayTape => desks::replayed(replaying::replay(s), out),
+        What::ReplayTape => replayed(s, out),
         What::ReplayRecords => retold(s, out),
         _ => messages::reading(o, s, out),
     }

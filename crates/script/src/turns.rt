@@ -97,11 +97,6 @@ fn closed(turn: Turn, out: &mut [u8]) -> Turn
     }
 }
 
-// The replay of the tape so far.
-fn replayed(taped: Taped, file: &[u8], out: &mut [u8]) -> usize {
-    desks::replayed(replaying::replay(desks::tape_in(taped.tail, file)), out)
-}
-
 // A question about the desk or its tape, which leaves all as it is.
 fn asked(turn: Turn, what: What, file: &[u8], out: &mut [u8]) -> Turn
     requires { ⌜ ValidTaped (turn .taped) ⌝ }
@@ -109,7 +104,7 @@ fn asked(turn: Turn, what: What, file: &[u8], out: &mut [u8]) -> Turn
 {
     let mut after = turn;
     after.size = match what {
-        What::Replay => replayed(turn.taped, file, out),
+        What::Replay => plain::replayed(desks::tape_in(turn.taped.tail, file), out),
         _ => desks::question(turn.taped, what, file, out),
     };
     after

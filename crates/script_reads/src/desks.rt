@@ -8,7 +8,6 @@ use desk_rules::Desk;
 use desk_rules::Lane;
 use desk_rules::LaneAnswer;
 use desk_rules::LineAnswer;
-use replaying_rules::Replayed;
 use script_text::answers;
 use script_text::orders::What;
 use tape_rules::Block;
@@ -47,15 +46,13 @@ fn book(desk: Desk, out: &mut [u8]) -> usize
     answers::counted(b"end", b.count as u64, to, out)
 }
 
-// What a replay gives: the lines of the book, the place at which it stopped, and how it ended there.
-pub fn replayed(r: Replayed, out: &mut [u8]) -> usize
-    requires { ⌜ Valid (r .desk) ⌝ }
+// What a replay gives: the lines of the desk's book, the place at which it stopped, and how it ended there.
+pub fn replayed(desk: Desk, place: usize, ending: Ending, out: &mut [u8]) -> usize
+    requires { ⌜ Valid desk ⌝ }
 {
-    let desk = r.desk;
-    let ending = r.ending;
     let mut to = add_lines(desk, out);
     to = add_all(b"end", to, out);
-    to = answers::add_number(r.place as u64, to, out);
+    to = answers::add_number(place as u64, to, out);
     match ending {
         Ending::Whole => add_all(b" ok\n", to, out),
         Ending::Refused(f) => answers::counted(b" refused", f.number as u64, to, out),
