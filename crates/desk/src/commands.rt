@@ -1,4 +1,5 @@
 // The commands that opening writes, and what the bytes of one open.
+use crate::questions::command_size;
 use desk_rules::Opening;
 ghost use mathlib.Core.Path.{_≡_};
 ghost use Prim.Native.Nat.{_≤_};
@@ -104,6 +105,6 @@ pub(crate) fn is_command(opening: Opening, s: &[u8]) -> bool
 {
     let mut b = [0u8; Opening::MOST_COMMAND];
     put_command(opening, &mut b);
-    let size = opening.command_size();
+    let size = command_size(opening);
     check::same(s, &b[..size])
 }

@@ -1,4 +1,11 @@
 // What a lane does at a call, and the line at its payment's end.
+use crate::questions::is_idle;
+use crate::questions::is_reversal;
+use crate::questions::missing_number;
+use crate::questions::opened_lane;
+use crate::questions::refers_to;
+use crate::questions::stands;
+use crate::questions::within_limits;
 use desk_rules::Kind;
 use desk_rules::Lane;
 use desk_rules::Line;
@@ -44,24 +51,24 @@ pub(crate) fn opened(l: Lane, opening: Opening, line: Line) -> Moved
     ensures { λ r. ⌜ r ≡ openedBy l opening line ⌝ }
 {
     let phase = l.phase;
-    if !phase.is_idle() {
+    if !is_idle(phase) {
         return refused(13);
     }
-    if !opening.within_limits() {
+    if !within_limits(opening) {
         return refused(16);
     }
-    let reference = opening.reference();
-    if !reference.stands(line) {
-        return refused(reference.missing_number());
+    let reference = refers_to(opening);
+    if !stands(reference, line) {
+        return refused(missing_number(reference));
     }
-    Moved::Becomes(opening.lane(line))
+    Moved::Becomes(opened_lane(opening, line))
 }
 
 // The receipt named for a reversal, else the one told, else 0.
 pub(crate) fn receipt_by(kind: Kind, named: u16, told: ToldReceipt) -> u16
     ensures { λ r. ⌜ r ≡ receiptBy kind named told ⌝ }
 {
-    if kind.is_reversal() {
+    if is_reversal(kind) {
         return named;
     }
     match told {
@@ -103,7 +110,7 @@ pub(crate) fn amount_by(told: ToldAmount, asked: u64) -> u64
 pub(crate) fn settled_as(kind: Kind, asked: u64, amount: u64) -> Moved
     ensures { λ r. ⌜ r ≡ settledAs kind asked amount ⌝ }
 {
-    if kind.is_reversal() {
+    if is_reversal(kind) {
         if amount != asked {
             return Moved::Ends(Outcome::Unclear, 0, 0);
         }
@@ -225,7 +232,7 @@ pub(crate) fn heard(l: Lane, s: &[u8]) -> Moved
     ensures { λ r. ⌜ r ≡ heard l (now (s .entry)) ⌝ }
 {
     let phase = l.phase;
-    if phase.is_idle() {
+    if is_idle(phase) {
         return refused(14);
     }
     match zvt::hear(s) {

@@ -3,6 +3,7 @@
 mod commands;
 mod hear;
 mod memory;
+mod questions;
 
 use commands::is_command;
 use commands::put_command;
@@ -21,6 +22,14 @@ use memory::all_idle;
 use memory::is_full;
 use memory::last_line;
 use memory::moved;
+use questions::booked;
+use questions::command_size;
+use questions::gain;
+use questions::is_idle;
+use questions::kind_of;
+use questions::loss;
+use questions::refers_to;
+use questions::within_limits;
 use zvt_rules::Refusal;
 ghost use mathlib.Core.Path.{_≡_};
 ghost use mathlib.Core.Bool.{_&&_};
@@ -58,7 +67,7 @@ pub fn open(desk: Desk, lane: u8, opening: Opening, out: &mut [u8]) -> Answer
     let at = lane as usize;
     let l = desk.lanes[at];
     let book = desk.book;
-    let m = hear::opened(l, opening, last_line(book, lane, opening.reference()));
+    let m = hear::opened(l, opening, last_line(book, lane, refers_to(opening)));
     if let Moved::Refused(r) = m {
         return Answer {
             reply: Reply::Refused(r),
@@ -68,7 +77,7 @@ pub fn open(desk: Desk, lane: u8, opening: Opening, out: &mut [u8]) -> Answer
     if no_place(desk, opening) {
         return refused(desk, 18);
     }
-    let size = opening.command_size();
+    let size = command_size(opening);
     if out.len() < size {
         return refused(desk, 11);
     }
@@ -85,8 +94,8 @@ fn no_place(desk: Desk, opening: Opening) -> bool
     requires { ⌜ Valid desk ⌝ }
     ensures { λ r. ⌜ r ≡ (booked (kindOf opening) && leb bookLines (load (view desk))) ⌝ }
 {
-    let kind = opening.kind();
-    if kind.booked() { is_full(desk) } else { false }
+    let kind = kind_of(opening);
+    if booked(kind) { is_full(desk) } else { false }
 }
 
 // Takes one message from a lane's terminal.
@@ -140,7 +149,7 @@ pub fn link_lost(desk: Desk, lane: u8) -> Answer
     let at = lane as usize;
     let l = desk.lanes[at];
     let phase = l.phase;
-    if phase.is_idle() {
+    if is_idle(phase) {
         return refused(desk, 14);
     }
     let d = moved(desk, lane, Moved::Ends(Outcome::Unclear, 0, 0));
@@ -177,8 +186,8 @@ pub fn net(desk: Desk) -> i64
     let mut i: usize = 0;
     while i < count {
         let l = book.lines[i];
-        plus += l.gain();
-        minus += l.loss();
+        plus += gain(l);
+        minus += loss(l);
         i += 1;
     }
     (plus as i64) - (minus as i64)
@@ -216,7 +225,7 @@ pub fn opening_in(s: &[u8]) -> OpeningAnswer
         return OpeningAnswer::Nothing;
     }
     let opening = would_open(s);
-    if !opening.within_limits() {
+    if !within_limits(opening) {
         return OpeningAnswer::Nothing;
     }
     if !is_command(opening, s) {

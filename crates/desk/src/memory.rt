@@ -1,5 +1,9 @@
 // The desk's memory: what is read off the book and the lanes, and what a move leaves in them.
 use crate::hear;
+use crate::questions::booked;
+use crate::questions::concerns;
+use crate::questions::is_idle;
+use crate::questions::place_taken;
 use desk_rules::Book;
 use desk_rules::Desk;
 use desk_rules::Lane;
@@ -41,7 +45,7 @@ pub(crate) fn last_line(b: Book, lane: u8, reference: Reference) -> Line
     let mut i: usize = 0;
     while i < count {
         let l = b.lines[i];
-        if l.concerns(lane, reference) {
+        if concerns(l, lane, reference) {
             last = l;
         }
         i += 1;
@@ -58,7 +62,7 @@ fn places_taken(d: Desk) -> usize
     let mut i: usize = 0;
     while i < Lane::COUNT as usize {
         let l = d.lanes[i];
-        n += l.place_taken();
+        n += place_taken(l);
         i += 1;
     }
     n
@@ -83,7 +87,7 @@ pub(crate) fn all_idle(d: Desk) -> bool
     while i < Lane::COUNT as usize {
         let l = d.lanes[i];
         let phase = l.phase;
-        if !phase.is_idle() {
+        if !is_idle(phase) {
             return false;
         }
         i += 1;
@@ -101,7 +105,7 @@ pub(crate) fn ended(d: Desk, lane: u8, line: Line) -> Desk
     let kind = line.kind;
     let mut next = d;
     next.lanes[at] = Lane::idle();
-    if kind.booked() {
+    if booked(kind) {
         next.book = with_line(b, line);
     }
     next

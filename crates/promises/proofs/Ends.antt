@@ -45,36 +45,13 @@ pub every-call-ends : {M : Type 1}
     × desk_rules.Desk.fresh.Statement.statement M
     × desk_rules.Book.empty.Statement.statement M
     × desk_rules.Line.blank.Statement.statement M
-    × desk_rules.Line.is_approved.Statement.statement M
-    × desk_rules.Line.is_sold.Statement.statement M
-    × desk_rules.Line.concerns.Statement.statement M
-    × desk_rules.Line.counted.Statement.statement M
-    × desk_rules.Line.gain.Statement.statement M
-    × desk_rules.Line.loss.Statement.statement M
     × desk_rules.Lane.idle.Statement.statement M
     × desk_rules.Lane.waiting.Statement.statement M
     × desk_rules.Lane.running.Statement.statement M
     × desk_rules.Lane.reported.Statement.statement M
-    × desk_rules.Lane.place_taken.Statement.statement M
     × desk_rules.Lane.amount_ok.Statement.statement M
     × desk_rules.Lane.receipt_ok.Statement.statement M
     × desk_rules.Lane.password_ok.Statement.statement M
-    × desk_rules.Opening.kind.Statement.statement M
-    × desk_rules.Opening.within_limits.Statement.statement M
-    × desk_rules.Opening.reference.Statement.statement M
-    × desk_rules.Opening.asked.Statement.statement M
-    × desk_rules.Opening.named.Statement.statement M
-    × desk_rules.Opening.command_size.Statement.statement M
-    × desk_rules.Opening.lane.Statement.statement M
-    × desk_rules.Reference.looks_at.Statement.statement M
-    × desk_rules.Reference.receipt.Statement.statement M
-    × desk_rules.Reference.stands.Statement.statement M
-    × desk_rules.Reference.missing_number.Statement.statement M
-    × desk_rules.Kind.is_sale.Statement.statement M
-    × desk_rules.Kind.is_reversal.Statement.statement M
-    × desk_rules.Kind.booked.Statement.statement M
-    × desk_rules.Outcome.is_approved.Statement.statement M
-    × desk_rules.Phase.is_idle.Statement.statement M
     × desk_rules.nothing_told.Statement.statement M
     × tape_rules.Block.before_last.Statement.statement M
     × tape_rules.Block.at_end.Statement.statement M
@@ -135,36 +112,13 @@ every-call-ends = (
   desk_rules.Desk.fresh.Met.met,
   desk_rules.Book.empty.Met.met,
   desk_rules.Line.blank.Met.met,
-  desk_rules.Line.is_approved.Met.met,
-  desk_rules.Line.is_sold.Met.met,
-  desk_rules.Line.concerns.Met.met,
-  desk_rules.Line.counted.Met.met,
-  desk_rules.Line.gain.Met.met,
-  desk_rules.Line.loss.Met.met,
   desk_rules.Lane.idle.Met.met,
   desk_rules.Lane.waiting.Met.met,
   desk_rules.Lane.running.Met.met,
   desk_rules.Lane.reported.Met.met,
-  desk_rules.Lane.place_taken.Met.met,
   desk_rules.Lane.amount_ok.Met.met,
   desk_rules.Lane.receipt_ok.Met.met,
   desk_rules.Lane.password_ok.Met.met,
-  desk_rules.Opening.kind.Met.met,
-  desk_rules.Opening.within_limits.Met.met,
-  desk_rules.Opening.reference.Met.met,
-  desk_rules.Opening.asked.Met.met,
-  desk_rules.Opening.named.Met.met,
-  desk_rules.Opening.command_size.Met.met,
-  desk_rules.Opening.lane.Met.met,
-  desk_rules.Reference.looks_at.Met.met,
-  desk_rules.Reference.receipt.Met.met,
-  desk_rules.Reference.stands.Met.met,
-  desk_rules.Reference.missing_number.Met.met,
-  desk_rules.Kind.is_sale.Met.met,
-  desk_rules.Kind.is_reversal.Met.met,
-  desk_rules.Kind.booked.Met.met,
-  desk_rules.Outcome.is_approved.Met.met,
-  desk_rules.Phase.is_idle.Met.met,
   desk_rules.nothing_told.Met.met,
   tape_rules.Block.before_last.Met.met,
   tape_rules.Block.at_end.Met.met,
@@ -229,36 +183,13 @@ pub nothing-to-test :
     × ((κs : _) (a : _) → desk_rules.Desk.fresh.Reads.Asked κs a ≡ Unit {0})
     × ((κs : _) (a : _) → desk_rules.Book.empty.Reads.Asked κs a ≡ Unit {0})
     × ((κs : _) (a : _) → desk_rules.Line.blank.Reads.Asked κs a ≡ Unit {0})
-    × ((κs : _) (a : _) → desk_rules.Line.is_approved.Reads.Asked κs a ≡ Unit {0})
-    × ((κs : _) (a : _) → desk_rules.Line.is_sold.Reads.Asked κs a ≡ Unit {0})
-    × ((κs : _) (a : _) → desk_rules.Line.concerns.Reads.Asked κs a ≡ Unit {0})
-    × ((κs : _) (a : _) → desk_rules.Line.counted.Reads.Asked κs a ≡ Unit {0})
-    × ((κs : _) (a : _) → desk_rules.Line.gain.Reads.Asked κs a ≡ Unit {0})
-    × ((κs : _) (a : _) → desk_rules.Line.loss.Reads.Asked κs a ≡ Unit {0})
     × ((κs : _) (a : _) → desk_rules.Lane.idle.Reads.Asked κs a ≡ Unit {0})
     × ((κs : _) (a : _) → desk_rules.Lane.waiting.Reads.Asked κs a ≡ Unit {0})
     × ((κs : _) (a : _) → desk_rules.Lane.running.Reads.Asked κs a ≡ Unit {0})
     × ((κs : _) (a : _) → desk_rules.Lane.reported.Reads.Asked κs a ≡ Unit {0})
-    × ((κs : _) (a : _) → desk_rules.Lane.place_taken.Reads.Asked κs a ≡ Unit {0})
     × ((κs : _) (a : _) → desk_rules.Lane.amount_ok.Reads.Asked κs a ≡ Unit {0})
     × ((κs : _) (a : _) → desk_rules.Lane.receipt_ok.Reads.Asked κs a ≡ Unit {0})
     × ((κs : _) (a : _) → desk_rules.Lane.password_ok.Reads.Asked κs a ≡ Unit {0})
-    × ((κs : _) (a : _) → desk_rules.Opening.kind.Reads.Asked κs a ≡ Unit {0})
-    × ((κs : _) (a : _) → desk_rules.Opening.within_limits.Reads.Asked κs a ≡ Unit {0})
-    × ((κs : _) (a : _) → desk_rules.Opening.reference.Reads.Asked κs a ≡ Unit {0})
-    × ((κs : _) (a : _) → desk_rules.Opening.asked.Reads.Asked κs a ≡ Unit {0})
-    × ((κs : _) (a : _) → desk_rules.Opening.named.Reads.Asked κs a ≡ Unit {0})
-    × ((κs : _) (a : _) → desk_rules.Opening.command_size.Reads.Asked κs a ≡ Unit {0})
-    × ((κs : _) (a : _) → desk_rules.Opening.lane.Reads.Asked κs a ≡ Unit {0})
-    × ((κs : _) (a : _) → desk_rules.Reference.looks_at.Reads.Asked κs a ≡ Unit {0})
-    × ((κs : _) (a : _) → desk_rules.Reference.receipt.Reads.Asked κs a ≡ Unit {0})
-    × ((κs : _) (a : _) → desk_rules.Reference.stands.Reads.Asked κs a ≡ Unit {0})
-    × ((κs : _) (a : _) → desk_rules.Reference.missing_number.Reads.Asked κs a ≡ Unit {0})
-    × ((κs : _) (a : _) → desk_rules.Kind.is_sale.Reads.Asked κs a ≡ Unit {0})
-    × ((κs : _) (a : _) → desk_rules.Kind.is_reversal.Reads.Asked κs a ≡ Unit {0})
-    × ((κs : _) (a : _) → desk_rules.Kind.booked.Reads.Asked κs a ≡ Unit {0})
-    × ((κs : _) (a : _) → desk_rules.Outcome.is_approved.Reads.Asked κs a ≡ Unit {0})
-    × ((κs : _) (a : _) → desk_rules.Phase.is_idle.Reads.Asked κs a ≡ Unit {0})
     × ((κs : _) (a : _) → desk_rules.nothing_told.Reads.Asked κs a ≡ Unit {0})
     × ((κs : _) (a : _) → tape_rules.Block.before_last.Reads.Asked κs a ≡ Unit {0})
     × ((κs : _) (a : _) → tape_rules.Block.at_end.Reads.Asked κs a ≡ Unit {0})
@@ -289,29 +220,6 @@ pub nothing-to-test :
     × ((κs : _) (a : _) → buffers.add_decimal.Reads.Asked κs a ≡ Unit {0})
     × ((κs : _) (a : _) → buffers.hex_value.Reads.Asked κs a ≡ Unit {0})
 nothing-to-test = (
-  λ κs a. refl,
-  λ κs a. refl,
-  λ κs a. refl,
-  λ κs a. refl,
-  λ κs a. refl,
-  λ κs a. refl,
-  λ κs a. refl,
-  λ κs a. refl,
-  λ κs a. refl,
-  λ κs a. refl,
-  λ κs a. refl,
-  λ κs a. refl,
-  λ κs a. refl,
-  λ κs a. refl,
-  λ κs a. refl,
-  λ κs a. refl,
-  λ κs a. refl,
-  λ κs a. refl,
-  λ κs a. refl,
-  λ κs a. refl,
-  λ κs a. refl,
-  λ κs a. refl,
-  λ κs a. refl,
   λ κs a. refl,
   λ κs a. refl,
   λ κs a. refl,

@@ -103,7 +103,7 @@ opening-in-one κs a = only _ _ (λ r e h. (h, refl))
 pub hears-one : (κs : _) (a : _) → Only itself nothing (desk.hears.Reads.Learnt κs a)
 hears-one κs a = only _ _ (λ r e h. (h, refl))
 
--- ---- what a desk is made of, and the questions to it
+-- ---- what a desk is made of
 pub desk-fresh-one : (κs : _) (a : _) → Only itself nothing (desk_rules.Desk.fresh.Reads.Learnt κs a)
 desk-fresh-one κs a = only _ _ (λ r e h. (h .0, refl))
 
@@ -112,24 +112,6 @@ book-empty-one κs a = only _ _ (λ r e h. (h, refl))
 
 pub line-blank-one : (κs : _) (a : _) → Only itself nothing (desk_rules.Line.blank.Reads.Learnt κs a)
 line-blank-one κs a = only _ _ (λ r e h. (h, refl))
-
-pub line-is-approved-one : (κs : _) (a : _) → Only itself nothing (desk_rules.Line.is_approved.Reads.Learnt κs a)
-line-is-approved-one κs a = only _ _ (λ r e h. (h, refl))
-
-pub line-is-sold-one : (κs : _) (a : _) → Only itself nothing (desk_rules.Line.is_sold.Reads.Learnt κs a)
-line-is-sold-one κs a = only _ _ (λ r e h. (h, refl))
-
-pub line-concerns-one : (κs : _) (a : _) → Only itself nothing (desk_rules.Line.concerns.Reads.Learnt κs a)
-line-concerns-one κs a = only _ _ (λ r e h. (h, refl))
-
-pub line-counted-one : (κs : _) (a : _) → Only itself nothing (desk_rules.Line.counted.Reads.Learnt κs a)
-line-counted-one κs a = only _ _ (λ r e h. (h, refl))
-
-pub line-gain-one : (κs : _) (a : _) → Only itself nothing (desk_rules.Line.gain.Reads.Learnt κs a)
-line-gain-one κs a = only _ _ (λ r e h. (h, refl))
-
-pub line-loss-one : (κs : _) (a : _) → Only itself nothing (desk_rules.Line.loss.Reads.Learnt κs a)
-line-loss-one κs a = only _ _ (λ r e h. (h, refl))
 
 pub lane-idle-one : (κs : _) (a : _) → Only itself nothing (desk_rules.Lane.idle.Reads.Learnt κs a)
 lane-idle-one κs a = only _ _ (λ r e h. (h, refl))
@@ -143,9 +125,6 @@ lane-running-one κs a = only _ _ (λ r e h. (h, refl))
 pub lane-reported-one : (κs : _) (a : _) → Only itself nothing (desk_rules.Lane.reported.Reads.Learnt κs a)
 lane-reported-one κs a = only _ _ (λ r e h. (h, refl))
 
-pub lane-place-taken-one : (κs : _) (a : _) → Only itself nothing (desk_rules.Lane.place_taken.Reads.Learnt κs a)
-lane-place-taken-one κs a = only _ _ (λ r e h. (h, refl))
-
 pub lane-amount-ok-one : (κs : _) (a : _) → Only itself nothing (desk_rules.Lane.amount_ok.Reads.Learnt κs a)
 lane-amount-ok-one κs a = only _ _ (λ r e h. (h, refl))
 
@@ -154,54 +133,6 @@ lane-receipt-ok-one κs a = only _ _ (λ r e h. (h, refl))
 
 pub lane-password-ok-one : (κs : _) (a : _) → Only itself nothing (desk_rules.Lane.password_ok.Reads.Learnt κs a)
 lane-password-ok-one κs a = only _ _ (λ r e h. (h, refl))
-
-pub opening-kind-one : (κs : _) (a : _) → Only itself nothing (desk_rules.Opening.kind.Reads.Learnt κs a)
-opening-kind-one κs a = only _ _ (λ r e h. (h, refl))
-
-pub opening-within-limits-one : (κs : _) (a : _) → Only itself nothing (desk_rules.Opening.within_limits.Reads.Learnt κs a)
-opening-within-limits-one κs a = only _ _ (λ r e h. (h, refl))
-
-pub opening-reference-one : (κs : _) (a : _) → Only itself nothing (desk_rules.Opening.reference.Reads.Learnt κs a)
-opening-reference-one κs a = only _ _ (λ r e h. (h, refl))
-
-pub opening-asked-one : (κs : _) (a : _) → Only itself nothing (desk_rules.Opening.asked.Reads.Learnt κs a)
-opening-asked-one κs a = only _ _ (λ r e h. (h, refl))
-
-pub opening-named-one : (κs : _) (a : _) → Only itself nothing (desk_rules.Opening.named.Reads.Learnt κs a)
-opening-named-one κs a = only _ _ (λ r e h. (h, refl))
-
-pub opening-command-size-one : (κs : _) (a : _) → Only itself nothing (desk_rules.Opening.command_size.Reads.Learnt κs a)
-opening-command-size-one κs a = only _ _ (λ r e h. (h, refl))
-
-pub opening-lane-one : (κs : _) (a : _) → Only itself nothing (desk_rules.Opening.lane.Reads.Learnt κs a)
-opening-lane-one κs a = only _ _ (λ r e h. (h, refl))
-
-pub reference-looks-at-one : (κs : _) (a : _) → Only itself nothing (desk_rules.Reference.looks_at.Reads.Learnt κs a)
-reference-looks-at-one κs a = only _ _ (λ r e h. (h, refl))
-
-pub reference-receipt-one : (κs : _) (a : _) → Only itself nothing (desk_rules.Reference.receipt.Reads.Learnt κs a)
-reference-receipt-one κs a = only _ _ (λ r e h. (h, refl))
-
-pub reference-stands-one : (κs : _) (a : _) → Only itself nothing (desk_rules.Reference.stands.Reads.Learnt κs a)
-reference-stands-one κs a = only _ _ (λ r e h. (h, refl))
-
-pub reference-missing-number-one : (κs : _) (a : _) → Only itself nothing (desk_rules.Reference.missing_number.Reads.Learnt κs a)
-reference-missing-number-one κs a = only _ _ (λ r e h. (h, refl))
-
-pub kind-is-sale-one : (κs : _) (a : _) → Only itself nothing (desk_rules.Kind.is_sale.Reads.Learnt κs a)
-kind-is-sale-one κs a = only _ _ (λ r e h. (h, refl))
-
-pub kind-is-reversal-one : (κs : _) (a : _) → Only itself nothing (desk_rules.Kind.is_reversal.Reads.Learnt κs a)
-kind-is-reversal-one κs a = only _ _ (λ r e h. (h, refl))
-
-pub kind-booked-one : (κs : _) (a : _) → Only itself nothing (desk_rules.Kind.booked.Reads.Learnt κs a)
-kind-booked-one κs a = only _ _ (λ r e h. (h, refl))
-
-pub outcome-is-approved-one : (κs : _) (a : _) → Only itself nothing (desk_rules.Outcome.is_approved.Reads.Learnt κs a)
-outcome-is-approved-one κs a = only _ _ (λ r e h. (h, refl))
-
-pub phase-is-idle-one : (κs : _) (a : _) → Only itself nothing (desk_rules.Phase.is_idle.Reads.Learnt κs a)
-phase-is-idle-one κs a = only _ _ (λ r e h. (h, refl))
 
 pub nothing-told-one : (κs : _) (a : _) → Only itself nothing (desk_rules.nothing_told.Reads.Learnt κs a)
 nothing-told-one κs a = only _ _ (λ r e h. (h, refl))

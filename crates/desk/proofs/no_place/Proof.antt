@@ -7,7 +7,7 @@ use Rattle.desk.proofs.no_place.Tie as tie
 returns : tie.Need-returns
 returns c =
     let b = c .before .before in
-    c .is-full .ensures ∙ rw (← b .before .kind .ensures, ← b .booked .ensures, c .before .if1 .taken)
+    c .is-full .ensures ∙ rw (← b .before .kind-of .ensures, ← b .booked .ensures, c .before .if1 .taken)
 
 pub no-place-spec : {M : Type 1} → statement M
 no-place-spec =

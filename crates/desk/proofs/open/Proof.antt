@@ -34,7 +34,7 @@ moves-to : (c : tie.After-opened) → moveOf (begun c .args .t1) (call (begun c)
 unfolding laneOf moves
 moves-to c =
     let a = begun c .args in
-    let found = c .before .last-line .ensures ∙ ap (λ (r : Reference). lastLine (a .lane) r (linesOfDesk (a .t1))) (c .before .before .reference .ensures) in
+    let found = c .before .last-line .ensures ∙ ap (λ (r : Reference). lastLine (a .lane) r (linesOfDesk (a .t1))) (c .before .before .refers-to .ensures) in
     sym (c .opened .ensures ∙ ap (openedBy (laneAt (a .t1 .lanes) (a .lane)) (a .opening)) found)
 
 passes : (c : tie.At-match-keys2) → Passes (moveOf (begun (c .before) .args .t1) (call (begun (c .before))))

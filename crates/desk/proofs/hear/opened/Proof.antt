@@ -31,14 +31,14 @@ returns-3 c =
     let number = c .before in
     let line = number .before .before in
     let w = line .before .before in
-    rw (c .refused3 .ensures, number .missing-number .ensures, idle (w .before .before), within w, ← line .before .reference .ensures, sym (line .stands .ensures) ∙ not-true _ (number .before .if3 .taken))
+    rw (c .refused3 .ensures, number .missing-number .ensures, idle (w .before .before), within w, ← line .before .refers-to .ensures, sym (line .stands .ensures) ∙ not-true _ (number .before .if3 .taken))
 
 returns-4 : tie.Need-returns-4
 unfolding openedBy
 returns-4 c =
     let line = c .before .before in
     let w = line .before .before in
-    rw (c .lane .ensures, idle (w .before .before), within w, ← line .before .reference .ensures, sym (line .stands .ensures) ∙ not-false _ (c .before .if3 .left))
+    rw (c .opened-lane .ensures, idle (w .before .before), within w, ← line .before .refers-to .ensures, sym (line .stands .ensures) ∙ not-false _ (c .before .if3 .left))
 
 pub opened-spec : {M : Type 1} → statement M
 opened-spec =

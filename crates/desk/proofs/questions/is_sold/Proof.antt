@@ -1,7 +1,7 @@
--- `desk_rules::Line::is_sold` meets its contract. Assumes nothing.
+-- `desk::questions::is_sold` meets its contract. Assumes nothing.
 use borrow.Author.Needs.{needs}
-use Rattle.desk_rules.proofs.Line.is_sold.Statement.{statement}
-use Rattle.desk_rules.proofs.Line.is_sold.Tie as tie
+use Rattle.desk.proofs.questions.is_sold.Statement.{statement}
+use Rattle.desk.proofs.questions.is_sold.Tie as tie
 
 returns : tie.Need-returns
 returns c = rw (c .both .ensures, c .before .before .is-approved .ensures, c .before .is-sale .ensures)

@@ -1,9 +1,9 @@
--- `desk_rules::Lane::place_taken` meets its contract. Assumes nothing.
+-- `desk::questions::place_taken` meets its contract. Assumes nothing.
 use mathlib.Core.Path.{sym, _∙_}
 use Rattle.desk_rules.specs.Lanes.{placeTaken}
 use borrow.Author.Needs.{needs}
-use Rattle.desk_rules.proofs.Lane.place_taken.Statement.{statement}
-use Rattle.desk_rules.proofs.Lane.place_taken.Tie as tie
+use Rattle.desk.proofs.questions.place_taken.Statement.{statement}
+use Rattle.desk.proofs.questions.place_taken.Tie as tie
 
 returns : tie.Need-returns
 unfolding placeTaken

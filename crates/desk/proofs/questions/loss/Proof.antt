@@ -1,7 +1,7 @@
--- `desk_rules::Line::loss` meets its contract. Assumes nothing.
+-- `desk::questions::loss` meets its contract. Assumes nothing.
 use borrow.Author.Needs.{needs}
-use Rattle.desk_rules.proofs.Line.loss.Statement.{statement}
-use Rattle.desk_rules.proofs.Line.loss.Tie as tie
+use Rattle.desk.proofs.questions.loss.Statement.{statement}
+use Rattle.desk.proofs.questions.loss.Tie as tie
 
 returns-2 : tie.Need-returns-2
 returns-2 c = rw (c .before .enum-told2 .given .1) (c .counted .ensures)

@@ -1,7 +1,7 @@
--- `desk_rules::Reference::stands` meets its contract. Assumes nothing.
+-- `desk::questions::stands` meets its contract. Assumes nothing.
 use borrow.Author.Needs.{needs}
-use Rattle.desk_rules.proofs.Reference.stands.Statement.{statement}
-use Rattle.desk_rules.proofs.Reference.stands.Tie as tie
+use Rattle.desk.proofs.questions.stands.Statement.{statement}
+use Rattle.desk.proofs.questions.stands.Tie as tie
 
 returns-2 : tie.Need-returns-2
 returns-2 c = rw (c .before .enum-told2 .given .1, c .is-sold .ensures)

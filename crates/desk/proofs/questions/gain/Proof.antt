@@ -1,7 +1,7 @@
--- `desk_rules::Line::gain` meets its contract. Assumes nothing.
+-- `desk::questions::gain` meets its contract. Assumes nothing.
 use borrow.Author.Needs.{needs}
-use Rattle.desk_rules.proofs.Line.gain.Statement.{statement}
-use Rattle.desk_rules.proofs.Line.gain.Tie as tie
+use Rattle.desk.proofs.questions.gain.Statement.{statement}
+use Rattle.desk.proofs.questions.gain.Tie as tie
 
 returns : tie.Need-returns
 returns c = rw (c .before .enum-told .given .1) (c .counted .ensures)

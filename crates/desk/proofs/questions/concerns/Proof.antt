@@ -1,12 +1,12 @@
--- `desk_rules::Line::concerns` meets its contract. Assumes nothing.
+-- `desk::questions::concerns` meets its contract. Assumes nothing.
 use mathlib.Core.Path.{_≡_, sym, _∙_}
 use mathlib.Core.Bool.{_&&_}
 use borrow.Author.Tests.{not-true, not-false, eq-eqb, ne-eqb}
 use Rattle.desk_rules.specs.Kinds.{isApproved}
 use Rattle.desk_rules.specs.Openings.{looksAt, concerns}
 use borrow.Author.Needs.{needs}
-use Rattle.desk_rules.proofs.Line.concerns.Statement.{statement}
-use Rattle.desk_rules.proofs.Line.concerns.Tie as tie
+use Rattle.desk.proofs.questions.concerns.Statement.{statement}
+use Rattle.desk.proofs.questions.concerns.Tie as tie
 
 returns : tie.Need-returns
 unfolding concerns
@@ -16,15 +16,15 @@ returns-2 : tie.Need-returns-2
 unfolding concerns
 returns-2 c =
     let r = c .before .before in
-    rw (eq-eqb _ _ (r .before .if1 .left), ← r .receipt .ensures, ne-eqb _ _ (c .if2 .taken))
+    rw (eq-eqb _ _ (r .before .if1 .left), ← r .receipt-named .ensures, ne-eqb _ _ (c .if2 .taken))
 
 -- of that lane and with that receipt
 same : (c : tie.Else2) → let a = c .before .before .before .before .before .args in
-    concerns (a .lane) (a .reference) (a .self) ≡ (isApproved (a .self .outcome) && looksAt (a .reference) (a .self .kind))
+    concerns (a .lane) (a .reference) (a .line) ≡ (isApproved (a .line .outcome) && looksAt (a .reference) (a .line .kind))
 unfolding concerns
 same c =
     let r = c .before .before in
-    rw (eq-eqb _ _ (r .before .if1 .left), ← r .receipt .ensures, eq-eqb _ _ (c .if2 .left))
+    rw (eq-eqb _ _ (r .before .if1 .left), ← r .receipt-named .ensures, eq-eqb _ _ (c .if2 .left))
 
 returns-3 : tie.Need-returns-3
 returns-3 c = rw (same (c .before .before), sym (c .before .is-approved .ensures) ∙ not-true _ (c .if3 .taken))
