@@ -11,7 +11,7 @@ use lib.Dec.{eqb}
 use borrow.Author.Tests.{le-leb, le-ltb, eqb-true}
 use Rattle.zvt_rules.specs.declared.Format.{Format}
 use Rattle.zvt_rules.specs.declared.Format.the-variants.{Unknown, Fixed, Digits, Container}
-use Rattle.zvt_rules.specs.Reading.{Reading, got, no, part, among}
+use Rattle.zvt_rules.specs.Reading.{Reading, got, part, among}
 use Rattle.zvt_rules.specs.Limits.{mostObjects, deepest}
 use Rattle.zvt_rules.specs.Objects.{Form, formSize, lenOf, Objs, countObjs, RunRead, runOf}
 use Rattle.zvt_rules.specs.Fields.{formatOf, unknown, lengthDigit, digitsOf, unlessUndecimal, holdsDigits, digitsIn, Field, plain, container, fieldId, countField, FieldRead, valueOf, plainOf, containerOf, fieldBy, fieldOf, countFields, ListRead, listOf}

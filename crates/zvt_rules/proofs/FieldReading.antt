@@ -114,7 +114,7 @@ undecimal-got at (b ∷ s) x a e =
     let h = undecimal-got (at + 1) s x a (k .1) in
     ((not-false (decimal b) (k .0), h .0), h .1)
 
-digits-got : {A : Type 0} (id at : ℕ) (s : List ℕ) (x : Reading A) (a : A) → digitsIn id at s x ≡ got a
+pub digits-got : {A : Type 0} (id at : ℕ) (s : List ℕ) (x : Reading A) (a : A) → digitsIn id at s x ≡ got a
     → (holdsDigits id ≡ true → Decimals s) × (x ≡ got a)
 unfolding digitsIn
 digits-got id at s x a =

@@ -1,30 +1,36 @@
--- Fields found: the functions' answers are where values stand in the message, and there is no other answer. Assumes nothing.
+-- Fields found: the answers are where values stand in the message, and there is no other answer. Assumes nothing.
 use mathlib.Core.Path.{_≡_, refl, sym, ap, _∙_}
-use mathlib.Core.Bool.{false}
-use mathlib.Core.Logic.{_↔_}
+use mathlib.Core.Logic.{_↔_, _⊎_, inl, inr, ⊎-elim}
 use mathlib.Core.List.{List, [], _∷_, _++_, append-assoc}
-use Prim.Native.Nat.{ℕ, zero, suc, _+_, _-_}
+use Prim.Native.Nat.{ℕ, zero, suc, _+_, _-_, _<_, _≤_}
+use native.Mathlib.Nat.{eq-or-lt-of-le}
 use native.Mathlib.Omega.{arith}
-use lib.ListN.{length, length-append}
+use lib.ListN.{length, getD, length-append}
 use lib.Seq.{take-append-seam, drop-append-seam}
-use lib.Dec.{eqb}
-use borrow.Author.Tests.{eqb-true, eq-eqb}
+use lib.Dec.{leb, eqb}
+use borrow.Author.Tests.{leb-true, leb-false, eqb-true, eqb-false, eq-eqb, ne-eqb}
+use Rattle.zvt_rules.specs.declared.Refusal.{Refusal}
+use Rattle.zvt_rules.specs.declared.Span.{Span}
 use Rattle.zvt_rules.specs.declared.Listed.{Listed}
 use Rattle.zvt_rules.specs.declared.FieldAnswer.{FieldAnswer}
-use Rattle.zvt_rules.specs.declared.FieldAnswer.the-variants.{Field as listed-field, End}
-use Rattle.zvt_rules.specs.declared.ListPlace.the-variants.{Between}
+use Rattle.zvt_rules.specs.declared.FieldAnswer.the-variants.{Absent, Value, Refused as field-refused}
 use Rattle.zvt_rules.specs.Reading.{Reading, got, refused, part, among}
-use Rattle.zvt_rules.specs.Fields.{Field, plain, container, fieldId}
-use Rattle.zvt_rules.specs.Message.{headerSize, layoutOf, Body, bytes, listed, Message, readOf}
-use Rattle.zvt_rules.specs.believed.Writing.{sized, lenBytes, lengthIn, fieldBytes, listBytes, bodyBytes, lengthBytes, messageBytes, fieldValue}
-use Rattle.zvt_rules.specs.believed.Grammar.{Bytes, ListOk, FieldsOk, LayoutOk, MessageOk}
+use Rattle.zvt_rules.specs.Fields.{formatOf, Field, plain, container, fieldId}
+use Rattle.zvt_rules.specs.Message.{headerSize, layoutOf, Body, bytes, listed, Message, readOf, firstOf}
+use Rattle.zvt_rules.specs.believed.Writing.{sized, lenBytes, runBytes, lengthIn, fieldBytes, listBytes, bodyBytes, lengthBytes, messageBytes, fieldValue}
+use Rattle.zvt_rules.specs.believed.Grammar.{Bytes, ListOk, FieldsOk, MessageOk}
 use Rattle.zvt_rules.specs.Values.{bodyFields}
-use Rattle.zvt_rules.specs.Listed.{listedAt, listedFrom, listedBody, listedMessage, nthListed, namedListed, fieldAnswer, namedAnswer, bodyPlace, messagePlace, listPlace}
-use Rattle.zvt_rules.specs.believed.Found.{Stands, ListStands}
-use Rattle.zvt_rules.specs.believed.Values.{Is}
-use Rattle.zvt_rules.proofs.Tests.{by-test, neither}
-use Rattle.zvt_rules.proofs.MessageBytes.{read-exactly, lengthBytes-size}
+use Rattle.zvt_rules.specs.Listed.{listedAt, nextAt, listedFrom, listAt, listedBody, bodyAt, listedMessage, namedListed, askedOf, fieldAnswer, handedBytes, handedPlace}
+use Rattle.zvt_rules.specs.Listed.{idsListed, firstIds, passwordIn, passwordSpan}
+use Rattle.zvt_rules.specs.believed.Found.{Stands, Follows, StandsBy, Lacks, Handed}
+use Rattle.zvt_rules.specs.believed.Values.{In, Is, Tells}
+use Rattle.zvt_rules.proofs.Tests.{by-test, pick-true, pick-false, pick-test, neither}
+use Rattle.zvt_rules.proofs.Readings.{got-same}
+use Rattle.zvt_rules.proofs.Lists.{in-none, in-first, in-more}
+use Rattle.zvt_rules.proofs.MessageBytes.{first-exactly, read-complete, read-exactly, lengthBytes-size}
+use Rattle.zvt_rules.proofs.ObjectBytes.{bytes-part}
 use Rattle.zvt_rules.proofs.MessageShort.{fields-ok}
+use Rattle.zvt_rules.proofs.StatusLaws.{value-behind, not-seen, field-in}
 
 -- ---- the bytes of a list, taken apart
 list-append : (fs gs : List Field) → listBytes (fs ++ gs) ≡ listBytes fs ++ listBytes gs
@@ -59,7 +65,7 @@ record Placed (m : Message) (at : ℕ) (f : Field) (behind : List Field) : Type 
   to : (listedAt at f) .to ≡ length (front ++ fieldValue f)
 
 placed : (m : Message) (password : List ℕ) (before : List Field) (f : Field) (behind : List Field) → m .body ≡ listed password (before ++ (f ∷ behind))
-    → Placed m (headerSize (m .long) + length password + length (listBytes before)) f behind
+    → Placed m (listAt (bodyAt m) password + length (listBytes before)) f behind
 unfolding listBytes listedAt
 placed m password before f behind e =
     let (start, whole, size) = list-ends m password _ e in
@@ -74,55 +80,76 @@ placed m password before f behind e =
       to = omega (arith, ahead, length-append (listBytes before) head, ap length own, length-append head value, length-append front value);
     }
 
--- ---- the fields of a list, by their number
-pub nth-here : (before : List Field) (f : Field) (behind : List Field) (at : ℕ)
-    → nthListed (length before) (listedFrom at (before ++ (f ∷ behind))) ≡ listed-field (listedAt (at + length (listBytes before)) f)
-unfolding nthListed listedFrom listBytes
-nth-here [] f behind at = ap (λ a. listed-field (listedAt a f)) (omega arith)
-nth-here (g ∷ before) f behind at =
-    nth-here before f behind (at + length (fieldBytes g))
-    ∙ ap (λ a. listed-field (listedAt a f)) (omega (arith, length-append (fieldBytes g) (listBytes before)))
+-- ---- the fields of a list, by their id
+-- where the value of a field that begins at place at lies
+abbrev spanAt : ℕ → Field → Span
+spanAt at f = record { from = listedAt at f .from; to = listedAt at f .to }
+
+-- an answer is one of three
+value-same : {p q : Span} → Value p ≡ Value q → p ≡ q
+value-same e = cc
+
+not-absent : {X : Type 0} {p : Span} → Absent ≡ Value p → X
+not-absent e = absurd (let z : _≡_ {A = ℕ} 0 1 = cc in omega arith)
+
+not-refused : {X : Type 0} {r : Refusal} {p : Span} → field-refused r ≡ Value p → X
+not-refused e = absurd (let z : _≡_ {A = ℕ} 0 1 = cc in omega arith)
+
+absent-refused : {X : Type 0} {r : Refusal} → Absent ≡ field-refused r → X
+absent-refused e = absurd (let z : _≡_ {A = ℕ} 0 1 = cc in omega arith)
 
 -- the field that an answer is of
-abbrev Split : ℕ → List Field → ℕ → Listed → Type 0
-Split at fs k l =
-    (before : List Field) × (f : Field) × (behind : List Field) × (fs ≡ before ++ (f ∷ behind)) × (length before ≡ k)
-    × (listedAt (at + length (listBytes before)) f ≡ l)
+abbrev Split : ℕ → ℕ → List Field → Span → Type 0
+Split id at fs p =
+    (before : List Field) × (f : Field) × (behind : List Field) × (fs ≡ before ++ (f ∷ behind)) × (fieldId f ≡ id)
+    × (spanAt (at + length (listBytes before)) f ≡ p)
 
-nth-split : (fs : List Field) (at k : ℕ) (l : Listed) → nthListed k (listedFrom at fs) ≡ listed-field l → Split at fs k l
-unfolding nthListed listedFrom listBytes
-nth-split [] at k l e = absurd (let z : _≡_ {A = ℕ} 0 1 = cc in omega arith)
-nth-split (f ∷ fs) at zero l e = let z : at + 0 ≡ at = omega arith in ([], f, fs, refl, refl, rw z (cc))
-nth-split (f ∷ fs) at (suc k) l e =
-    let (before, g, behind, q, n, same) = nth-split fs (at + length (fieldBytes f)) k l e in
-    let z : at + length (fieldBytes f ++ listBytes before) ≡ at + length (fieldBytes f) + length (listBytes before) =
+-- behind one field more
+split-more : (id at : ℕ) (f : Field) (fs : List Field) (p : Span) → Split id (nextAt at f) fs p → Split id at (f ∷ fs) p
+unfolding listBytes
+split-more id at f fs p (before, g, behind, q, i, same) =
+    let z : at + length (fieldBytes f ++ listBytes before) ≡ nextAt at f + length (listBytes before) =
     omega (arith, length-append (fieldBytes f) (listBytes before)) in
-    (f ∷ before, g, behind, ap (λ (gs : List Field). f ∷ gs) q, ap suc n, rw z same)
+    (f ∷ before, g, behind, ap (λ (gs : List Field). f ∷ gs) q, i, rw z same)
 
--- ---- by their id. F4: "No id stands twice in a list.", so an answer's id is not among those before it
-nth-fresh : (fs : List Field) (seen : List ℕ) (at k : ℕ) (l : Listed) → ListOk seen fs → nthListed k (listedFrom at fs) ≡ listed-field l
-    → among seen (l .id) ≡ false
-unfolding nthListed listedFrom listedAt ListOk among
-nth-fresh [] seen at k l ok e = absurd (let z : _≡_ {A = ℕ} 0 1 = cc in omega arith)
-nth-fresh (f ∷ fs) seen at zero l ok e = let same : listedAt at f ≡ l = cc in rw (← same) (ok .1)
-nth-fresh (f ∷ fs) seen at (suc k) l ok e = neither (eqb (fieldId f) (l .id)) (among seen (l .id)) (nth-fresh fs (fieldId f ∷ seen) _ k l (ok .2) e) .1
+named-split : (id : ℕ) (fs : List Field) (at : ℕ) (p : Span) → namedListed id (listedFrom at fs) ≡ Value p → Split id at fs p
+unfolding namedListed listedFrom listedAt listBytes
+named-split id [] at p e = not-absent e
+named-split id (f ∷ fs) at p e =
+    pick-test (λ (x : FieldAnswer). x ≡ Value p → Split id at (f ∷ fs) p) (eqb (fieldId f) id)
+    (λ t q. let z : at + 0 ≡ at = omega arith in ([], f, fs, refl, eqb-true (fieldId f) id t, rw z (value-same q)))
+    (λ t q. split-more id at f fs p (named-split id fs (nextAt at f) p q)) e
 
-nth-named : (fs : List Field) (seen : List ℕ) (at k : ℕ) (l : Listed) → ListOk seen fs → nthListed k (listedFrom at fs) ≡ listed-field l
-    → namedListed (l .id) (listedFrom at fs) ≡ listed-field l
-unfolding nthListed namedListed listedFrom listedAt ListOk among
-nth-named [] seen at k l ok e = absurd (let z : _≡_ {A = ℕ} 0 1 = cc in omega arith)
-nth-named (f ∷ fs) seen at zero l ok e =
-    let same : listedAt at f ≡ l = cc in
-    rw (← same, eq-eqb (fieldId f) (fieldId f) refl)
-nth-named (f ∷ fs) seen at (suc k) l ok e =
-    rw (neither (eqb (fieldId f) (l .id)) (among seen (l .id)) (nth-fresh fs (fieldId f ∷ seen) _ k l (ok .2) e) .0) (nth-named fs (fieldId f ∷ seen) _ k l (ok .2) e)
+-- F4: "No id stands twice in a list.": a field that stands there is the one that is found
+named-here : (before : List Field) (f : Field) (behind : List Field) (seen : List ℕ) (at : ℕ) → ListOk seen (before ++ (f ∷ behind))
+    → namedListed (fieldId f) (listedFrom at (before ++ (f ∷ behind))) ≡ Value (spanAt (at + length (listBytes before)) f)
+unfolding namedListed listedFrom listedAt listBytes ListOk among
+named-here [] f behind seen at ok =
+    let z : at + 0 ≡ at = omega arith in rw z (pick-true _ _ (eq-eqb (fieldId f) (fieldId f) refl))
+named-here (g ∷ before) f behind seen at ok =
+    let fresh = not-seen (fieldId g ∷ seen) (before ++ (f ∷ behind)) f (ok .2) (before, behind, refl) in
+    let z : at + length (fieldBytes g ++ listBytes before) ≡ nextAt at g + length (listBytes before) =
+    omega (arith, length-append (fieldBytes g) (listBytes before)) in
+    rw z (pick-false _ _ (neither (eqb (fieldId g) (fieldId f)) (among seen (fieldId f)) fresh .0)
+    ∙ named-here before f behind (fieldId g ∷ seen) (nextAt at g) (ok .2))
 
-named-nth : (id : ℕ) (ls : List Listed) (l : Listed) → namedListed id ls ≡ listed-field l → (k : ℕ) × (nthListed k ls ≡ listed-field l) × (l .id ≡ id)
-unfolding nthListed namedListed
-named-nth id [] l e = absurd (let z : _≡_ {A = ℕ} 0 1 = cc in omega arith)
-named-nth id (x ∷ ls) l e =
-    by-test (eqb (x .id) id) (λ t. let same : x ≡ l = cc (rw t at e) in (0, ap listed-field same, rw (← same) (eqb-true (x .id) id t)))
-    (λ t. let (k, n, i) = named-nth id ls l (rw t at e) in (suc k, n, i))
+-- F9: "the answer is absent where no field of the list has the id, and only there"
+named-none : (id : ℕ) (fs : List Field) (at : ℕ) → (namedListed id (listedFrom at fs) ≡ Absent) ↔ ((f : Field) → In f fs → fieldId f ≡ id → ⊥)
+unfolding namedListed listedFrom listedAt
+named-none id [] at = (λ e f k. in-none k, λ h. refl)
+named-none id (g ∷ fs) at =
+    let later = named-none id fs (nextAt at g) in (
+      pick-test (λ (x : FieldAnswer). x ≡ Absent → (f : Field) → In f (g ∷ fs) → fieldId f ≡ id → ⊥) (eqb (fieldId g) id)
+          (λ t e. not-absent (sym e))
+          (λ t e f k. ⊎-elim (λ q. rw q (eqb-false (fieldId g) id t)) (later .0 e f) (in-first k)),
+      λ h. pick-false _ _ (ne-eqb (fieldId g) id (h g (in-more (inl refl)))) ∙ later .1 (λ f k. h f (in-more (inr k))),
+    )
+
+never-refused : (id : ℕ) (ls : List Listed) (r : Refusal) → namedListed id ls ≡ field-refused r → ⊥
+unfolding namedListed
+never-refused id [] r e = absent-refused e
+never-refused id (l ∷ ls) r e =
+    pick-test (λ (x : FieldAnswer). x ≡ field-refused r → ⊥) (eqb (l .id) id) (λ t q. not-refused (sym q)) (λ t q. never-refused id ls r q) e
 
 -- ---- of a message
 -- nothing is not a list with a field in it
@@ -131,131 +158,338 @@ no-field [] f behind e = let z : _≡_ {A = ℕ} 0 1 = cc in omega arith
 no-field (g ∷ before) f behind e = let z : _≡_ {A = ℕ} 0 1 = cc in omega arith
 
 -- the value's place is fixed by what stands behind it
-same-place : (m : Message) (at : ℕ) (f : Field) (behind : List Field) (s front : List ℕ) (l : Listed) → Placed m at f behind → s ≡ messageBytes m
-    → s ≡ front ++ (fieldValue f ++ listBytes behind) → l .id ≡ fieldId f → l .from ≡ length front → l .to ≡ length (front ++ fieldValue f)
-    → listedAt at f ≡ l
-unfolding listedAt
-same-place m at f behind s front l p e w i x y =
+same-place : (m : Message) (at : ℕ) (f : Field) (behind : List Field) (s front : List ℕ) (p : Span) → Placed m at f behind → s ≡ messageBytes m
+    → s ≡ front ++ (fieldValue f ++ listBytes behind) → p .from ≡ length front → p .to ≡ length (front ++ fieldValue f)
+    → spanAt at f ≡ p
+same-place m at f behind s front p k e w x y =
     let value = fieldValue f in
-    let size : length front ≡ length (p .front) =
-    omega (arith, ap length (sym w ∙ e ∙ p .whole), length-append front (value ++ listBytes behind), length-append (p .front) (value ++ listBytes behind)) in
-    let from : (listedAt at f) .from ≡ l .from = omega (arith, p .from) in
-    let to : (listedAt at f) .to ≡ l .to = omega (arith, p .to, length-append front value, length-append (p .front) value) in
-    rw (from, to, ← i)
-
-never : {l : Listed} → End ≡ listed-field l → ⊥
-never e = let z : _≡_ {A = ℕ} 0 1 = cc in omega arith
+    let size : length front ≡ length (k .front) =
+    omega (arith, ap length (sym w ∙ e ∙ k .whole), length-append front (value ++ listBytes behind), length-append (k .front) (value ++ listBytes behind)) in
+    let from : spanAt at f .from ≡ p .from = omega (arith, k .from) in
+    let to : spanAt at f .to ≡ p .to = omega (arith, k .to, length-append front value, length-append (k .front) value) in
+    rw (from, to)
 
 module _ (s : List ℕ) (b : Bytes s) where
   pub stands-read : (m : Message) → Is s m ↔ (readOf s ≡ got m)
   stands-read m = (read-exactly s m b .1, read-exactly s m b .0)
 
-  -- Field number k, from 0, is found where it stands, and nothing is found where none does.
-  pub field-exactly : (k : ℕ) (l : Listed) → (fieldAnswer k s ≡ listed-field l) ↔ ((f : Field) × Stands s k f l)
-  unfolding fieldAnswer listedMessage listedBody nthListed Stands bodyFields listedAt
-  field-exactly k l = (there (readOf s) refl, λ (f, st). back f st (st .0 .body) refl)
-    where
-      in-body : (m : Message) → readOf s ≡ got m → (x : Body) → m .body ≡ x → nthListed k (listedBody (headerSize (m .long)) x) ≡ listed-field l
-          → (f : Field) × Stands s k f l
-      in-body m r (bytes v) q e = absurd (let z : _≡_ {A = ℕ} 0 1 = cc in omega arith)
-      in-body m r (listed password fs) q e =
-          let (before, f, behind, split, n, same) = nth-split fs (headerSize (m .long) + length password) k l e in
-          let p = placed m password before f behind (rw split at q) in
-          let is = stands-read m .1 r in (
-            f,
-            (
-              m,
-              before,
-              behind,
-              p .front,
-              is,
-              ap bodyFields q ∙ split,
-              n,
-              sym (is .0) ∙ p .whole,
-              ap (λ (x : Listed). x .id) (sym same),
-              ap (λ (x : Listed). x .from) (sym same) ∙ p .from,
-              ap (λ (x : Listed). x .to) (sym same) ∙ p .to,
-            ),
-          )
+  -- a field of the message that s is stands in it
+  stands-split : (m : Message) → readOf s ≡ got m → (password : List ℕ) (fs before : List Field) (f : Field) (behind : List Field) (k : ℕ) (p : Span)
+      → m .body ≡ listed password fs → fs ≡ before ++ (f ∷ behind) → length before ≡ k
+      → spanAt (listAt (bodyAt m) password + length (listBytes before)) f ≡ p → Stands s k f p
+  unfolding Stands bodyFields
+  stands-split m r password fs before f behind k p q split n same =
+      let w = placed m password before f behind (rw split at q) in
+      let is = stands-read m .1 r in (
+        m,
+        before,
+        behind,
+        w .front,
+        is,
+        ap bodyFields q ∙ split,
+        n,
+        sym (is .0) ∙ w .whole,
+        ap (λ (x : Span). x .from) (sym same) ∙ w .from,
+        ap (λ (x : Span). x .to) (sym same) ∙ w .to,
+      )
 
-      there : (x : Reading Message) → readOf s ≡ x → nthListed k (listedMessage x) ≡ listed-field l → (f : Field) × Stands s k f l
+  -- and is found there
+  stands-found : (k : ℕ) (f : Field) (p : Span) → Stands s k f p → fieldAnswer (fieldId f) s ≡ Value p
+  unfolding Stands bodyFields fieldAnswer askedOf listedMessage listedBody MessageOk FieldsOk
+  stands-found k f p (m, before, behind, front, is, q, n, w, x, y) = go (m .body) refl
+    where
+      go : (v : Body) → m .body ≡ v → fieldAnswer (fieldId f) s ≡ Value p
+      go (bytes v) e = absurd (no-field before f behind (sym (ap bodyFields e) ∙ q))
+      go (listed password fs) e =
+          let split : fs ≡ before ++ (f ∷ behind) = sym (ap bodyFields e) ∙ q in
+          let ok = fields-ok (layoutOf (m .class) (m .instruction)) password fs (rw e at (is .1 .0)) .0 in
+          let at = listAt (bodyAt m) password in
+          let same = same-place m _ f behind s front p (placed m password before f behind (rw split at e)) (sym (is .0)) w x y in
+          rw (stands-read m .0 is, e, split, named-here before f behind [] at (rw split at ok), same)
+
+  -- The field with an id is answered where it stands, and nothing else is: F6.
+  pub value-exactly : (id : ℕ) (p : Span) → (fieldAnswer id s ≡ Value p) ↔ StandsBy s id p
+  unfolding StandsBy fieldAnswer askedOf listedMessage listedBody namedListed
+  value-exactly id p = (there (readOf s) refl, λ (k, f, st, i). rw (← i) (stands-found k f p st))
+    where
+      in-body : (m : Message) → readOf s ≡ got m → (x : Body) → m .body ≡ x → namedListed id (listedBody (bodyAt m) x) ≡ Value p
+          → StandsBy s id p
+      in-body m r (bytes v) q e = not-absent e
+      in-body m r (listed password fs) q e =
+          let (before, f, behind, split, i, same) = named-split id fs (listAt (bodyAt m) password) p e in
+          (length before, f, stands-split m r password fs before f behind (length before) p q split refl same, i)
+
+      there : (x : Reading Message) → readOf s ≡ x → askedOf id x ≡ Value p → StandsBy s id p
       there (got m) r e = in-body m r (m .body) refl e
       there (refused r) q e = absurd (let z : _≡_ {A = ℕ} 0 1 = cc in omega arith)
 
-      back : (f : Field) (st : Stands s k f l) (x : Body) → st .0 .body ≡ x → fieldAnswer k s ≡ listed-field l
-      back f (m, before, behind, front, is, q, n, w, i, x, y) (bytes v) e = absurd (no-field before f behind (sym (ap bodyFields e) ∙ q))
-      back f (m, before, behind, front, is, q, n, w, i, x, y) (listed password fs) e =
-          let split : fs ≡ before ++ (f ∷ behind) = sym (ap bodyFields e) ∙ q in
-          let at = headerSize (m .long) + length password in
-          let same = same-place m _ f behind s front l (placed m password before f behind (rw split at e)) (sym (is .0)) w i x y in
-          rw (stands-read m .0 is, e, split, ← n, nth-here before f behind at, same)
-
-  -- The ids of an accepted message's fields, each once: F4.
-  listed-ok : (x : Reading Message) → readOf s ≡ x → (id : ℕ) (l : Listed) (k : ℕ) → nthListed k (listedMessage x) ≡ listed-field l → l .id ≡ id
-      → namedListed id (listedMessage x) ≡ listed-field l
-  unfolding listedMessage listedBody nthListed MessageOk FieldsOk
-  listed-ok (refused f) r id l k n i = absurd (let z : _≡_ {A = ℕ} 0 1 = cc in omega arith)
-  listed-ok (got m) r id l k n i = go (m .body) (read-exactly s m b .0 r .1 .0) n
+  -- Absent is answered exactly where the message is accepted and its list has no such field: F9.
+  pub absent-exactly : (id : ℕ) → (fieldAnswer id s ≡ Absent) ↔ Lacks s id
+  unfolding Lacks fieldAnswer askedOf listedMessage listedBody namedListed bodyFields
+  absent-exactly id = (there (readOf s) refl, λ (m, is, none). rw (stands-read m .0 is) (by-body (bodyAt m) (m .body) .1 none))
     where
-      go : (x : Body) → LayoutOk (layoutOf (m .class) (m .instruction)) x → nthListed k (listedBody (headerSize (m .long)) x) ≡ listed-field l
-          → namedListed id (listedBody (headerSize (m .long)) x) ≡ listed-field l
-      go (bytes v) ok e = absurd (let z : _≡_ {A = ℕ} 0 1 = cc in omega arith)
-      go (listed password fs) ok e =
-          rw (← i) (nth-named fs [] (headerSize (m .long) + length password) k l (fields-ok _ password fs ok .0) e)
+      by-body : (at : ℕ) (x : Body) → (namedListed id (listedBody at x) ≡ Absent) ↔ ((f : Field) → In f (bodyFields x) → fieldId f ≡ id → ⊥)
+      by-body at (bytes v) = (λ e f k. in-none k, λ h. refl)
+      by-body at (listed password fs) = named-none id fs (listAt at password)
 
-  -- The field with an id is found where the field that has it stands.
-  pub named-exactly : (id : ℕ) (l : Listed) → (namedAnswer id s ≡ listed-field l) ↔ ((k : ℕ) × (f : Field) × Stands s k f l × (l .id ≡ id))
-  unfolding namedAnswer fieldAnswer
-  named-exactly id l = (
-    λ e. let (k, n, i) = named-nth id _ l e in let (f, st) = field-exactly k l .0 n in (k, f, st, i),
-    λ (k, f, st, i). listed-ok (readOf s) refl id l k (field-exactly k l .1 (f, st)) i,
-  )
+      there : (x : Reading Message) → readOf s ≡ x → askedOf id x ≡ Absent → Lacks s id
+      there (got m) r e = (m, stands-read m .1 r, by-body (bodyAt m) (m .body) .0 e)
+      there (refused r) q e = absent-refused (sym e)
 
-  -- `End` is answered exactly where no field stands.
-  pub field-end : (k : ℕ) → (fieldAnswer k s ≡ End) ↔ ((f : Field) (l : Listed) → Stands s k f l → ⊥)
-  field-end k = (λ e f l st. never (sym e ∙ field-exactly k l .1 (f, st)), λ n. only (fieldAnswer k s) refl n)
+  -- A refusal is that of reading: F10.
+  pub refused-exactly : (id : ℕ) (r : Refusal) → (fieldAnswer id s ≡ field-refused r) ↔ (readOf s ≡ refused r)
+  unfolding fieldAnswer askedOf
+  refused-exactly id r = (there (readOf s) refl, λ e. rw e)
     where
-      only : (x : FieldAnswer) → fieldAnswer k s ≡ x → ((f : Field) (l : Listed) → Stands s k f l → ⊥) → fieldAnswer k s ≡ End
-      only End e n = e
-      only (listed-field l) e n = let (f, st) = field-exactly k l .0 e in absurd (n f l st)
-
-  pub named-end : (id : ℕ) → (namedAnswer id s ≡ End) ↔ ((k : ℕ) (f : Field) (l : Listed) → Stands s k f l → l .id ≡ id → ⊥)
-  named-end id = (λ e k f l st i. never (sym e ∙ named-exactly id l .1 (k, f, st, i)), λ n. only (namedAnswer id s) refl n)
-    where
-      only : (x : FieldAnswer) → namedAnswer id s ≡ x → ((k : ℕ) (f : Field) (l : Listed) → Stands s k f l → l .id ≡ id → ⊥) → namedAnswer id s ≡ End
-      only End e n = e
-      only (listed-field l) e n = let (k, f, st, i) = named-exactly id l .0 e in absurd (n k f l st i)
+      there : (x : Reading Message) → readOf s ≡ x → askedOf id x ≡ field-refused r → readOf s ≡ refused r
+      there (got m) q e = absurd (never-refused id (listedMessage (got m)) r e)
+      there (refused f) q e = q ∙ cc
 
   -- The part of the message from .. to is the field's value, whatever its id.
-  pub found-part : (k : ℕ) (f : Field) (l : Listed) → Stands s k f l → part (l .from) (l .to) s ≡ fieldValue f
+  pub found-part : (k : ℕ) (f : Field) (p : Span) → Stands s k f p → part (p .from) (p .to) s ≡ fieldValue f
   unfolding Stands
-  found-part k f l (m, before, behind, front, is, q, n, w, i, x, y) =
+  found-part k f p (m, before, behind, front, is, q, n, w, x, y) =
       let size : length (front ++ fieldValue f) - length front ≡ length (fieldValue f) = omega (arith, length-append front (fieldValue f)) in
       rw (x, y, w, size, drop-append-seam front (fieldValue f ++ listBytes behind)) (take-append-seam (fieldValue f) (listBytes behind))
 
-  -- A list is found where it stands, and nowhere else.
-  pub list-exactly : (from to : ℕ) → (listPlace s ≡ Between from to) ↔ ListStands s from to
-  unfolding listPlace messagePlace bodyPlace ListStands
-  list-exactly from to = (there (readOf s) refl, back)
+  -- Directly before it stand the field's id and its length: F6.
+  pub follows : (k : ℕ) (f : Field) (p : Span) → Stands s k f p → Follows s f p
+  unfolding Stands Follows bodyFields listBytes MessageOk FieldsOk
+  follows k f p (m, before, behind, front, is, q, n, w, x, y) = go (m .body) refl
     where
-      in-body : (m : Message) → readOf s ≡ got m → (x : Body) → m .body ≡ x → bodyPlace (headerSize (m .long)) x (length (messageBytes m)) ≡ Between from to
-          → ListStands s from to
-      in-body m r (bytes v) q e = absurd (let z : _≡_ {A = ℕ} 0 1 = cc in omega arith)
-      in-body m r (listed password fs) q e =
-          let is = stands-read m .1 r in
-          let (front, whole, size) = list-ends m password fs q in
-          let x : headerSize (m .long) + length password ≡ from = cc in
-          let y : length (messageBytes m) ≡ to = cc in
-          (m, password, fs, front, is, q, sym (is .0) ∙ whole, sym x ∙ sym size, sym y ∙ ap length (is .0))
+      go : (v : Body) → m .body ≡ v → Follows s f p
+      go (bytes v) e = absurd (no-field before f behind (sym (ap bodyFields e) ∙ q))
+      go (listed password fs) e =
+          let split : fs ≡ before ++ (f ∷ behind) = sym (ap bodyFields e) ∙ q in
+          let ok = fields-ok (layoutOf (m .class) (m .instruction)) password fs (rw e at (is .1 .0)) .0 in
+          let (lead, own, leads) = value-behind f (field-in [] fs f ok (before, behind, split)) in
+          let (start, whole, size) = list-ends m password (before ++ (f ∷ behind)) (rw split at e) in
+          let ahead = start ++ listBytes before in
+          let value = fieldValue f in
+          let all : s ≡ ahead ++ (fieldId f ∷ (lead ++ (value ++ listBytes behind))) =
+          sym (is .0) ∙ whole ∙ rw (list-append before (f ∷ behind), own) (simp append-assoc) in (
+            ahead,
+            lead,
+            listBytes behind,
+            all,
+            leads,
+            omega (
+              arith,
+              ap length (sym w ∙ all),
+              length-append front (value ++ listBytes behind),
+              length-append ahead (fieldId f ∷ (lead ++ (value ++ listBytes behind))),
+              length-append lead (value ++ listBytes behind),
+              length-append ahead (fieldId f ∷ lead),
+            ),
+          )
 
-      there : (x : Reading Message) → readOf s ≡ x → messagePlace x ≡ Between from to → ListStands s from to
-      there (got m) r e = in-body m r (m .body) refl e
-      there (refused f) r e = absurd (let z : _≡_ {A = ℕ} 0 1 = cc in omega arith)
+  -- What a status information tells is such a part: P20.
+  pub told-stands : (id : ℕ) (value : List ℕ) → Tells s id value → (k : ℕ) × (p : Span) × Stands s k (plain id value) p
+  unfolding Tells
+  told-stands id value (long, fs, is, (before, after, split)) =
+      let m : Message = record { class = 0x04; instruction = 0x0F; long = long; body = listed [] fs } in
+      let p = spanAt (listAt (bodyAt m) [] + length (listBytes before)) (plain id value) in
+      (length before, p, stands-split m (stands-read m .0 is) [] fs before (plain id value) after (length before) p refl split refl refl)
 
-      back : ListStands s from to → listPlace s ≡ Between from to
-      back (m, password, fs, front, is, q, w, x, y) =
-          let (start, whole, size) = list-ends m password fs q in
-          let a : headerSize (m .long) + length password ≡ from =
-          omega (arith, size, ap length (sym whole ∙ is .0 ∙ w), length-append start (listBytes fs), length-append front (listBytes fs)) in
-          let e : length (messageBytes m) ≡ to = ap length (is .0) ∙ sym y in
-          rw (stands-read m .0 is, e, q, a)
+  -- What is handed back, and where it lies, is that part or the other bytes: F11.
+  pub handed-exactly : (id : ℕ) (other value : List ℕ) (p q r : ℕ × ℕ)
+      → Handed s p other q id value r ↔ ((value ≡ handedBytes s other (fieldAnswer id s)) × (r ≡ handedPlace p q (fieldAnswer id s)))
+  unfolding Handed StandsBy handedBytes handedPlace
+  handed-exactly id other value p q r = (⊎-elim held (λ (n, e, d). free n e d (fieldAnswer id s) refl), λ (e, d). back (fieldAnswer id s) refl e d)
+    where
+      held : ((k : ℕ) × (f : Field) × (l : Span) × Stands s k f l × (fieldId f ≡ id) × (value ≡ fieldValue f) × (r ≡ (p .0, l .from + p .1)))
+          → (value ≡ handedBytes s other (fieldAnswer id s)) × (r ≡ handedPlace p q (fieldAnswer id s))
+      held (k, f, l, st, i, v, d) = rw (value-exactly id l .1 (k, f, st, i)) (v ∙ sym (found-part k f l st), d)
+
+      free : ((l : Span) → StandsBy s id l → ⊥) → value ≡ other → r ≡ q → (x : FieldAnswer) → fieldAnswer id s ≡ x
+          → (value ≡ handedBytes s other (fieldAnswer id s)) × (r ≡ handedPlace p q (fieldAnswer id s))
+      free n e d Absent at = rw at (e, d)
+      free n e d (Value l) at = absurd (n l (value-exactly id l .0 at))
+      free n e d (field-refused f) at = rw at (e, d)
+
+      back : (x : FieldAnswer) → fieldAnswer id s ≡ x → value ≡ handedBytes s other (fieldAnswer id s) → r ≡ handedPlace p q (fieldAnswer id s)
+          → Handed s p other q id value r
+      back Absent at e d = inr (λ l st. not-absent (sym at ∙ value-exactly id l .1 st), rw at at e, rw at at d)
+      back (Value l) at e d =
+          let (k, f, st, i) = value-exactly id l .0 at in
+          inl (k, f, l, st, i, (rw at at e) ∙ found-part k f l st, rw at at d)
+      back (field-refused f) at e d = inr (λ l st. not-refused (sym at ∙ value-exactly id l .1 st), rw at at e, rw at at d)
+
+-- ---- where the parts lie
+-- of two fields of one list, one stands behind the other
+behind-it : (f g : Field) (after later before between : List Field) → before ++ (f ∷ after) ≡ between ++ (g ∷ later) → length before < length between
+    → (mid : List Field) × (after ≡ mid ++ (g ∷ later))
+behind-it f g after later before [] e h = absurd (omega arith)
+behind-it f g after later [] (x ∷ between) e h = (between, cc)
+behind-it f g after later (y ∷ before) (x ∷ between) e h = behind-it f g after later before between (cc) (omega arith)
+
+-- or they are the same
+same-field : (f g : Field) (after later before between : List Field) → before ++ (f ∷ after) ≡ between ++ (g ∷ later) → length before ≡ length between → f ≡ g
+same-field f g after later [] [] e h = cc
+same-field f g after later [] (x ∷ between) e h = absurd (omega arith)
+same-field f g after later (y ∷ before) [] e h = absurd (omega arith)
+same-field f g after later (y ∷ before) (x ∷ between) e h = same-field f g after later before between (cc) (omega arith)
+
+-- before a value stands its id at least
+head-some : (f : Field) → length (fieldValue f) < length (fieldBytes f)
+unfolding fieldBytes fieldValue sized
+head-some (plain id value) = omega (arith, length-append (lengthIn (formatOf id) (length value)) value)
+head-some (container form os) = let w = runBytes os in omega (arith, length-append (lenBytes form (length w)) w)
+
+module _ (s : List ℕ) (b : Bytes s) where
+  same-message : (m n : Message) → Is s m → Is s n → m ≡ n
+  same-message m n x y = got-same (sym (stands-read s b m .0 x) ∙ stands-read s b n .0 y)
+
+  -- the part of the later field begins behind that of the earlier one and the later one's id
+  in-order : (j k : ℕ) (f g : Field) (p q : Span) → Stands s j f p → Stands s k g q → j < k → p .to < q .from
+  unfolding Stands listBytes
+  in-order j k f g p q (m, before, behind, front, is, x, n, w, from, to) (m′, between, later, front′, is′, x′, n′, w′, from′, to′) h =
+      let same : before ++ (f ∷ behind) ≡ between ++ (g ∷ later) = sym x ∙ ap (λ (y : Message). bodyFields (y .body)) (same-message m m′ is is′) ∙ x′ in
+      let (mid, e) = behind-it f g behind later before between same (omega arith) in
+      omega (
+        arith,
+        head-some g,
+        ap length w,
+        ap length w′,
+        length-append front (fieldValue f ++ listBytes behind),
+        length-append (fieldValue f) (listBytes behind),
+        length-append front (fieldValue f),
+        length-append front′ (fieldValue g ++ listBytes later),
+        length-append (fieldValue g) (listBytes later),
+        ap (λ (fs : List Field). length (listBytes fs)) e ∙ ap length (list-append mid (g ∷ later)),
+        length-append (listBytes mid) (fieldBytes g ++ listBytes later),
+        length-append (fieldBytes g) (listBytes later),
+      )
+
+  number-same : (k : ℕ) (f g : Field) (p q : Span) → Stands s k f p → Stands s k g q → f ≡ g
+  unfolding Stands
+  number-same k f g p q (m, before, behind, front, is, x, n, w, from, to) (m′, between, later, front′, is′, x′, n′, w′, from′, to′) =
+      same-field f g behind later before between (sym x ∙ ap (λ (y : Message). bodyFields (y .body)) (same-message m m′ is is′) ∙ x′) (omega arith)
+
+  -- Two questions give parts that do not overlap: an id stands between them at least.
+  pub apart : (i j : ℕ) (p q : Span) → (i ≡ j → ⊥) → StandsBy s i p → StandsBy s j q → (p .to < q .from) ⊎ (q .to < p .from)
+  unfolding StandsBy
+  apart i j p q n (k, f, st, a) (l, g, st′, c) =
+      by-test (leb k l)
+      (λ t. ⊎-elim (λ e. absurd (n (sym a ∙ ap fieldId (number-same l f g p q (rw e at st) st′) ∙ c)))
+      (λ h. inl (in-order k l f g p q st st′ h)) (eq-or-lt-of-le (leb-true k l t)))
+      (λ t. inr (in-order l k g f q p st′ st (leb-false k l t)))
+
+  -- A part lies in the body, behind the password.
+  behind-start : (k : ℕ) (f : Field) (p : Span) → Stands s k f p → (m : Message) → Is s m → (x : Body) → m .body ≡ x
+      → (passwordIn (bodyAt m) x .to < p .from) × (headerSize (m .long) < p .from)
+  unfolding Stands bodyFields listBytes passwordIn
+  behind-start k f p (m′, before, behind, front, is′, x, n, w, from, to) m is (bytes v) e =
+      absurd (no-field before f behind (sym (ap bodyFields (sym (ap (λ (y : Message). y .body) (same-message m m′ is is′)) ∙ e)) ∙ x))
+  behind-start k f p (m′, before, behind, front, is′, x, n, w, from, to) m is (listed password fs) e =
+      let split : fs ≡ before ++ (f ∷ behind) = sym (ap bodyFields (sym (ap (λ (y : Message). y .body) (same-message m m′ is is′)) ∙ e)) ∙ x in
+      let (start, whole, size) = list-ends m password fs e in
+      let far : listAt (bodyAt m) password < p .from =
+      omega (
+        arith,
+        head-some f,
+        ap length (sym w ∙ sym (is .0) ∙ whole),
+        length-append front (fieldValue f ++ listBytes behind),
+        length-append (fieldValue f) (listBytes behind),
+        length-append start (listBytes fs),
+        ap (λ (gs : List Field). length (listBytes gs)) split ∙ ap length (list-append before (f ∷ behind)),
+        length-append (listBytes before) (fieldBytes f ++ listBytes behind),
+        length-append (fieldBytes f) (listBytes behind),
+      ) in
+      (password-to (headerSize (m .long)) password fs (p .from) far, omega arith)
+    where
+      password-to : (at : ℕ) (w : List ℕ) (gs : List Field) (end : ℕ) → at + length w < end → passwordIn at (listed w gs) .to < end
+      password-to at [] gs end h = omega arith
+      password-to at (d ∷ w) gs end h = omega arith
+
+  pub in-body : (m : Message) (id : ℕ) (p : Span) → Is s m → StandsBy s id p
+      → (headerSize (m .long) < p .from) × (p .from ≤ p .to) × (p .to ≤ length s)
+  unfolding StandsBy Stands
+  in-body m id p is (k, f, st, i) =
+      let (m′, before, behind, front, is′, x, n, w, from, to) = st in (
+        behind-start k f p st m is (m .body) refl .1,
+        omega (arith, length-append front (fieldValue f)),
+        omega (arith, ap length w, length-append front (fieldValue f ++ listBytes behind), length-append (fieldValue f) (listBytes behind), length-append front (fieldValue f)),
+      )
+
+  pub behind-password : (id : ℕ) (p : Span) → StandsBy s id p → passwordSpan (readOf s) .to < p .from
+  unfolding StandsBy Stands passwordSpan
+  behind-password id p (k, f, st, i) =
+      let is = st .4 in rw (stands-read s b (st .0) .0 is) (behind-start k f p st (st .0) is (st .0 .body) refl .0)
+
+-- ---- the ids of a list, in their order
+ids-split : (fs : List Field) (at k : ℕ) → k < length (idsListed (listedFrom at fs))
+    → (before : List Field) × (f : Field) × (behind : List Field) × (fs ≡ before ++ (f ∷ behind)) × (length before ≡ k)
+    × (getD (idsListed (listedFrom at fs)) k 0 ≡ fieldId f)
+unfolding idsListed listedFrom listedAt
+ids-split [] at k h = absurd (omega arith)
+ids-split (f ∷ fs) at zero h = ([], f, fs, refl, refl, refl)
+ids-split (f ∷ fs) at (suc k) h =
+    let (before, g, behind, e, n, i) = ids-split fs (nextAt at f) k (omega arith) in
+    (f ∷ before, g, behind, ap (λ (gs : List Field). f ∷ gs) e, ap suc n, i)
+
+ids-here : (before : List Field) (f : Field) (behind : List Field) (at : ℕ)
+    → let ids = idsListed (listedFrom at (before ++ (f ∷ behind))) in (length before < length ids) × (getD ids (length before) 0 ≡ fieldId f)
+unfolding idsListed listedFrom listedAt
+ids-here [] f behind at = (omega arith, refl)
+ids-here (g ∷ before) f behind at = let h = ids-here before f behind (nextAt at g) in (omega (arith, h .0), h .1)
+
+-- of the message that s is
+module _ (s : List ℕ) (b : Bytes s) where
+  abbrev ids : List ℕ
+  ids = idsListed (listedMessage (readOf s))
+
+  id-exactly : (k id : ℕ) → ((k < length ids) × (getD ids k 0 ≡ id)) ↔ ((f : Field) × (p : Span) × Stands s k f p × (fieldId f ≡ id))
+  unfolding idsListed listedMessage listedBody Stands bodyFields
+  id-exactly k id = (λ (h, e). there (readOf s) refl h e, λ (f, p, st, i). back f p st i (st .0 .body) refl)
+    where
+      in-list : (m : Message) → readOf s ≡ got m → (x : Body) → m .body ≡ x → k < length (idsListed (listedBody (bodyAt m) x))
+          → getD (idsListed (listedBody (bodyAt m) x)) k 0 ≡ id → (f : Field) × (p : Span) × Stands s k f p × (fieldId f ≡ id)
+      in-list m r (bytes v) q h e = absurd (omega arith)
+      in-list m r (listed password fs) q h e =
+          let (before, f, behind, split, n, i) = ids-split fs (listAt (bodyAt m) password) k h in
+          let p = spanAt (listAt (bodyAt m) password + length (listBytes before)) f in
+          (f, p, stands-split s b m r password fs before f behind k p q split n refl, sym i ∙ e)
+
+      there : (x : Reading Message) → readOf s ≡ x → k < length (idsListed (listedMessage x)) → getD (idsListed (listedMessage x)) k 0 ≡ id
+          → (f : Field) × (p : Span) × Stands s k f p × (fieldId f ≡ id)
+      there (got m) r h e = in-list m r (m .body) refl h e
+      there (refused r) q h e = absurd (omega arith)
+
+      back : (f : Field) (p : Span) (st : Stands s k f p) → fieldId f ≡ id → (x : Body) → st .0 .body ≡ x → (k < length ids) × (getD ids k 0 ≡ id)
+      back f p (m, before, behind, front, is, q, n, w, x, y) i (bytes v) e = absurd (no-field before f behind (sym (ap bodyFields e) ∙ q))
+      back f p (m, before, behind, front, is, q, n, w, x, y) i (listed password fs) e =
+          let split : fs ≡ before ++ (f ∷ behind) = sym (ap bodyFields e) ∙ q in
+          let h = ids-here before f behind (listAt (bodyAt m) password) in
+          rw (stands-read s b m .0 is, e, split, ← n) (h .0, h .1 ∙ i)
+
+-- of the message that s begins with
+front-bytes : (front rest s : List ℕ) → Bytes s → s ≡ front ++ rest → Bytes front
+front-bytes front rest s b e =
+    let n : length front - 0 ≡ length front = omega arith in rw (n, e, take-append-seam front rest) at (bytes-part 0 (length front) s b)
+
+module _ (s : List ℕ) (b : Bytes s) where
+  -- Number k is the id of field number k of that message, in the bytes that are its own.
+  pub first-id-exactly : (k id : ℕ)
+      → ((k < length (firstIds s)) × (getD (firstIds s) k 0 ≡ id))
+      ↔ ((front : List ℕ) × (rest : List ℕ) × (s ≡ front ++ rest) × (f : Field) × (p : Span) × Stands front k f p × (fieldId f ≡ id))
+  unfolding firstIds idsListed listedMessage Stands
+  first-id-exactly k id = (λ (h, e). there (firstOf s) refl h e, back)
+    where
+      there : (x : Reading Message) → firstOf s ≡ x → k < length (idsListed (listedMessage x)) → getD (idsListed (listedMessage x)) k 0 ≡ id
+          → (front : List ℕ) × (rest : List ℕ) × (s ≡ front ++ rest) × (f : Field) × (p : Span) × Stands front k f p × (fieldId f ≡ id)
+      there (got m) q h e =
+          let (rest, is) = first-exactly s m b .0 q in
+          let front = messageBytes m in
+          let own = front-bytes front rest s b (sym (is .0)) in
+          let (f, p, st, i) = id-exactly front own k id .0 (rw (read-complete m (is .1)) (h, e)) in
+          (front, rest, sym (is .0), f, p, st, i)
+      there (refused r) q h e = absurd (omega arith)
+
+      back : (front : List ℕ) × (rest : List ℕ) × (s ≡ front ++ rest) × (f : Field) × (p : Span) × Stands front k f p × (fieldId f ≡ id)
+          → (k < length (idsListed (listedMessage (firstOf s)))) × (getD (idsListed (listedMessage (firstOf s))) k 0 ≡ id)
+      back (front, rest, e, f, p, st, i) =
+          let is = st .4 in
+          let own = front-bytes front rest s b e in
+          let first : firstOf s ≡ got (st .0) = first-exactly s (st .0) b .1 (rest, (ap (λ (w : List ℕ). w ++ rest) (is .0) ∙ sym e, is .1)) in
+          rw first (rw (stands-read front own (st .0) .0 is) at (id-exactly front own k id .1 (f, p, st, i)))

@@ -1,18 +1,16 @@
--- What a desk, a tape and a lister ask of a message, by the answers that are stated already and by the bytes. Assumes nothing.
+-- What a desk and a tape ask of a message, by the answers that are stated already and by the bytes. Assumes nothing.
 use mathlib.Core.Path.{_≡_, refl, sym, ap, _∙_}
 use mathlib.Core.Bool.{Bool, true, false}
 use mathlib.Core.Logic.{_↔_}
 use mathlib.Core.List.{List, [], _∷_, _++_}
-use Prim.Native.Nat.{ℕ, zero, suc, _+_, _-_, _≤_, _<_}
+use Prim.Native.Nat.{ℕ, zero, suc, _+_, _-_, _<_}
 use native.Mathlib.Omega.{arith}
 use lib.ListN.{length, getD, drop}
 use lib.Seq.{take-append-seam}
-use lib.Dec.{eqb}
 use Rattle.zvt_rules.specs.declared.Refusal.{Refusal}
-use Rattle.zvt_rules.specs.declared.Listed.{Listed}
 use Rattle.zvt_rules.specs.declared.Span.{Span}
 use Rattle.zvt_rules.specs.declared.FieldAnswer.{FieldAnswer}
-use Rattle.zvt_rules.specs.declared.FieldAnswer.the-variants.{Field as listed-field, End}
+use Rattle.zvt_rules.specs.declared.FieldAnswer.the-variants.{Absent, Value, Refused as field-refused}
 use Rattle.zvt_rules.specs.declared.HeaderAnswer.{HeaderAnswer}
 use Rattle.zvt_rules.specs.declared.HeaderAnswer.the-variants.{Header as header-got, Refused as header-refused}
 use Rattle.zvt_rules.specs.declared.ReadAnswer.the-variants.{Refused}
@@ -23,18 +21,18 @@ use Rattle.zvt_rules.specs.declared.ToldAnswer.the-variants.{Told, Refus
 use Rattle.zvt_rules.specs.declared.HearAnswer.{HearAnswer}
 use Rattle.zvt_rules.specs.declared.HearAnswer.the-variants.{Heard, Refused as unheard}
 use Rattle.zvt_rules.specs.Reading.{Reading, got, refused, part}
-use Rattle.zvt_rules.specs.Fields.{Field, plain, container, fieldId}
+use Rattle.zvt_rules.specs.Fields.{Field}
 use Rattle.zvt_rules.specs.Message.{Heading, headerSize, wholeHeader, Body, bytes, listed, Message, readOf}
-use Rattle.zvt_rules.specs.believed.Writing.{fieldBytes, listBytes, bodyBytes, lengthBytes, messageBytes}
+use Rattle.zvt_rules.specs.believed.Writing.{listBytes, bodyBytes, lengthBytes, messageBytes}
 use Rattle.zvt_rules.specs.believed.Grammar.{Bytes}
 use Rattle.zvt_rules.specs.believed.Values.{Is}
 use Rattle.zvt_rules.specs.Values.{statusIn, statusFields, statusOf}
 use Rattle.zvt_rules.specs.Answers.{headerIn, asHeaderAnswer, headerAnswer, asReadAnswer, readAnswer}
-use Rattle.zvt_rules.specs.Listed.{listedAt, listedFrom, listedBody, listedMessage, nthListed, namedListed, fieldAnswer, namedAnswer, idsListed, idsAnswer, nowhere, spanOf, spansIn, passwordIn, passwordSpan, placesAnswer}
+use Rattle.zvt_rules.specs.Listed.{askedOf, fieldAnswer, nowhere, spanOf, spansOf, passwordIn, passwordSpan, placesAnswer}
 use Rattle.zvt_rules.specs.Heard.{firstOf, toldIn, toldAnswer, asHearAnswer, hearAnswer}
-use Rattle.zvt_rules.proofs.Tests.{pick-test}
 use Rattle.zvt_rules.proofs.Readings.{got-same, got-not-refused}
-use Rattle.zvt_rules.proofs.Found.{stands-read}
+use Rattle.zvt_rules.specs.believed.Found.{StandsBy}
+use Rattle.zvt_rules.proofs.Found.{stands-read, value-exactly, behind-password}
 
 -- ---- what a desk asks: the header as it is answered alone
 unfoldable pub heardBy : ToldAnswer → HeaderAnswer → HearAnswer
@@ -92,47 +90,29 @@ module _ (s : List ℕ) (t : ToldBody) (e : toldAnswer (readOf s) ≡ Told t) wh
   )
 
 -- ---- what a tape asks: each place is that of the field with its id, and the password lies at its own
-named-spans : (ls : List Listed) (ids : List ℕ) (j : ℕ) → j < length ids → getD (spansIn ls ids) j nowhere ≡ spanOf (namedListed (getD ids j 0) ls)
-unfolding spansIn
-named-spans ls [] j h = absurd (omega arith)
-named-spans ls (id ∷ ids) zero h = refl
-named-spans ls (id ∷ ids) (suc j) h = named-spans ls ids j (omega arith)
+named-spans : (r : Reading Message) (ids : List ℕ) (j : ℕ) → j < length ids → getD (spansOf r ids) j nowhere ≡ spanOf (askedOf (getD ids j 0) r)
+unfolding spansOf
+named-spans r [] j h = absurd (omega arith)
+named-spans r (id ∷ ids) zero h = refl
+named-spans r (id ∷ ids) (suc j) h = named-spans r ids j (omega arith)
 
-pub place-named : (ids s : List ℕ) (j : ℕ) → j < length ids → getD (placesAnswer ids s .fields) j nowhere ≡ spanOf (namedAnswer (getD ids j 0) s)
-unfolding placesAnswer namedAnswer
-place-named ids s = named-spans (listedMessage (readOf s)) ids
+pub place-named : (ids s : List ℕ) (j : ℕ) → j < length ids → getD (placesAnswer ids s .fields) j nowhere ≡ spanOf (fieldAnswer (getD ids j 0) s)
+unfolding placesAnswer fieldAnswer
+place-named ids s = named-spans (readOf s) ids
 
 -- no field's value ends at 0: nowhere is where there is no such field
-some : (f : Field) → 1 ≤ length (fieldBytes f)
-unfolding fieldBytes
-some (plain id value) = omega arith
-some (container form os) = omega arith
-
-named-to : (id at : ℕ) (fs : List Field) (l : Listed) → namedListed id (listedFrom at fs) ≡ listed-field l → 0 < l .to
-unfolding listedFrom listedAt namedListed
-named-to id at [] l e = absurd (let z : _≡_ {A = ℕ} 0 1 = cc in omega arith)
-named-to id at (f ∷ fs) l e =
-    let Behind : FieldAnswer → Type 0 = λ x. x ≡ listed-field l → 0 < l .to in
-    pick-test Behind (eqb (fieldId f) id)
-    (λ _ q. let same : at + length (fieldBytes f) ≡ l .to = cc in omega (arith, some f))
-    (λ _ q. named-to id (at + length (fieldBytes f)) fs l q) e
-
-message-to : (id : ℕ) (x : Reading Message) (l : Listed) → namedListed id (listedMessage x) ≡ listed-field l → 0 < l .to
-unfolding listedMessage listedBody namedListed
-message-to id (refused f) l e = absurd (let z : _≡_ {A = ℕ} 0 1 = cc in omega arith)
-message-to id (got m) l e = go (m .body) e
+pub nowhere-exactly : (id : ℕ) (s : List ℕ) → Bytes s
+    → (spanOf (fieldAnswer id s) ≡ record { from = 0; to = 0 }) ↔ ((p : Span) → StandsBy s id p → ⊥)
+unfolding spanOf
+nowhere-exactly id s b = (λ e p st. some p st (ap spanOf (sym (value-exactly s b id p .1 st)) ∙ e), λ n. go (fieldAnswer id s) refl n)
   where
-    go : (x : Body) → namedListed id (listedBody (headerSize (m .long)) x) ≡ listed-field l → 0 < l .to
-    go (bytes w) h = absurd (let z : _≡_ {A = ℕ} 0 1 = cc in omega arith)
-    go (listed password fs) h = named-to id (headerSize (m .long) + length password) fs l h
+    some : (p : Span) → StandsBy s id p → p ≡ record { from = 0; to = 0 } → ⊥
+    some p st e = omega (arith, behind-password s b id p st, ap (λ (q : Span). q .from) e)
 
-pub nowhere-exactly : (id : ℕ) (s : List ℕ) → (spanOf (namedAnswer id s) ≡ record { from = 0; to = 0 }) ↔ (namedAnswer id s ≡ End)
-unfolding spanOf namedAnswer
-nowhere-exactly id s = (go (namedListed id (listedMessage (readOf s))) refl, λ e. ap spanOf e)
-  where
-    go : (x : FieldAnswer) → namedListed id (listedMessage (readOf s)) ≡ x → spanOf x ≡ record { from = 0; to = 0 } → x ≡ End
-    go End q e = refl
-    go (listed-field l) q e = absurd (omega (arith, message-to id (readOf s) l q, ap (λ (p : Span). p .to) e))
+    go : (x : FieldAnswer) → fieldAnswer id s ≡ x → ((p : Span) → StandsBy s id p → ⊥) → spanOf (fieldAnswer id s) ≡ record { from = 0; to = 0 }
+    go Absent e n = ap spanOf e
+    go (Value p) e n = absurd (n p (value-exactly s b id p .0 e))
+    go (field-refused r) e n = ap spanOf e
 
 password-none : (at : ℕ) (x : Body)
     → (passwordIn at x ≡ record { from = 0; to = 0 }) ↔ ((password : List ℕ) (fs : List Field) → x ≡ listed password fs → password ≡ [])
@@ -182,24 +162,9 @@ password-part ids s m password fs b is q =
     let w : drop at s ≡ password ++ listBytes fs = rw (← (is .0), q) (behind (m .long) (m .class) (m .instruction) _ (password ++ listBytes fs)) in
     rw (stands-read s b m .0 is, q) (front at password (listBytes fs) s fs w)
 
--- ---- what a lister asks: the ids of the fields, one after the other
-id-listed : (ls : List Listed) (k : ℕ) (l : Listed) → nthListed k ls ≡ listed-field l → (k < length (idsListed ls)) × (getD (idsListed ls) k 0 ≡ l .id)
-unfolding nthListed idsListed
-id-listed [] k l e = absurd (let z : _≡_ {A = ℕ} 0 1 = cc in omega arith)
-id-listed (x ∷ ls) zero l e = let same : x ≡ l = cc in (omega arith, rw same)
-id-listed (x ∷ ls) (suc k) l e = let h = id-listed ls k l e in (omega (arith, h .0), h .1)
-
-end-listed : (ls : List Listed) (k : ℕ) → (nthListed k ls ≡ End) ↔ (length (idsListed ls) ≤ k)
-unfolding nthListed idsListed
-end-listed [] k = (λ e. omega arith, λ h. refl)
-end-listed (x ∷ ls) zero = (λ e. absurd (let z : _≡_ {A = ℕ} 0 1 = cc in omega arith), λ h. absurd (omega arith))
-end-listed (x ∷ ls) (suc k) = let r = end-listed ls k in (λ e. omega (arith, r .0 e), λ h. r .1 (omega arith))
-
-module _ (s : List ℕ) (k : ℕ) where
-  pub id-at : (l : Listed) → fieldAnswer k s ≡ listed-field l → (k < length (idsAnswer s)) × (getD (idsAnswer s) k 0 ≡ l .id)
-  unfolding fieldAnswer idsAnswer
-  id-at l e = id-listed (listedMessage (readOf s)) k l e
-
-  pub ids-end : (fieldAnswer k s ≡ End) ↔ (length (idsAnswer s) ≤ k)
-  unfolding fieldAnswer idsAnswer
-  ids-end = end-listed (listedMessage (readOf s)) k
+-- at the start of the body
+pub password-from : (ids s : List ℕ) (m : Message) (password : List ℕ) (fs : List Field) → Bytes s → Is s m → m .body ≡ listed password fs
+    → (password ≡ [] → ⊥) → placesAnswer ids s .password .from ≡ headerSize (m .long)
+unfolding placesAnswer passwordSpan passwordIn
+password-from ids s m [] fs b is q n = absurd (n refl)
+password-from ids s m (d ∷ password) fs b is q n = rw (stands-read s b m .0 is, q)

@@ -15,7 +15,7 @@ use Rattle.zvt_rules.specs.Fields.{Field, fieldId}
 use Rattle.zvt_rules.specs.Message.{headerSize, layoutOf, Body, bytes, listed, Message, readOf}
 use Rattle.zvt_rules.specs.believed.Writing.{fieldBytes, listBytes}
 use Rattle.zvt_rules.specs.believed.Grammar.{Bytes, ListOk, FieldsOk, MessageOk}
-use Rattle.zvt_rules.specs.Listed.{listedFrom, listedBody, listedMessage, idsListed, idsAnswer}
+use Rattle.zvt_rules.specs.Listed.{listedFrom, listedBody, listedMessage, idsListed}
 use Rattle.zvt_rules.proofs.Tests.{pick-test}
 use Rattle.zvt_rules.proofs.ObjectBytes.{bytes-drop}
 use Rattle.zvt_rules.proofs.FieldBytes.{begins}
@@ -86,6 +86,5 @@ message-few s (got m) e b = go (m .body) refl
         let list : Bytes (listBytes fs) = rw (whole, drop-append-seam (ends .0) (listBytes fs)) at (bytes-drop (length (ends .0)) s b) in
         omega (arith, listed-size (headerSize (m .long) + length password) fs, fields-held [] fs (ok .0) list)
 
-pub ids-few : (s : List ℕ) → Bytes s → length (idsAnswer s) ≤ 256
-unfolding idsAnswer
+pub ids-few : (s : List ℕ) → Bytes s → length (idsListed (listedMessage (readOf s))) ≤ 256
 ids-few s b = omega (arith, ids-size (listedMessage (readOf s)), message-few s (readOf s) refl b)

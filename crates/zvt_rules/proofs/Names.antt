@@ -9,21 +9,21 @@ use lib.ListN.{length, getD}
 use lib.Seq.{take-append-seam, drop-append-seam}
 use lib.Dec.{eqb}
 use borrow.Author.Tests.{eqb-true, eqb-false, ne-eqb}
-use Rattle.zvt_rules.specs.declared.Listed.{Listed}
+use Rattle.zvt_rules.specs.declared.Span.{Span}
 use Rattle.zvt_rules.specs.declared.FieldAnswer.{FieldAnswer}
-use Rattle.zvt_rules.specs.declared.FieldAnswer.the-variants.{Field as listed-field, End}
+use Rattle.zvt_rules.specs.declared.FieldAnswer.the-variants.{Absent, Value, Refused as field-refused}
 use Rattle.zvt_rules.specs.Reading.{Reading, got, refused, part}
-use Rattle.zvt_rules.specs.Fields.{Field}
+use Rattle.zvt_rules.specs.Fields.{Field, fieldId}
 use Rattle.zvt_rules.specs.Message.{Message, readOf}
 use Rattle.zvt_rules.specs.believed.Writing.{listBytes, bodyBytes, lengthBytes, messageBytes, fieldValue}
 use Rattle.zvt_rules.specs.believed.Grammar.{Bytes}
 use Rattle.zvt_rules.specs.Values.{isStatus}
-use Rattle.zvt_rules.specs.Listed.{listedMessage, namedListed, namedAnswer}
+use Rattle.zvt_rules.specs.Listed.{askedOf, fieldAnswer}
 use Rattle.zvt_rules.specs.Name.{upToZero, NameAt, own, between, sizedName, nameIn, nameOf, nameAt, nameBytes, cardName, namePlace}
-use Rattle.zvt_rules.specs.believed.Found.{Stands}
+use Rattle.zvt_rules.specs.believed.Found.{Stands, StandsBy}
 use Rattle.zvt_rules.specs.believed.Names.{UpToZero, Holds, Shown}
 use Rattle.zvt_rules.proofs.Tests.{by-test, pick-test, eqb-test, and-test}
-use Rattle.zvt_rules.proofs.Found.{named-exactly, found-part, stands-read}
+use Rattle.zvt_rules.proofs.Found.{value-exactly, found-part, stands-read}
 
 -- ---- up to a zero byte
 abbrev NoZero : List ℕ → Type 0
@@ -87,25 +87,26 @@ not-own h = let z : _≡_ {A = ℕ} 0 1 = cc in omega arith
 module _ (s : List ℕ) (b : Bytes s) where
   holds-at : (name : List ℕ) (from : ℕ) → Holds s name from
       → (nameAt s ≡ between from (from + length name)) × (part from (from + length name) s ≡ name)
-  unfolding Holds Stands messageBytes nameAt nameOf nameIn sizedName namedAnswer
+  unfolding Holds Stands StandsBy messageBytes nameAt nameOf nameIn sizedName fieldAnswer
   holds-at name from (rest, k, f, l, pair, st, i, a, up, some) =
-      let (m, before, behind, front, is, q, n, w, j, x, y) = st in
+      let (m, before, behind, front, is, q, n, w, x, y) = st in
       let read = stands-read s b m .0 is in
       let class : m .class ≡ 0x04 = cc (is .0, pair) in
       let instruction : m .instruction ≡ 0x0F = cc (is .0, pair) in
-      let found = rw read at (named-exactly s b 0x8B l .1 (k, f, st, i)) in
+      let found = rw read at (value-exactly s b 0x8B l .1 (k, f, st, i)) in
       let u = up-to-exactly (fieldValue f) name .0 up in
       let begins : length front ≡ from = sym x ∙ a in (
         rw (read, found, class, instruction, found-part s b k f l st, ← u, ne-eqb (length name) 0 (λ e. omega arith), a),
         rw (w, ← begins) (name-stands front (fieldValue f) (listBytes behind) name up),
       )
 
-  holds-found : (m : Message) (a e : ℕ) → readOf s ≡ got m → isStatus m ≡ true → (x : FieldAnswer) → namedListed 0x8B (listedMessage (got m)) ≡ x
+  holds-found : (m : Message) (a e : ℕ) → readOf s ≡ got m → isStatus m ≡ true → (x : FieldAnswer) → askedOf 0x8B (got m) ≡ x
       → nameIn s x ≡ between a e → (name : List ℕ) × Holds s name a × (a + length name ≡ e)
-  unfolding nameIn Holds messageBytes namedAnswer
-  holds-found m a e r t End q h = absurd (let z : _≡_ {A = ℕ} 0 1 = cc in omega arith)
-  holds-found m a e r t (listed-field l) q h =
-      let (k, f, st, i) = named-exactly s b 0x8B l .0 (rw r q) in
+  unfolding nameIn Holds StandsBy messageBytes fieldAnswer
+  holds-found m a e r t Absent q h = absurd (not-own h)
+  holds-found m a e r t (field-refused f) q h = absurd (not-own h)
+  holds-found m a e r t (Value l) q h =
+      let (k, f, st, i) = value-exactly s b 0x8B l .0 (rw r q) in
       let name = upToZero (fieldValue f) in
       let (some, from, to) = sized-at (l .from) (length name) a e (rw (found-part s b k f l st) at h) in
       let is = stands-read s b m .1 r in
@@ -120,7 +121,7 @@ module _ (s : List ℕ) (b : Bytes s) where
       by-reading : (x : Reading Message) → readOf s ≡ x → nameOf s x ≡ between a e → (name : List ℕ) × Holds s name a × (a + length name ≡ e)
       by-reading (refused f) r h = absurd (let z : _≡_ {A = ℕ} 0 1 = cc in omega arith)
       by-reading (got m) r h =
-          by-test (isStatus m) (λ t. holds-found m a e r t (namedListed 0x8B (listedMessage (got m))) refl (rw t at h))
+          by-test (isStatus m) (λ t. holds-found m a e r t (askedOf 0x8B (got m)) refl (rw t at h))
           (λ t. absurd (let z : _≡_ {A = ℕ} 0 1 = cc (rw t at h) in omega arith))
 
   -- The name that is answered, and where it lies, are what is shown, and nothing else is: M13 to M15.
@@ -150,15 +151,15 @@ module _ (s : List ℕ) (b : Bytes s) where
   part-not-empty a e h = let (name, k, x) = at-holds a e h in omega (arith, k .9)
 
   -- Where field 8B has an empty name, the answer is the till's own.
-  pub empty-own : (k : ℕ) (f : Field) (l : Listed) → Stands s k f l → l .id ≡ 0x8B → UpToZero (fieldValue f) [] → nameAt s ≡ own
-  unfolding Holds
+  pub empty-own : (k : ℕ) (f : Field) (l : Span) → Stands s k f l → fieldId f ≡ 0x8B → UpToZero (fieldValue f) [] → nameAt s ≡ own
+  unfolding Holds StandsBy
   empty-own k f l st i empty = go (nameAt s) refl
     where
       go : (x : NameAt) → nameAt s ≡ x → nameAt s ≡ own
       go own e = e
       go (between a z) e =
           let (name, (rest, k′, f′, l′, pair, st′, i′, from, up, some), x) = at-holds a z e in
-          let same : l ≡ l′ = cc (named-exactly s b 0x8B l .1 (k, f, st, i), named-exactly s b 0x8B l′ .1 (k′, f′, st′, i′)) in
-          let value : fieldValue f ≡ fieldValue f′ = sym (found-part s b k f l st) ∙ ap (λ (y : Listed). part (y .from) (y .to) s) same ∙ found-part s b k′ f′ l′ st′ in
+          let same : l ≡ l′ = cc (value-exactly s b 0x8B l .1 (k, f, st, i), value-exactly s b 0x8B l′ .1 (k′, f′, st′, i′)) in
+          let value : fieldValue f ≡ fieldValue f′ = sym (found-part s b k f l st) ∙ ap (λ (y : Span). part (y .from) (y .to) s) same ∙ found-part s b k′ f′ l′ st′ in
           let none : [] ≡ name = up-to-exactly (fieldValue f) [] .0 empty ∙ ap upToZero value ∙ sym (up-to-exactly (fieldValue f′) name .0 up) in
           absurd (omega (arith, ap length none))

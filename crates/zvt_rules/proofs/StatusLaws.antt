@@ -14,15 +14,15 @@ use Rattle.zvt_rules.specs.declared.ToldCode.the-variants.{Code}
 use Rattle.zvt_rules.specs.declared.ToldAmount.the-variants.{Amount}
 use Rattle.zvt_rules.specs.declared.ToldReceipt.the-variants.{Receipt}
 use Rattle.zvt_rules.specs.Reading.{Reading, got, refused, among}
-use Rattle.zvt_rules.specs.Objects.{Form}
 use Rattle.zvt_rules.specs.Fields.{formatOf, holdsDigits, Field, plain, container, fieldId}
 use Rattle.zvt_rules.specs.Message.{layoutOf, Body, bytes, listed, Message, readOf}
 use Rattle.zvt_rules.specs.believed.Writing.{lenBytes, sized, runBytes, lengthIn, fieldBytes, fieldValue}
 use Rattle.zvt_rules.specs.believed.Grammar.{Bytes, SizeOk, FieldOk, ListOk, FieldsOk, LayoutOk, MessageOk}
 use Rattle.zvt_rules.specs.Digits.{numberOf}
 use Rattle.zvt_rules.specs.Values.{isStatus, Found, missing, found, valueIn, codeOf, amountOf, receiptOf, codeIn, amountIn, receiptIn, statusIn, bodyFields, statusFields, statusOf}
-use Rattle.zvt_rules.specs.believed.Digits.{Spells, Says, SaysLength}
+use Rattle.zvt_rules.specs.believed.Digits.{Spells}
 use Rattle.zvt_rules.specs.believed.Values.{In, Tells, TellsNumber}
+use Rattle.zvt_rules.specs.believed.Found.{Leads}
 use Rattle.zvt_rules.proofs.Tests.{pick-true, pick-false, pick-test, neither}
 use Rattle.zvt_rules.proofs.Lists.{in-none, in-first, in-more}
 use Rattle.zvt_rules.proofs.Spelling.{spells-exactly, digits-say, said-once, length-said}
@@ -34,13 +34,6 @@ unfoldable pub First : ℕ → List Field → List ℕ → Type 0
 First id fs value =
     (before : List Field) × (f : Field) × (after : List Field)
     × (fs ≡ before ++ (f ∷ after)) × ((g : Field) → In g before → fieldId g ≡ id → ⊥) × (fieldId f ≡ id) × (fieldValue f ≡ value)
-
--- F2: what stands between id and value: nothing; "two length digits, then the value", or three; the length of a container (O1)
-unfoldable pub Leads : Format → List ℕ → List ℕ → Type 0
-Leads Unknown lead value = ⊥
-Leads (Fixed k) lead value = (lead ≡ []) × (length value ≡ k)
-Leads (Digits d) lead value = (length lead ≡ d) × Says lead (length value)
-Leads Container lead value = (form : Form) × SaysLength form lead (length value)
 
 -- ---- what stands between an id and a value
 -- F2, F3: of a plain field, what is written there and how long the value may be is just what the format says
@@ -112,20 +105,20 @@ missing-exactly id fs = (to fs, from fs)
     from (f ∷ fs) h = pick-false _ _ (ne-eqb (fieldId f) id (h f (in-more (inl refl)))) ∙ from fs λ g k. h g (in-more (inr k))
 
 -- ---- a list of an accepted message
-not-seen : (seen : List ℕ) (fs : List Field) (f : Field) → ListOk seen fs → In f fs → among seen (fieldId f) ≡ false
+pub not-seen : (seen : List ℕ) (fs : List Field) (f : Field) → ListOk seen fs → In f fs → among seen (fieldId f) ≡ false
 unfolding ListOk among
 not-seen seen [] f ok k = in-none k
 not-seen seen (g ∷ fs) f ok k =
     ⊎-elim (λ e. rw e (ok .1))
     (λ i. neither (eqb (fieldId g) (fieldId f)) (among seen (fieldId f)) (not-seen (fieldId g ∷ seen) fs f (ok .2) i) .1) (in-first k)
 
-field-in : (seen : List ℕ) (fs : List Field) (f : Field) → ListOk seen fs → In f fs → FieldOk f
+pub field-in : (seen : List ℕ) (fs : List Field) (f : Field) → ListOk seen fs → In f fs → FieldOk f
 unfolding ListOk
 field-in seen [] f ok k = in-none k
 field-in seen (g ∷ fs) f ok k = ⊎-elim (λ e. rw e (ok .0)) (field-in (fieldId g ∷ seen) fs f (ok .2)) (in-first k)
 
 -- F4: a field that stands there is the one that is found
-value-in : (seen : List ℕ) (fs : List Field) (f : Field) → ListOk seen fs → In f fs → valueIn (fieldId f) fs ≡ found (fieldValue f)
+pub value-in : (seen : List ℕ) (fs : List Field) (f : Field) → ListOk seen fs → In f fs → valueIn (fieldId f) fs ≡ found (fieldValue f)
 unfolding ListOk valueIn among
 value-in seen [] f ok k = in-none k
 value-in seen (g ∷ fs) f ok k =

@@ -6,9 +6,9 @@ use lib.Dec.{eqb}
 use Rattle.zvt_rules.specs.Reading.{Reading, got, refused, pick, part}
 use Rattle.zvt_rules.specs.Message.{Message, readOf}
 use Rattle.zvt_rules.specs.declared.FieldAnswer.{FieldAnswer}
-use Rattle.zvt_rules.specs.declared.FieldAnswer.the-variants.{Field as listed-field, End}
+use Rattle.zvt_rules.specs.declared.FieldAnswer.the-variants.{Absent, Value, Refused}
 use Rattle.zvt_rules.specs.Values.{isStatus}
-use Rattle.zvt_rules.specs.Listed.{listedMessage, namedListed}
+use Rattle.zvt_rules.specs.Listed.{askedOf}
 
 -- M13: "up to its first zero byte, or all of it where there is none"
 unfoldable pub upToZero : List ℕ → List ℕ
@@ -25,12 +25,13 @@ unfoldable pub sizedName : ℕ → ℕ → NameAt
 sizedName a k = pick (eqb k 0) own (between a (a + k))
 
 unfoldable pub nameIn : List ℕ → FieldAnswer → NameAt
-nameIn s End = own
-nameIn s (listed-field l) = sizedName (l .from) (length (upToZero (part (l .from) (l .to) s)))
+nameIn s Absent = own
+nameIn s (Value p) = sizedName (p .from) (length (upToZero (part (p .from) (p .to) s)))
+nameIn s (Refused r) = own
 
 -- M14: "Where the bytes are no accepted 04 0F message". M13: "the value of field 8B of a status information"
 unfoldable pub nameOf : List ℕ → Reading Message → NameAt
-nameOf s (got m) = pick (isStatus m) (nameIn s (namedListed 0x8B (listedMessage (got m)))) own
+nameOf s (got m) = pick (isStatus m) (nameIn s (askedOf 0x8B (got m))) own
 nameOf s (refused f) = own
 
 unfoldable pub nameAt : List ℕ → NameAt

@@ -110,10 +110,22 @@ pub enum FirstAnswer {
     Refused(Refusal),
 }
 
+// The same with the number of its fields, whose ids were written down.
+pub struct FirstRead {
+    pub answer: FirstAnswer,
+    pub count: usize,
+}
+
 // How many bytes were written.
 pub enum ShortenAnswer {
     Written(usize),
     Refused(Refusal),
+}
+
+// Where a value lies in a message, from and to.
+pub struct Span {
+    pub from: usize,
+    pub to: usize,
 }
 
 // A field of a list: its id, and where its value lies in the message, from and to.
@@ -123,24 +135,14 @@ pub struct Listed {
     pub to: usize,
 }
 
+// What a message answers that is asked for a field: where its value lies (F6), that its list has no such field (F9), or its refusal (F10).
 pub enum FieldAnswer {
-    End,
-    Field(Listed),
+    Absent,
+    Value(Span),
+    Refused(Refusal),
 }
 
-// Where a message's list lies, from and to, if it has one.
-pub enum ListPlace {
-    Nowhere,
-    Between(usize, usize),
-}
-
-// Where a value lies in a message, from and to; nothing lies from 0 to 0.
-pub struct Span {
-    pub from: usize,
-    pub to: usize,
-}
-
-// Where a message's password lies, and the fields with four ids.
+// Where a message's password lies, and the values of the fields with four ids; what is not there lies from 0 to 0.
 pub struct Places {
     pub password: Span,
     pub fields: [Span; 4],

@@ -4,8 +4,8 @@ use mathlib.Core.Logic.{_⊎_}
 use mathlib.Core.List.{List, _∷_, _++_}
 use Prim.Native.Nat.{ℕ, _+_, _<_}
 use lib.ListN.{length, getD}
-use Rattle.zvt_rules.specs.declared.Listed.{Listed}
-use Rattle.zvt_rules.specs.Fields.{Field}
+use Rattle.zvt_rules.specs.declared.Span.{Span}
+use Rattle.zvt_rules.specs.Fields.{Field, fieldId}
 use Rattle.zvt_rules.specs.believed.Found.{Stands}
 use Rattle.zvt_rules.specs.believed.Writing.{fieldValue}
 
@@ -15,8 +15,8 @@ UpToZero value name = ((i : ℕ) → i < length name → getD name i 0 ≡ 0 →
 
 -- M13: "the value of field 8B of a status information (04 0F)", where it begins in the message s, and M14: not "empty"
 unfoldable pub Holds : List ℕ → List ℕ → ℕ → Type 0
-Holds s name from = (rest : List ℕ) × (k : ℕ) × (f : Field) × (l : Listed) × (s ≡ 0x04 ∷ (0x0F ∷ rest))
-    × Stands s k f l × (l .id ≡ 0x8B) × (l .from ≡ from) × UpToZero (fieldValue f) name × (0 < length name)
+Holds s name from = (rest : List ℕ) × (k : ℕ) × (f : Field) × (l : Span) × (s ≡ 0x04 ∷ (0x0F ∷ rest))
+    × Stands s k f l × (fieldId f ≡ 0x8B) × (l .from ≡ from) × UpToZero (fieldValue f) name × (0 < length name)
 
 -- M14: else "the answer is the till's own name, whole". M15: "What is handed back is a part of the message or of the own name, never a
 -- copy": s and the own name lie at p and at q, each in a block of memory at a place of it, and what is handed back lies at r
