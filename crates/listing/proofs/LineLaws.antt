@@ -8,9 +8,9 @@ use lib.ListN.{length, getD, take, drop, length-append, drop-of-length-le}
 use lib.Seq.{drop-cons, take-append-seam}
 use Rattle.zvt_rules.specs.Reading.{Reading, got, refused}
 use Rattle.zvt_rules.specs.Fields.{Field, fieldId}
-use Rattle.zvt_rules.specs.Message.{headerSize, Body, bytes, listed, Message, readOf}
+use Rattle.zvt_rules.specs.Message.{headerSize, Body, bytes, listed, Message, firstOf}
 use Rattle.zvt_rules.specs.believed.Writing.{fieldBytes}
-use Rattle.zvt_rules.specs.Listed.{listedAt, listedFrom, listedBody, listedMessage, idsListed, idsAnswer}
+use Rattle.zvt_rules.specs.Listed.{listedAt, listedFrom, listedBody, listedMessage, idsListed, firstIds}
 use Rattle.zvt_rules.specs.Text.{Text, addAll, hexText}
 use Rattle.zvt_rules.specs.Listing.{idsText, bodyIds, idsOf}
 use Rattle.listing.specs.Lines.{eachText}
@@ -42,10 +42,10 @@ message-ids (got m) = go (m .body)
 message-ids (refused f) = refl
 
 -- ---- the ids at the front of a buffer, n of them
-module _ (s rest : List ℕ) {n : ℕ} {out : List ℕ} (size : n ≡ length (idsAnswer s)) (all : out ≡ idsAnswer s ++ rest) where
+module _ (s rest : List ℕ) {n : ℕ} {out : List ℕ} (size : n ≡ length (firstIds s)) (all : out ≡ firstIds s ++ rest) where
   pub ids-fit : n ≤ length out
-  ids-fit = omega (arith, size, ap length all, length-append (idsAnswer s) rest)
+  ids-fit = omega (arith, size, ap length all, length-append (firstIds s) rest)
 
-  pub ids-added : (t : Text) → addAll (eachText (take n out)) t ≡ addAll (idsOf (readOf s)) t
-  unfolding idsAnswer
-  ids-added t = rw (size, all, take-append-seam (idsAnswer s) rest) (ap (λ (w : List ℕ). addAll w t) (message-ids (readOf s)))
+  pub ids-told : eachText (take n out) ≡ idsOf (firstOf s)
+  unfolding firstIds
+  ids-told = rw (size, all, take-append-seam (firstIds s) rest) (message-ids (firstOf s))

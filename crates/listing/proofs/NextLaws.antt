@@ -10,14 +10,14 @@ use lib.Dec.{ltb, eqb}
 use Rattle.zvt_rules.specs.Reading.{Reading, got, refused}
 use Rattle.io.specs.Counts.{Counts}
 use Rattle.zvt_rules.specs.Buffers.{front, Whole}
-use Rattle.zvt_rules.specs.Message.{Message, readOf, firstOf}
+use Rattle.zvt_rules.specs.Message.{Message, firstOf}
 use Rattle.zvt_rules.specs.believed.Writing.{messageBytes}
 use Rattle.zvt_rules.specs.believed.Grammar.{Bytes}
 use Rattle.zvt_rules.specs.Text.{Text, text, addAll}
 use Rattle.zvt_rules.specs.Listing.{messageText, okText, refusedText, idsOf, listing}
 use Rattle.zvt_rules.proofs.ObjectReading.{tail}
 use Rattle.zvt_rules.proofs.Tests.{by-test}
-use Rattle.zvt_rules.proofs.MessageBytes.{first-sound, read-complete}
+use Rattle.zvt_rules.proofs.MessageBytes.{first-sound}
 use Rattle.zvt_rules.proofs.AnswerLaws.{first-refused-exactly}
 use Rattle.zvt_rules.proofs.Text.{put-exactly, put-whole, putEnd}
 use Rattle.zvt_rules.proofs.Listing.{lines-none, lines-refused, lines-message, listing-long}
@@ -52,16 +52,15 @@ told : (count : ℕ) (t : Message) (m : Outline) (x : Reading Message) (next : �
 unfolding nextBy messageText readText outlineOf idsOf
 told count t m x next same size e = rw (e, ← size, ← same)
 
--- a message's own part of the input is that message
+-- the message that the reader answers
 module _ (s : List ℕ) (b : Bytes s) (m : Outline) (next : ℕ) (e : firstAnswer s ≡ first-accepted m next) where
   whole : (x : Reading Message) → firstOf s ≡ x → asFirstAnswer x ≡ first-accepted m next
-      → (t : Message) × (firstOf s ≡ got t) × (outlineOf t ≡ m) × (length (messageBytes t) ≡ next) × (readOf (take next s) ≡ got t)
+      → (t : Message) × (firstOf s ≡ got t) × (outlineOf t ≡ m) × (length (messageBytes t) ≡ next)
   unfolding asFirstAnswer
   whole (got t) k h =
-      let sound = first-sound s t b k in
       let same : outlineOf t ≡ m = cc in
       let size : length (messageBytes t) ≡ next = cc in
-      (t, k, same, size, rw (← size, ← (sound .0)) (read-complete t (sound .1)))
+      (t, k, same, size)
   whole (refused r) k h = let z : _≡_ {A = ℕ} 0 1 = cc in absurd (omega arith)
 
   pub next-within : next ≤ length s
@@ -76,11 +75,11 @@ module _ (s : List ℕ) (b : Bytes s) (m : Outline) (next : ℕ) (e : firstAnswe
   next-some-bytes = let w = whole (firstOf s) refl e in omega (arith, w .3)
 
   pub next-message : (count : ℕ) → length s ≤ 65536 → (length s ≡ 0 → ⊥)
-      → nextOf count s ≡ message (readText (count + 1) m (idsOf (readOf (take next s)))) next
+      → nextOf count s ≡ message (readText (count + 1) m (idsOf (firstOf s))) next
   unfolding firstAnswer
   next-message count most some =
       let w = whole (firstOf s) refl e in
-      next-some count s most some ∙ ap (nextBy count) (w .1) ∙ told count (w .0) m (readOf (take next s)) next (w .2) (w .3) (w .4)
+      next-some count s most some ∙ ap (nextBy count) (w .1) ∙ told count (w .0) m (firstOf s) next (w .2) (w .3) (w .1)
 
 -- ---- the lines from there on
 -- a line with its end, and behind a message's the rest: what follows so many bytes

@@ -9,7 +9,7 @@ ghost use mathlib.Core.Path.{_≡_};
 ghost use Prim.Native.Nat.{_*_, _≤_};
 ghost use lib.ListN.{length};
 ghost use Rattle.io.specs.Counts.{Counts};
-ghost use Rattle.zvt_rules.specs.Message.{readOf};
+ghost use Rattle.zvt_rules.specs.Message.{firstOf};
 ghost use Rattle.zvt_rules.specs.Buffers.{Whole};
 ghost use Rattle.zvt_rules.specs.Text.{text, addAll};
 ghost use Rattle.zvt_rules.specs.Listing.{startText, sizeText, endText, okText, refusedText, idsOf, listing};
@@ -41,13 +41,14 @@ fn add_each(ids: &[u8], at: usize, out: &mut [u8]) -> usize
     to
 }
 
-// The ids of the list of the message that s is.
+// The ids of the list of the message that s begins with.
 pub fn add_ids(s: &[u8], at: usize, out: &mut [u8]) -> usize
-    ensures { λ r. ⌜ text r (now (out .exit)) ≡ addAll (idsOf (readOf (now (s .entry)))) (text at (now (out .entry))) ⌝ }
+    ensures { λ r. ⌜ text r (now (out .exit)) ≡ addAll (idsOf (firstOf (now (s .entry)))) (text at (now (out .entry))) ⌝ }
 {
     let mut ids = [0u8; 256];
-    let count = zvt::ids(s, &mut ids);
-    add_each(&ids[..count], at, out)
+    let first = zvt::read_first(s, &mut ids);
+    let fields = first.count;
+    add_each(&ids[..fields], at, out)
 }
 
 // Number and pair.
@@ -73,13 +74,13 @@ pub fn add_size(m: Outline, at: usize, out: &mut [u8]) -> usize
     }
 }
 
-// The line of the message that s is.
-fn message_line(s: &[u8], number: u64, m: Outline, at: usize, out: &mut [u8]) -> usize
-    ensures { λ r. ⌜ text r (now (out .exit)) ≡ addAll (readText number m (idsOf (readOf (now (s .entry))))) (text at (now (out .entry))) ⌝ }
+// The line of a message whose list has those ids.
+fn message_line(ids: &[u8], number: u64, m: Outline, at: usize, out: &mut [u8]) -> usize
+    ensures { λ r. ⌜ text r (now (out .exit)) ≡ addAll (readText number m (eachText (now (ids .entry)))) (text at (now (out .entry))) ⌝ }
 {
     let mut to = add_start(number, m, at, out);
     to = add_size(m, to, out);
-    add_ids(s, to, out)
+    add_each(ids, to, out)
 }
 
 fn add_end(count: u64, at: usize, out: &mut [u8]) -> usize
@@ -115,10 +116,14 @@ fn next_line(rest: &[u8], count: u32, at: usize, out: &mut [u8]) -> Line
     if rest.len() == 0 {
         return Line::Last(ok_line(listed, at, out));
     }
-    match zvt::read_first(rest) {
+    let mut ids = [0u8; 256];
+    let first = zvt::read_first(rest, &mut ids);
+    let fields = first.count;
+    let answer = first.answer;
+    match answer {
         FirstAnswer::Refused(f) => Line::Last(refused_line(listed, f.number, at, out)),
         FirstAnswer::Accepted(m, next) => Line::Message(
-            message_line(&rest[..next], listed + 1, m, at, out),
+            message_line(&ids[..fields], listed + 1, m, at, out),
             next,
         ),
     }

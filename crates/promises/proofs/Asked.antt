@@ -1,9 +1,9 @@
 -- What an answer says is one of its cases, with these values; what a desk, a tape and a lister are answered of a message; and what is
 -- answered to a question about a lane or a line. Assumes nothing.
-use mathlib.Core.Path.{_≡_, refl, sym, ap, _∙_}
+use mathlib.Core.Path.{_≡_, refl, sym, ap}
 use mathlib.Core.Logic.{_↔_}
 use mathlib.Core.Option.{Option, none, some}
-use mathlib.Core.List.{List, [], _∷_}
+use mathlib.Core.List.{List, [], _∷_, _++_}
 use Prim.Native.Nat.{ℕ, zero, suc, _<_, _≤_}
 use native.Mathlib.Omega.{arith}
 use lib.ListN.{length, getD, length-append}
@@ -13,7 +13,6 @@ use borrow.Author.Tests.{lt-ltb, le-ltb, ltb-true, ltb-false}
 use Rattle.zvt_rules.specs.declared.Refusal.{Refusal}
 use Rattle.zvt_rules.specs.declared.Header.{Header}
 use Rattle.zvt_rules.specs.declared.Outline.{Outline}
-use Rattle.zvt_rules.specs.declared.Listed.{Listed}
 use Rattle.zvt_rules.specs.declared.HeaderAnswer.{HeaderAnswer}
 use Rattle.zvt_rules.specs.declared.HeaderAnswer.the-variants.{Header as header-got, Refused as header-refused}
 use Rattle.zvt_rules.specs.declared.ReadAnswer.{ReadAnswer}
@@ -26,10 +25,9 @@ use Rattle.zvt_rules.specs.declared.Heard.{Heard}
 use Rattle.zvt_rules.specs.declared.ToldBody.{ToldBody}
 use Rattle.zvt_rules.specs.declared.ToldAnswer.{ToldAnswer}
 use Rattle.zvt_rules.specs.declared.ToldAnswer.the-variants.{Told as told, Refused as body-refused}
-use Rattle.zvt_rules.specs.declared.ListPlace.{ListPlace}
-use Rattle.zvt_rules.specs.declared.ListPlace.the-variants.{Nowhere, Between}
+use Rattle.zvt_rules.specs.declared.Span.{Span}
 use Rattle.zvt_rules.specs.declared.FieldAnswer.{FieldAnswer}
-use Rattle.zvt_rules.specs.declared.FieldAnswer.the-variants.{End as no-field, Field as field-got}
+use Rattle.zvt_rules.specs.declared.FieldAnswer.the-variants.{Absent, Value, Refused as field-refused}
 use Rattle.zvt_rules.specs.declared.ToldCode.{ToldCode}
 use Rattle.zvt_rules.specs.declared.ToldCode.the-variants.{Missing as no-code, Code}
 use Rattle.zvt_rules.specs.declared.ToldAmount.{ToldAmount}
@@ -37,23 +35,23 @@ use Rattle.zvt_rules.specs.declared.ToldAmount.the-variants.{Missing as no-amou
 use Rattle.zvt_rules.specs.declared.ToldReceipt.{ToldReceipt}
 use Rattle.zvt_rules.specs.declared.ToldReceipt.the-variants.{Missing as no-receipt, Receipt}
 use Rattle.zvt_rules.specs.Reading.{unplaced, pick}
-use Rattle.zvt_rules.specs.Fields.{Field}
+use Rattle.zvt_rules.specs.Fields.{Field, fieldId}
 use Rattle.zvt_rules.specs.Message.{readOf}
 use Rattle.zvt_rules.specs.Answers.{headerAnswer, readAnswer}
-use Rattle.zvt_rules.specs.Listed.{fieldAnswer, idsAnswer}
+use Rattle.zvt_rules.specs.Listed.{firstIds}
 use Rattle.zvt_rules.specs.Heard.{toldAnswer, hearAnswer}
 use Rattle.zvt_rules.specs.believed.Grammar.{Bytes}
 use Rattle.zvt_rules.specs.believed.Found.{Stands}
 use Rattle.zvt_rules.proofs.Tests.{by-test}
-use Rattle.zvt_rules.proofs.Found.{field-exactly}
-use Rattle.zvt_rules.proofs.HeardLaws.{heardBy, header-heard, body-refused-exactly, id-at, ids-end}
+use Rattle.zvt_rules.proofs.Found.{first-id-exactly}
+use Rattle.zvt_rules.proofs.HeardLaws.{heardBy, header-heard, body-refused-exactly}
 use Rattle.desk_rules.specs.declared.Lane.{Lane}
 use Rattle.desk_rules.specs.declared.Line.{Line}
 use Rattle.desk_rules.specs.declared.Desk.{Desk}
 use Rattle.desk_rules.specs.Numbers.{laneCount}
 use Rattle.desk_rules.specs.Lanes.{blankLine, idleLane}
 use Rattle.desk_rules.specs.Memory.{Valid, linesOfDesk, lineAnswer, laneAnswer}
-use Rattle.promises.specs.Answers.{Said, no, yes, headerSays, readSays, firstSays, shortSays, heardSays, toldSays, placeSays, fieldSays}
+use Rattle.promises.specs.Answers.{Said, no, yes, headerSays, readSays, firstSays, shortSays, heardSays, toldSays, fieldSays}
 use Rattle.promises.specs.Answers.{codeSays, amountSays, receiptSays, lineSays, laneSays, At}
 use Rattle.promises.proofs.Answers.{no-same, yes-same, no-yes}
 
@@ -81,17 +79,20 @@ none-some e = let z : _≡_ {A = ℕ} 0 1 = cc in omega arith
 some-same : {A : Type 0} {a b : A} → _≡_ {A = Said (Option A)} (yes (some a)) (yes (some b)) → a ≡ b
 some-same e = cc
 
-pub place-is : (x : ListPlace) (from to : ℕ) → (placeSays x ≡ yes (some (from, to))) ↔ (x ≡ Between from to)
-place-is Nowhere from to = (λ e. absurd (none-some e), ap placeSays)
-place-is (Between a b) from to = (λ e. ap (λ (p : ℕ × ℕ). Between (p .0) (p .1)) (some-same e), ap placeSays)
+pub field-is : (x : FieldAnswer) (p : Span) → (fieldSays x ≡ yes (some p)) ↔ (x ≡ Value p)
+field-is Absent p = (λ e. absurd (none-some e), ap fieldSays)
+field-is (Value q) p = (λ e. ap Value (some-same e), ap fieldSays)
+field-is (field-refused r) p = (λ e. absurd (no-yes e), ap fieldSays)
 
-pub field-is : (x : FieldAnswer) (l : Listed) → (fieldSays x ≡ yes (some l)) ↔ (x ≡ field-got l)
-field-is no-field l = (λ e. absurd (none-some e), ap fieldSays)
-field-is (field-got k) l = (λ e. ap field-got (some-same e), ap fieldSays)
+pub field-is-none : (x : FieldAnswer) → (fieldSays x ≡ yes none) ↔ (x ≡ Absent)
+field-is-none Absent = (λ e. refl, ap fieldSays)
+field-is-none (Value q) = (λ e. absurd (none-some (sym e)), ap fieldSays)
+field-is-none (field-refused r) = (λ e. absurd (no-yes e), ap fieldSays)
 
-pub field-is-none : (x : FieldAnswer) → (fieldSays x ≡ yes none) ↔ (x ≡ no-field)
-field-is-none no-field = (λ e. refl, ap fieldSays)
-field-is-none (field-got k) = (λ e. absurd (none-some (sym e)), ap fieldSays)
+pub field-is-no : (x : FieldAnswer) (r : Refusal) → (fieldSays x ≡ no r) ↔ (x ≡ field-refused r)
+field-is-no Absent r = (λ e. absurd (no-yes (sym e)), ap fieldSays)
+field-is-no (Value q) r = (λ e. absurd (no-yes (sym e)), ap fieldSays)
+field-is-no (field-refused q) r = (λ e. ap field-refused (no-same e), ap fieldSays)
 
 pub code-is : (x : ToldCode) (c : ℕ) → (codeSays x ≡ some c) ↔ (x ≡ Code c)
 code-is no-code c = (λ e. absurd (none-some (ap yes e)), ap codeSays)
@@ -172,19 +173,13 @@ at-get {A} xs k x d = (to xs k, λ h. rw (h .2) (omega (arith, length-append (h 
         let g = to ys j (omega (arith, h .0), h .1) in
         (y ∷ g .0, g .1, ap (λ (zs : List A). y ∷ zs) (g .2), omega (arith, g .3))
 
--- ---- the ids of a message's list: number k is that of field number k
-pub id-found : (s : List ℕ) → Bytes s → (k id : ℕ) → At (idsAnswer s) k id ↔ ((f : Field) × (l : Listed) × Stands s k f l × (l .id ≡ id))
-id-found s b k id = (
-  λ h. let g = at-get (idsAnswer s) k id 0 .1 h in there (fieldAnswer k s) refl (g .0) (g .1),
-  λ h.
-      let g = id-at s k (h .1) (field-exactly s b k (h .1) .1 (h .0, h .2)) in
-      at-get (idsAnswer s) k id 0 .0 (g .0, g .1 ∙ h .3),
-)
-  where
-    there : (x : FieldAnswer) → fieldAnswer k s ≡ x → k < length (idsAnswer s) → getD (idsAnswer s) k 0 ≡ id
-        → (f : Field) × (l : Listed) × Stands s k f l × (l .id ≡ id)
-    there no-field q few e = absurd (omega (arith, ids-end s k .0 q))
-    there (field-got l) q few e = let st = field-exactly s b k l .0 q in (st .0, l, st .1, sym (id-at s k l q .1) ∙ e)
+-- ---- the ids of the first message's list: number k is that of field number k
+pub id-found : (s : List ℕ) → Bytes s → (k id : ℕ)
+    → At (firstIds s) k id ↔ ((front : List ℕ) × (rest : List ℕ) × (s ≡ front ++ rest) × (f : Field) × (p : Span) × Stands front k f p × (fieldId f ≡ id))
+id-found s b k id =
+    let at = at-get (firstIds s) k id 0 in
+    let stands = first-id-exactly s b k id in
+    (λ h. stands .0 (at .1 h), λ h. at .0 (stands .1 h))
 
 -- ---- a lane and a line
 module _ (d : Desk) (i : ℕ) where

@@ -15,7 +15,7 @@ use Rattle.zvt_rules.specs.Values.{valueIn, codeOf, amountOf, receiptOf, codeIn
 use Rattle.zvt_rules.specs.Heard.{firstOf, toldIn}
 use Rattle.zvt_rules.specs.Answers.{outlineOf, asReadAnswer, readAnswer, shortened, asShortenAnswer, shortenAnswer, shortenLeaves}
 use Rattle.zvt_rules.specs.Buffers.{writtenLeaves}
-use Rattle.zvt_rules.specs.Listed.{listedAt, listedFrom, listedBody, listedMessage, namedListed}
+use Rattle.zvt_rules.specs.Listed.{listedAt, listedFrom, listedBody, listedMessage, namedListed, askedOf}
 use Rattle.zvt_rules.specs.Name.{upToZero, sizedName, nameIn, nameOf, nameAt, nameBytes, cardName}
 use Rattle.desk_rules.specs.Lanes.{receiptBy, lineAt, placeTaken}
 use Rattle.desk_rules.specs.Openings.{concerns, lastFrom, lastLine, commandOf, commandBytes}
@@ -39,7 +39,7 @@ unfolding unless andThen among secondTag tagSize formSize oneByteLen twoByteLen 
     formFor isShortest shortObj shortRun shortField shortList shortBody shortMessage isShortObj isShortRun isShortField isShortList isShortBody
     isShort write shorten digitBytesOf decimalFrom numberOf fieldValue valueIn codeOf amountOf receiptOf codeIn amountIn receiptIn statusIn
     bodyFields outlineOf asReadAnswer readAnswer shortened asShortenAnswer shortenAnswer writtenLeaves shortenLeaves
-    listedAt listedFrom listedBody listedMessage namedListed upToZero sizedName nameIn nameOf nameAt nameBytes cardName
+    listedAt listedFrom listedBody listedMessage namedListed askedOf upToZero sizedName nameIn nameOf nameAt nameBytes cardName
     receiptBy lineAt commandOf commandBytes
     firstOf toldIn statusFields heardWaiting amountBy settledAs completedBy abortedBy reportedBy movedBy afterBody heardRunning heardBy afterHeader heard
     concerns lastFrom lastLine openedBy laneOf needsPlace moves answered writes

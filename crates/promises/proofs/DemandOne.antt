@@ -11,6 +11,7 @@ use Rattle.zvt_rules.specs.declared.Refusal.{Refusal}
 use Rattle.zvt_rules.specs.declared.Heard.{Heard}
 use Rattle.zvt_rules.specs.Reading.{unplaced}
 use Rattle.zvt_rules.specs.Answers.{headerAnswer, readAnswer, firstAnswer, shortenAnswer, shortenLeaves}
+use Rattle.zvt_rules.specs.Listed.{fieldAnswer}
 use Rattle.zvt_rules.specs.Heard.{hearAnswer}
 use Rattle.zvt_rules.specs.believed.Grammar.{Bytes}
 use Rattle.zvt_rules.specs.believed.Rows.{WholeNo, ReadNo, FirstNo, ShortNo}
@@ -24,10 +25,11 @@ use Rattle.desk_rules.specs.believed.Table.{Row}
 use Rattle.desk_rules.specs.Memory.{freshDesk, linesOfDesk, view, Valid, answerOf, leavesOf, closeAnswer, lineAnswer, laneAnswer}
 use Rattle.desk_rules.proofs.Rows.{table}
 use Rattle.desk_rules.proofs.Memory as memory
-use Rattle.promises.specs.Answers.{no, yes, Takes, headerSays, readSays, firstSays, shortSays, heardSays, toldSays}
+use Rattle.promises.specs.Answers.{no, yes, Takes, headerSays, readSays, firstSays, shortSays, heardSays, toldSays, fieldSays}
 use Rattle.promises.specs.Answers.{answerSays, lineSays, laneSays, At, Open}
 use Rattle.promises.proofs.Answers.{header-says, read-says, first-says, short-says, short-leaves, short-beyond}
 use Rattle.promises.proofs.Answers.{decided-no, decided-yes, call-same, call-beyond, closing-no, closing-yes, closing-same}
+use Rattle.promises.proofs.TheFields.{refused-as-read}
 use Rattle.promises.proofs.Asked.{heard-no, heard-yes, told-no, lane-no, lane-yes, line-some, line-none}
 
 -- ---- R37: reading and shortening. A refusal is a number and its place; so have the rows (zvt_rules/specs/believed/Rows.antt).
@@ -39,6 +41,10 @@ module _ (s : List ℕ) (b : Bytes s) (r : Refusal) where
   -- Bytes are refused as a message, with a number and at a place, exactly where a row for header or body (R39 to R44) has both.
   pub read-refused-exactly : (readSays (readAnswer s) ≡ no r) ↔ ReadNo s r
   read-refused-exactly = Iff·trans (read-says s r) (rows.read-no-exactly s b r)
+
+  -- A message that is asked for a field, whichever, is refused just so (F10).
+  pub field-refused-exactly : (id : ℕ) → (fieldSays (fieldAnswer id s) ≡ no r) ↔ ReadNo s r
+  field-refused-exactly id = Iff·trans (refused-as-read s b id r) read-refused-exactly
 
   -- What a desk asks of a message is refused where its header is; what the body tells is refused where the message is.
   pub heard-refused-exactly : (heardSays (hearAnswer s) ≡ no r) ↔ WholeNo s r

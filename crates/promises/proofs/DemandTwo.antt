@@ -4,14 +4,14 @@
 use mathlib.Core.Path.{_≡_, refl, sym, ap, _∙_}
 use mathlib.Core.Bool.{true, false}
 use mathlib.Core.Logic.{_↔_, _⊎_, Iff·trans}
-use mathlib.Core.Option.{none, some}
+use mathlib.Core.Option.{some}
 use mathlib.Core.List.{List, [], _∷_, _++_}
 use Prim.Native.Nat.{ℕ, _<_, _≤_}
 use native.Mathlib.Omega.{arith}
-use lib.ListN.{length, getD, take}
-use Rattle.zvt_rules.specs.Reading.{got, unless, andThen, part, among}
-use Rattle.zvt_rules.specs.Fields.{Field}
-use Rattle.zvt_rules.specs.Message.{bytes, listed, Message, lengthOf, headerWith, headerOf, layoutOf, bodyOf, messageOf}
+use lib.ListN.{length, take}
+use Rattle.zvt_rules.specs.Reading.{got, unless, andThen, among}
+use Rattle.zvt_rules.specs.Fields.{Field, fieldId}
+use Rattle.zvt_rules.specs.Message.{bytes, Message, lengthOf, headerWith, headerOf, layoutOf, bodyOf, messageOf}
 use Rattle.zvt_rules.specs.Message.{wholeHeader, readOf, firstOf, countOf}
 use Rattle.zvt_rules.specs.Shortest.{shortMessage, isShort, write, shorten}
 use Rattle.zvt_rules.specs.Values.{statusOf}
@@ -19,11 +19,10 @@ use Rattle.zvt_rules.specs.declared.Refusal.{Refusal}
 use Rattle.zvt_rules.specs.declared.Place.the-variants.{Nowhere as Unplaced}
 use Rattle.zvt_rules.specs.declared.Header.{Header}
 use Rattle.zvt_rules.specs.declared.Outline.{Outline}
-use Rattle.zvt_rules.specs.declared.Listed.{Listed}
+use Rattle.zvt_rules.specs.declared.Span.{Span}
 use Rattle.zvt_rules.specs.declared.Heard.{Heard}
 use Rattle.zvt_rules.specs.declared.ToldBody.{ToldBody}
 use Rattle.zvt_rules.specs.Answers.{headerAnswer, outlineOf, readAnswer, firstAnswer, shortenAnswer, shortenLeaves}
-use Rattle.zvt_rules.specs.Listed.{fieldAnswer, namedAnswer, idsAnswer, nowhere, spanOf, placesAnswer, listPlace}
 use Rattle.zvt_rules.specs.Heard.{toldAnswer, hearAnswer}
 use Rattle.zvt_rules.specs.Name.{own, between, nameAt, cardName, namePlace}
 use Rattle.zvt_rules.specs.believed.Writing.{messageBytes, fieldValue}
@@ -31,7 +30,7 @@ use Rattle.zvt_rules.specs.believed.Grammar.{Bytes, MessageOk}
 use Rattle.zvt_rules.specs.believed.Shortest.{SameValues, Shortens}
 use Rattle.zvt_rules.specs.believed.Answers.{Framed, inBody, Reported, FirstReported, Over}
 use Rattle.zvt_rules.specs.believed.Values.{Is, Tells, TellsNumber}
-use Rattle.zvt_rules.specs.believed.Found.{Stands, ListStands}
+use Rattle.zvt_rules.specs.believed.Found.{Stands}
 use Rattle.zvt_rules.specs.believed.Names.{UpToZero, Shown}
 use Rattle.zvt_rules.specs.believed.Rows.{FramedNo}
 use Rattle.zvt_rules.specs.believed.Faults.{Names}
@@ -40,7 +39,6 @@ use Rattle.zvt_rules.proofs.MessageBytes as reading
 use Rattle.zvt_rules.proofs.MessageShort as shortest
 use Rattle.zvt_rules.proofs.AnswerLaws as reports
 use Rattle.zvt_rules.proofs.StatusLaws as status
-use Rattle.zvt_rules.proofs.Found as found
 use Rattle.zvt_rules.proofs.HeardLaws as heard
 use Rattle.zvt_rules.proofs.Names as names
 use Rattle.desk_rules.specs.declared.Desk.{Desk}
@@ -52,12 +50,12 @@ use Rattle.desk_rules.specs.believed.Table.{Commands}
 use Rattle.desk_rules.specs.Memory.{view, laneFor, answerOf, leavesOf}
 use Rattle.desk_rules.proofs.Rows.{table}
 use Rattle.desk_rules.proofs.Commands as commands
-use Rattle.promises.specs.Answers.{no, yes, headerSays, readSays, firstSays, shortSays, heardSays, toldSays, placeSays, fieldSays}
-use Rattle.promises.specs.Answers.{codeSays, amountSays, receiptSays, answerSays, Placed, At}
+use Rattle.promises.specs.Answers.{no, yes, headerSays, readSays, firstSays, shortSays, heardSays, toldSays}
+use Rattle.promises.specs.Answers.{codeSays, amountSays, receiptSays, answerSays, Placed}
 use Rattle.promises.proofs.Answers.{header-says, header-gives, read-says, read-gives, first-says, short-says, decided-no, call-wrote, call-size}
 use Rattle.promises.proofs.Placing.{header-nowhere, body-rows, body-names, first-placed, short-placed, call-placed}
-use Rattle.promises.proofs.Asked.{header-is, read-is, first-is, short-is, place-is, field-is, field-is-none}
-use Rattle.promises.proofs.Asked.{code-is, amount-is, receipt-is, heard-yes, told-is, id-found}
+use Rattle.promises.proofs.Asked.{header-is, read-is, first-is, short-is}
+use Rattle.promises.proofs.Asked.{code-is, amount-is, receipt-is, heard-yes, told-is}
 
 -- ---- "read .. as PA00P015 13.11 lays them out"
 
@@ -185,62 +183,9 @@ shortened-once = shortest.shorten-twice
 pub never-longer : (m : Message) → MessageOk m → length (write m) ≤ length (messageBytes m)
 never-longer = shortest.never-longer
 
--- ---- the fields of a message, and what a status information tells
+-- ---- what a status information tells. Of the other fields of a message: TheFields
 
 module _ (s : List ℕ) (b : Bytes s) where
-  -- Field number k, from 0, is answered with its id and where its value lies exactly where it stands in the message,
-  pub field-found : (k : ℕ) (l : Listed) → (fieldSays (fieldAnswer k s) ≡ yes (some l)) ↔ ((f : Field) × Stands s k f l)
-  field-found k l = Iff·trans (field-is (fieldAnswer k s) l) (found.field-exactly s b k l)
-
-  -- the field with an id likewise, and no id has two.
-  pub named-found : (id : ℕ) (l : Listed) → (fieldSays (namedAnswer id s) ≡ yes (some l)) ↔ ((k : ℕ) × (f : Field) × Stands s k f l × (l .id ≡ id))
-  named-found id l = Iff·trans (field-is (namedAnswer id s) l) (found.named-exactly s b id l)
-
-  -- None is answered where none stands, and only there.
-  pub none-found : (k : ℕ) → (fieldSays (fieldAnswer k s) ≡ yes none) ↔ ((f : Field) (l : Listed) → Stands s k f l → ⊥)
-  none-found k = Iff·trans (field-is-none (fieldAnswer k s)) (found.field-end s b k)
-
-  pub none-named : (id : ℕ)
-      → (fieldSays (namedAnswer id s) ≡ yes none) ↔ ((j : ℕ) (f : Field) (l : Listed) → Stands s j f l → l .id ≡ id → ⊥)
-  none-named id = Iff·trans (field-is-none (namedAnswer id s)) (found.named-end s b id)
-
-  -- The part of the message that is answered is the field's value, of field 06 too.
-  pub found-value : (k : ℕ) (f : Field) (l : Listed) → Stands s k f l → part (l .from) (l .to) s ≡ fieldValue f
-  found-value k f l st = found.found-part s b k f l st
-
-  -- The ids of a list: number k is one exactly where field number k stands with it.
-  pub ids-found : (k id : ℕ) → At (idsAnswer s) k id ↔ ((f : Field) × (l : Listed) × Stands s k f l × (l .id ≡ id))
-  ids-found = id-found s b
-
-  -- Of several fields asked for at once each is placed where it stands,
-  module _ (ids : List ℕ) (j : ℕ) (h : j < length ids) where
-    pub place-found : (k : ℕ) (f : Field) (l : Listed) → Stands s k f l → l .id ≡ getD ids j 0
-        → getD (placesAnswer ids s .fields) j nowhere ≡ record { from = l .from; to = l .to }
-    unfolding spanOf
-    place-found k f l st i = heard.place-named ids s j h ∙ ap spanOf (found.named-exactly s b (getD ids j 0) l .1 (k, f, st, i))
-
-    -- and nowhere, from 0 to 0, exactly where none stands.
-    pub no-place-found : (getD (placesAnswer ids s .fields) j nowhere ≡ record { from = 0; to = 0 })
-        ↔ ((k : ℕ) (f : Field) (l : Listed) → Stands s k f l → l .id ≡ getD ids j 0 → ⊥)
-    no-place-found =
-        let id = getD ids j 0 in
-        rw (heard.place-named ids s j h) (Iff·trans (heard.nowhere-exactly id s) (found.named-end s b id))
-
-  -- The password is placed where it lies,
-  pub password-found : (ids : List ℕ) (m : Message) (password : List ℕ) (fs : List Field) → Is s m → m .body ≡ listed password fs
-      → let p = placesAnswer ids s .password in part (p .from) (p .to) s ≡ password
-  password-found ids m password fs = heard.password-part ids s m password fs b
-
-  -- and nowhere, from 0 to 0, exactly where the message has none.
-  pub no-password-found : (ids : List ℕ)
-      → (placesAnswer ids s .password ≡ record { from = 0; to = 0 })
-      ↔ ((m : Message) (password : List ℕ) (fs : List Field) → Is s m → m .body ≡ listed password fs → password ≡ [])
-  no-password-found ids = heard.no-password-exactly ids s b
-
-  -- The list itself is found where it stands.
-  pub list-found : (from to : ℕ) → (placeSays (listPlace s) ≡ yes (some (from, to))) ↔ ListStands s from to
-  list-found from to = Iff·trans (place-is (listPlace s) from to) (found.list-exactly s b from to)
-
   -- P20: "code (27), amount (04) and receipt (87)": each is told exactly where a status information has that field.
   pub code-exactly : (c : ℕ) → (codeSays (statusOf s .code) ≡ some c) ↔ Tells s 0x27 (c ∷ [])
   code-exactly c = Iff·trans (code-is (statusOf s .code) c) (status.code-exactly s b c)
@@ -262,5 +207,5 @@ card-name s till name p q r b = names.shown-exactly s b till name p q r
 -- No empty name lies in a message: where field 8B has one, the answer is the till's own.
 pub no-empty-name : (s : List ℕ) → Bytes s
     → ((a e : ℕ) → nameAt s ≡ between a e → a < e)
-    × ((k : ℕ) (f : Field) (l : Listed) → Stands s k f l → l .id ≡ 0x8B → UpToZero (fieldValue f) [] → nameAt s ≡ own)
+    × ((k : ℕ) (f : Field) (l : Span) → Stands s k f l → fieldId f ≡ 0x8B → UpToZero (fieldValue f) [] → nameAt s ≡ own)
 no-empty-name s b = (names.part-not-empty s b, names.empty-own s b)

@@ -20,10 +20,8 @@ pub every-call-ends : {M : Type 1}
     × zvt.read.Statement.statement M
     × zvt.read_first.Statement.statement M
     × zvt.shorten.Statement.statement M
-    × zvt.list_place.Statement.statement M
-    × zvt.field_at.Statement.statement M
-    × zvt.field_named.Statement.statement M
-    × zvt.ids.Statement.statement M
+    × zvt.field.Statement.statement M
+    × zvt.field_bytes.Statement.statement M
     × zvt.places.Statement.statement M
     × zvt.read_status.Statement.statement M
     × zvt.hear.Statement.statement M
@@ -87,10 +85,8 @@ every-call-ends = (
   zvt.read.Met.met,
   zvt.read_first.Met.met,
   zvt.shorten.Met.met,
-  zvt.list_place.Met.met,
-  zvt.field_at.Met.met,
-  zvt.field_named.Met.met,
-  zvt.ids.Met.met,
+  zvt.field.Met.met,
+  zvt.field_bytes.Met.met,
   zvt.places.Met.met,
   zvt.read_status.Met.met,
   zvt.hear.Met.met,
@@ -158,10 +154,8 @@ pub nothing-to-test :
     × ((κs : _) (a : _) → zvt.read.Reads.Asked κs a ≡ Unit {0})
     × ((κs : _) (a : _) → zvt.read_first.Reads.Asked κs a ≡ Unit {0})
     × ((κs : _) (a : _) → zvt.shorten.Reads.Asked κs a ≡ Unit {0})
-    × ((κs : _) (a : _) → zvt.list_place.Reads.Asked κs a ≡ Unit {0})
-    × ((κs : _) (a : _) → zvt.field_at.Reads.Asked κs a ≡ Unit {0})
-    × ((κs : _) (a : _) → zvt.field_named.Reads.Asked κs a ≡ Unit {0})
-    × ((κs : _) (a : _) → zvt.ids.Reads.Asked κs a ≡ Unit {0})
+    × ((κs : _) (a : _) → zvt.field.Reads.Asked κs a ≡ Unit {0})
+    × ((κs : _) (a : _) → zvt.field_bytes.Reads.Asked κs a ≡ Unit {0})
     × ((κs : _) (a : _) → zvt.places.Reads.Asked κs a ≡ Unit {0})
     × ((κs : _) (a : _) → zvt.read_status.Reads.Asked κs a ≡ Unit {0})
     × ((κs : _) (a : _) → zvt.hear.Reads.Asked κs a ≡ Unit {0})
@@ -220,8 +214,6 @@ pub nothing-to-test :
     × ((κs : _) (a : _) → buffers.add_decimal.Reads.Asked κs a ≡ Unit {0})
     × ((κs : _) (a : _) → buffers.hex_value.Reads.Asked κs a ≡ Unit {0})
 nothing-to-test = (
-  λ κs a. refl,
-  λ κs a. refl,
   λ κs a. refl,
   λ κs a. refl,
   λ κs a. refl,

@@ -30,23 +30,17 @@ read-header-one κs a = only _ _ (λ r e h. (h, refl))
 pub read-one : (κs : _) (a : _) → Only itself nothing (zvt.read.Reads.Learnt κs a)
 read-one κs a = only _ _ (λ r e h. (h, refl))
 
-pub read-first-one : (κs : _) (a : _) → Only itself nothing (zvt.read_first.Reads.Learnt κs a)
-read-first-one κs a = only _ _ (λ r e h. (h, refl))
+pub read-first-one : (κs : _) (a : _) → Only itself (λ e. now (e .1 .0)) (zvt.read_first.Reads.Learnt κs a)
+read-first-one κs a = only _ _ (λ r e h. (ap₂ (λ answer count. record { answer = answer; count = count }) (h .0) (h .1 .0), h .1 .1))
 
 pub shorten-one : (κs : _) (a : _) → Only itself (λ e. now (e .1 .0)) (zvt.shorten.Reads.Learnt κs a)
 shorten-one κs a = only _ _ (λ r e h. h)
 
-pub list-place-one : (κs : _) (a : _) → Only itself nothing (zvt.list_place.Reads.Learnt κs a)
-list-place-one κs a = only _ _ (λ r e h. (h, refl))
+pub field-one : (κs : _) (a : _) → Only itself nothing (zvt.field.Reads.Learnt κs a)
+field-one κs a = only _ _ (λ r e h. (h, refl))
 
-pub field-at-one : (κs : _) (a : _) → Only itself nothing (zvt.field_at.Reads.Learnt κs a)
-field-at-one κs a = only _ _ (λ r e h. (h, refl))
-
-pub field-named-one : (κs : _) (a : _) → Only itself nothing (zvt.field_named.Reads.Learnt κs a)
-field-named-one κs a = only _ _ (λ r e h. (h, refl))
-
-pub ids-one : (κs : _) (a : _) → Only itself (λ e. now (e .1 .0)) (zvt.ids.Reads.Learnt κs a)
-ids-one κs a = only _ _ (λ r e h. h)
+pub field-bytes-one : (κs : _) (a : _) → Only placed nothing (zvt.field_bytes.Reads.Learnt κs a)
+field-bytes-one κs a = only _ _ (λ r e h. (ap₂ (λ (p : ℕ × ℕ) (n : List ℕ). (p, n)) (h .1) (h .0), refl))
 
 pub places-one : (κs : _) (a : _) → Only itself nothing (zvt.places.Reads.Learnt κs a)
 places-one κs a = only _ _ (λ r e h. (h, refl))

@@ -14,7 +14,7 @@ use Rattle.zvt_rules.specs.believed.Grammar.{Bytes}
 use Rattle.zvt_rules.specs.Values.{statusFields, statusOf, isStatus, statusIn, bodyFields}
 use Rattle.zvt_rules.proofs.Readings.{got-same}
 use Rattle.zvt_rules.specs.Answers.{outlineOf, asReadAnswer, readAnswer}
-use Rattle.zvt_rules.specs.Listed.{listedMessage, nthListed, fieldAnswer}
+use Rattle.zvt_rules.specs.Listed.{listedMessage, namedListed, askedOf, fieldAnswer, idsListed}
 use Rattle.desk_rules.specs.declared.Phase.{Phase}
 use Rattle.desk_rules.specs.declared.Phase.the-variants.{Idle, Waiting, Running}
 use Rattle.desk_rules.specs.declared.Lane.{Lane}
@@ -64,9 +64,15 @@ module _ (s : List ℕ) (b : Bytes s) where
   unfolding readAnswer asReadAnswer
   masked-read = of-masked asReadAnswer (λ m. rw (told-same m)) s b
 
-  pub masked-field : (k : ℕ) → fieldAnswer k (masked s) ≡ fieldAnswer k s
-  unfolding fieldAnswer
-  masked-field k = ap (nthListed k) (of-masked listedMessage (λ m. alike-listed (maskMessage m) m (mask-alike m)) s b)
+  masked-listed : listedMessage (readOf (masked s)) ≡ listedMessage (readOf s)
+  masked-listed = of-masked listedMessage (λ m. alike-listed (maskMessage m) m (mask-alike m)) s b
+
+  pub masked-field : (id : ℕ) → fieldAnswer id (masked s) ≡ fieldAnswer id s
+  unfolding fieldAnswer askedOf
+  masked-field id = of-masked (askedOf id) (λ m. ap (namedListed id) (alike-listed (maskMessage m) m (mask-alike m))) s b
+
+  pub masked-ids : idsListed (listedMessage (readOf (masked s))) ≡ idsListed (listedMessage (readOf s))
+  masked-ids = ap idsListed masked-listed
 
   pub masked-status : statusOf (masked s) ≡ statusOf s
   unfolding statusOf statusFields maskMessage

@@ -16,7 +16,7 @@ use Rattle.zvt_rules.specs.Message.{Message, readOf}
 use Rattle.zvt_rules.specs.believed.Grammar.{Bytes}
 use Rattle.zvt_rules.specs.Values.{statusOf}
 use Rattle.zvt_rules.specs.Answers.{readAnswer}
-use Rattle.zvt_rules.specs.Listed.{fieldAnswer}
+use Rattle.zvt_rules.specs.Listed.{listedMessage, fieldAnswer, idsListed}
 use Rattle.zvt_rules.specs.Buffers.{writtenLeaves}
 use Rattle.zvt_rules.proofs.Readings.{then-stop}
 use Rattle.zvt_rules.proofs.MessageBytes.{read-sound}
@@ -272,11 +272,12 @@ nothing-secret day b atEnd calls played room p rs h j =
     let k = days.a-day day b atEnd calls played in
     rw (← (days.entries-are k rs (rw (days.read-is k room p h) j))) (secrets.run-hides fresh calls (k .accepted) (k .fit))
 
--- The reader says of a recorded message what it said of the message: pair, length of the body, shortness, number of objects, the ids and
--- places of its fields, and what a status information tells.
+-- The reader says of a recorded message what it said of the message: pair, length of the body, shortness, number of objects, the ids of its
+-- fields in their order, where the value of each lies, and what a status information tells.
 pub masked-says-the-same : (s : List ℕ) → Bytes s
-    → (readAnswer (masked s) ≡ readAnswer s) × ((k : ℕ) → fieldAnswer k (masked s) ≡ fieldAnswer k s) × (statusOf (masked s) ≡ statusOf s)
-masked-says-the-same s b = (secrets.masked-read s b, secrets.masked-field s b, secrets.masked-status s b)
+    → (readAnswer (masked s) ≡ readAnswer s) × (idsListed (listedMessage (readOf (masked s))) ≡ idsListed (listedMessage (readOf s)))
+    × ((id : ℕ) → fieldAnswer id (masked s) ≡ fieldAnswer id s) × (statusOf (masked s) ≡ statusOf s)
+masked-says-the-same s b = (secrets.masked-read s b, secrets.masked-ids s b, secrets.masked-field s b, secrets.masked-status s b)
 
 -- And it does to a lane what the message did.
 pub masked-does-the-same : (l : Lane) (s : List ℕ) → Bytes s → heard l (masked s) ≡ heard l s

@@ -10,7 +10,6 @@ use Rattle.zvt_rules.specs.declared.Refusal.{Refusal}
 use Rattle.zvt_rules.specs.declared.Place.the-variants.{Nowhere as Unplaced}
 use Rattle.zvt_rules.specs.declared.Header.{Header}
 use Rattle.zvt_rules.specs.declared.Outline.{Outline}
-use Rattle.zvt_rules.specs.declared.Listed.{Listed}
 use Rattle.zvt_rules.specs.declared.HeaderAnswer.{HeaderAnswer}
 use Rattle.zvt_rules.specs.declared.HeaderAnswer.the-variants.{Header as header-got, Refused as header-refused}
 use Rattle.zvt_rules.specs.declared.ReadAnswer.{ReadAnswer}
@@ -25,10 +24,9 @@ use Rattle.zvt_rules.specs.declared.HearAnswer.the-variants.{Heard as heard, Re
 use Rattle.zvt_rules.specs.declared.ToldBody.{ToldBody}
 use Rattle.zvt_rules.specs.declared.ToldAnswer.{ToldAnswer}
 use Rattle.zvt_rules.specs.declared.ToldAnswer.the-variants.{Told as told, Refused as body-refused}
-use Rattle.zvt_rules.specs.declared.ListPlace.{ListPlace}
-use Rattle.zvt_rules.specs.declared.ListPlace.the-variants.{Nowhere, Between}
+use Rattle.zvt_rules.specs.declared.Span.{Span}
 use Rattle.zvt_rules.specs.declared.FieldAnswer.{FieldAnswer}
-use Rattle.zvt_rules.specs.declared.FieldAnswer.the-variants.{End as no-field, Field}
+use Rattle.zvt_rules.specs.declared.FieldAnswer.the-variants.{Absent, Value, Refused as field-refused}
 use Rattle.zvt_rules.specs.declared.ToldCode.{ToldCode}
 use Rattle.zvt_rules.specs.declared.ToldCode.the-variants.{Missing as no-code, Code}
 use Rattle.zvt_rules.specs.declared.ToldAmount.{ToldAmount}
@@ -99,14 +97,11 @@ abbrev pub toldSays : ToldAnswer → Said ToldBody
 toldSays (told t) = yes t
 toldSays (body-refused r) = no r
 
--- where a list lies, from and to, and a field of it: what is not there is none, and not refused
-abbrev pub placeSays : ListPlace → Said (Option (ℕ × ℕ))
-placeSays Nowhere = yes none
-placeSays (Between from to) = yes (some (from, to))
-
-abbrev pub fieldSays : FieldAnswer → Said (Option Listed)
-fieldSays no-field = yes none
-fieldSays (Field l) = yes (some l)
+-- where the value of a field lies: a field that is absent is none, and not refused
+abbrev pub fieldSays : FieldAnswer → Said (Option Span)
+fieldSays Absent = yes none
+fieldSays (Value p) = yes (some p)
+fieldSays (field-refused r) = no r
 
 -- code, amount and receipt of a status information
 abbrev pub codeSays : ToldCode → Option ℕ

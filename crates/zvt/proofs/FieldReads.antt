@@ -2,7 +2,7 @@
 use mathlib.Core.Path.{_≡_, refl, sym, ap, _∙_}
 use mathlib.Core.Bool.{Bool, true, false}
 use mathlib.Core.List.{List}
-use Prim.Native.Nat.{ℕ, _+_, _≤_}
+use Prim.Native.Nat.{ℕ, _+_, _-_, _≤_}
 use native.Mathlib.Omega.{arith}
 use lib.ListN.{length, getD, drop}
 use borrow.Author.Tests.{ltb-false}
@@ -13,12 +13,14 @@ use Rattle.zvt_rules.specs.Reading.{Reading, got, refused, no, unless, andThen,
 use Rattle.zvt_rules.specs.Limits.{deepest}
 use Rattle.zvt_rules.specs.Objects.{formSize, Len, lenOf, RunRead, runOf}
 use Rattle.zvt_rules.specs.Fields.{formatOf, unknown, digitsOf, digitsIn, plain, container, FieldRead, valueOf, plainOf, containerOf, fieldBy}
-use Rattle.zvt_rules.specs.believed.Writing.{runBytes, fieldBytes}
+use Rattle.zvt_rules.specs.believed.Writing.{runBytes, fieldBytes, fieldValue}
 use Rattle.zvt_rules.specs.Shortest.{formFor, shortRun, shortField}
 use Rattle.zvt_rules.specs.believed.Grammar.{Bytes}
 use Rattle.zvt_rules.proofs.Readings.{got-same, got-not-refused, unless-got, unless-on, then-got, then-on, then-stop}
 use Rattle.zvt_rules.proofs.ObjectReading.{part-length}
-use Rattle.zvt_rules.proofs.ObjectBytes.{bytes-drop, bytes-part}
+use Rattle.zvt_rules.proofs.Tests.{by-test}
+use Rattle.zvt_rules.proofs.ObjectBytes.{bytes-drop, bytes-part, run-sound}
+use Rattle.zvt_rules.proofs.FieldReading.{digits-got}
 use Rattle.zvt_rules.proofs.Lengths.{sized-size, len-sound}
 use Rattle.zvt.specs.declared.objects.Bounds.{Bounds}
 use Rattle.zvt.specs.declared.objects.BoundsRead.the-variants.{Bounds as bounds-read, Refused as bounds-refused}
@@ -26,7 +28,7 @@ use Rattle.zvt.specs.declared.objects.Tally.{Tally}
 use Rattle.zvt.specs.declared.objects.PartRead.{PartRead}
 use Rattle.zvt.specs.declared.objects.PartRead.the-variants.{Part, Refused as part-refused}
 use Rattle.zvt.specs.ObjectSteps.{asBounds, asPart, boundsIn, spareRun, tallyOf, runTally, runAnswer}
-use Rattle.zvt.specs.FieldSteps.{boundsBy, fieldBounds, spareField, fieldTally, plainAnswer, fieldWhen, fieldPart}
+use Rattle.zvt.specs.FieldSteps.{boundsBy, fieldBounds, spareField, fieldTally, plainAnswer, fieldWhen, fieldPart, ValueFrom}
 use Rattle.zvt.proofs.RunLaws.{part-got, part-stopped, spare-read, tally-is, Fits, tally-fits}
 
 -- ---- readings that stop alike
@@ -207,3 +209,36 @@ module _ (twice : Bool) (n at : ℕ) (s : List ℕ) (once : twice ≡ false) whe
     field-container bs =
         part-got (runTally (part (b .from) (b .to) s)) (runOf deepest n (at + b .from) (part (b .from) (b .to) s))
         (λ r. Answered twice n at s b (r .objects) (r .spare)) (container-tally bs)
+
+-- ---- where the value begins
+pub no-value-from : (twice : Bool) (n at : ℕ) (s : List ℕ) (r : Refusal) (from : ℕ) → fieldPart twice n at s ≡ part-refused r → ValueFrom twice n at s from
+unfolding fieldPart
+no-value-from twice n at s r from e o f = absurd (got-not-refused (sym f ∙ part-stopped _ _ r e))
+
+module _ (n at : ℕ) (s : List ℕ) (bs : Bytes s) (b : Bounds) (bounds : fieldBounds at s ≡ bounds-read b) where
+  abbrev id : ℕ
+  id = getD s 0 0
+
+  value-length : length (part (b .from) (b .to) s) ≡ b .to - b .from
+  value-length = let w = field-value at s b bounds in part-length s (b .from) (b .to) (w .0) (w .1)
+
+  pub value-from : ValueFrom false n at s (b .from)
+  unfolding fieldWhen fieldBounds fieldValue
+  value-from o e =
+      let w = field-value at s b bounds in
+      let g = found _ b bounds in
+      let f : fieldBy id n at s (formatOf id) ≡ got o = sym (when-by id n at s (formatOf id)) ∙ e in
+      by-test (b .nested)
+      (λ t.
+      let c = by-container id n at s (formatOf id) b g t in
+      let k = then-got (runOf deepest n (at + b .from) (part (b .from) (b .to) s)) _ o (sym (c .then) ∙ f) in
+      let run = run-sound deepest n (at + b .from) (part (b .from) (b .to) s) (k .0) (bytes-part (b .from) (b .to) s bs) (k .1) .0 in
+      rw (← (got-same (k .2)), run, value-length) (omega (arith, w .0)))
+      (λ t.
+      let d = digits-got id (at + b .from) (part (b .from) (b .to) s) _ o (sym (by-plain id n at s (formatOf id) b g t) ∙ f) in
+      rw (← (got-same (d .1)), value-length) (omega (arith, w .0)))
+
+-- it does not lie behind the field
+pub from-inside : (twice : Bool) (n at : ℕ) (s : List ℕ) (from : ℕ) → ValueFrom twice n at s from → (t : Tally) → fieldPart twice n at s ≡ Part t → from ≤ t .size
+unfolding fieldPart fieldTally
+from-inside twice n at s from v = part-got fieldTally (fieldWhen twice n at s) (λ t. from ≤ t .size) (λ o e. omega (arith, v o e))

@@ -17,6 +17,7 @@ pub mod MessageLaws
 pub mod ShortMessages
 pub mod ListedLaws
 pub mod PlaceLaws
+pub mod AskingLaws
 pub mod ValueLaws
 pub mod NameLaws
 pub mod WalkLaws

@@ -11,8 +11,9 @@ use lib.Dec.{eqb}
 use borrow.Author.Tests.{eqb-true, eqb-false}
 use Rattle.zvt_rules.specs.declared.Refusal.{Refusal}
 use Rattle.zvt_rules.specs.Reading.{got, among}
-use Rattle.zvt_rules.specs.Fields.{Field, FieldRead, ListRead, fieldOf, listOf}
-use Rattle.zvt_rules.specs.believed.Writing.{fieldBytes, listBytes}
+use Rattle.zvt_rules.specs.Fields.{Field, fieldId, FieldRead, ListRead, fieldOf, listOf}
+use Rattle.zvt_rules.specs.believed.Writing.{fieldBytes, listBytes, fieldValue}
+use Rattle.zvt_rules.specs.Listed.{listedAt, listedFrom}
 use Rattle.zvt_rules.specs.Shortest.{shortField, shortList}
 use Rattle.zvt_rules.specs.believed.Grammar.{Bytes, FieldOk, ListOk}
 use Rattle.zvt_rules.proofs.Readings.{then-on, then-stop}
@@ -25,7 +26,7 @@ use Rattle.zvt.specs.declared.objects.Tally.{Tally}
 use Rattle.zvt.specs.declared.objects.PartRead.{PartRead}
 use Rattle.zvt.specs.declared.objects.PartRead.the-variants.{Part, Refused as part-refused}
 use Rattle.zvt.specs.ObjectSteps.{asPart}
-use Rattle.zvt.specs.FieldSteps.{spareField, spareList, fieldTally, listTally, fieldWhen, fieldPart, listAnswer}
+use Rattle.zvt.specs.FieldSteps.{spareField, spareList, fieldTally, listTally, fieldWhen, fieldPart, ValueFrom, listAnswer}
 use Rattle.zvt.proofs.RunLaws.{part-got, part-stopped, part-alike, part-then, spared}
 
 -- ---- the marks: at each id, whether it is one of those that came
@@ -140,3 +141,35 @@ module _ (at : ℕ) (s : List ℕ) where
       list-goes-on b t e =
           let g = list-goes ids twice n (at + i) (drop i s) is-seen (bytes-drop i s b) some (length s) spare t (rw tail at e) in
           (g .0, omega (arith, length-drop i s), g .2, g .3 ∙ rw (getD-drop i s 0 0, add-zero, drop-drop (t .size) i s, add-assoc at i (t .size)))
+
+-- ---- where the next field lies, and those behind it: the list that begins with that field, by the list behind it
+abbrev pub Listing : ℕ → List ℕ → List ℕ → ℕ → ℕ → ℕ → Tally → Type 0
+Listing at s ids n i from t =
+    (r : ListRead) → listOf (getD s i 0 ∷ ids) (t .objects) (at + (i + t .size)) (drop (i + t .size) s) ≡ got r
+    → (q : ListRead) × (listOf ids n (at + i) (drop i s) ≡ got q)
+    × (listedFrom (at + i) (q .fields)
+    ≡ record { id = getD s i 0; from = at + i + from; to = at + i + t .size } ∷ listedFrom (at + (i + t .size)) (r .fields))
+
+module _ (at : ℕ) (s ids : List ℕ) (n i from : ℕ) (b : Bytes s) (twice : Bool) (seen : twice ≡ among ids (getD s i 0)) (l : i < length s) where
+  lists : (o : FieldRead) → fieldWhen twice n (at + i) (drop i s) ≡ got o → from + length (fieldValue (o .field)) ≡ o .size → Listing at s ids n i from (fieldTally o)
+  unfolding fieldTally listedFrom listedAt
+  lists o e lead r h =
+      let first : getD (drop i s) 0 0 ≡ getD s i 0 = getD-drop i s 0 0 ∙ rw add-zero in
+      let f = sym (field-is ids twice n (at + i) (drop i s) (rw first seen)) ∙ e in
+      let k = field-in ids n (at + i) (drop i s) o f in
+      let g = field-sound ids n (at + i) (drop i s) o (bytes-drop i s b) f in
+      let size : length (fieldBytes (o .field)) ≡ o .size = ap length (g .bytes) ∙ length-take-le (o .size) (drop i s) (k .1) in
+      let id : fieldId (o .field) ≡ getD s i 0 = g .id ∙ first in
+      let start : at + i + o .size - length (fieldValue (o .field)) ≡ at + i + from = omega (arith, lead) in
+      let rest : listOf (getD (drop i s) 0 0 ∷ ids) (o .count) (at + i + o .size) (drop (o .size) (drop i s)) ≡ got r =
+      rw (first, drop-drop (o .size) i s, add-assoc at i (o .size)) h in (
+        record { fields = o .field ∷ r .fields; count = r .count },
+        list-step ids n (at + i) (drop i s) (omega (arith, length-drop i s)) ∙ then-on _ o f ∙ then-on _ r rest,
+        rw (size, id, start, add-assoc at i (o .size)),
+      )
+
+  pub list-notes : ValueFrom twice n (at + i) (take (length s - i) (drop i s)) from → (t : Tally)
+      → fieldPart twice n (at + i) (take (length s - i) (drop i s)) ≡ Part t → Listing at s ids n i from t
+  unfolding fieldPart
+  list-notes lead t e =
+      part-got fieldTally (fieldWhen twice n (at + i) (drop i s)) (Listing at s ids n i from) (λ o f. lists o f (rw (tail i s) at lead o f)) t (rw (tail i s) at e)

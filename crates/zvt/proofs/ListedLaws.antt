@@ -1,12 +1,11 @@
 -- The fields of a list that lies in a message, one after the other. Assumes nothing.
-use mathlib.Core.Path.{_≡_, refl, sym, ap, _∙_}
+use mathlib.Core.Path.{_≡_, refl, ap, _∙_}
 use mathlib.Core.List.{List, [], _∷_}
-use Prim.Native.Nat.{ℕ, suc, _+_, _-_, _<_, _≤_}
+use Prim.Native.Nat.{ℕ, _+_, _-_, _<_, _≤_}
 use native.Mathlib.Nat.{add-zero}
 use native.Mathlib.Omega.{arith}
 use lib.ListN.{length, getD, take, drop, length-drop}
 use lib.Seq.{length-take-le, take-add, take-take, drop-at, drop-drop, getD-take, getD-drop}
-use borrow.Author.Tests.{eq-eqb, ne-eqb}
 use Rattle.zvt_rules.specs.declared.Refusal.{Refusal}
 use Rattle.zvt_rules.specs.Reading.{got, part}
 use Rattle.zvt_rules.specs.Fields.{Field, fieldId, listOf}
@@ -16,13 +15,13 @@ use Rattle.zvt_rules.proofs.ObjectReading.{part-length}
 use Rattle.zvt_rules.proofs.ObjectBytes.{bytes-part}
 use Rattle.zvt_rules.proofs.FieldReading.{list-none}
 use Rattle.zvt_rules.specs.declared.Listed.{Listed}
-use Rattle.zvt_rules.specs.declared.FieldAnswer.{FieldAnswer}
-use Rattle.zvt_rules.specs.declared.FieldAnswer.the-variants.{Field as listed-field, End}
+use Rattle.zvt.specs.declared.list.Step.{Step}
+use Rattle.zvt.specs.declared.list.Step.the-variants.{Field as listed-field, End}
 use Rattle.zvt.specs.declared.objects.Bounds.{Bounds}
 use Rattle.zvt.specs.declared.objects.BoundsRead.the-variants.{Bounds as bounds-read, Refused as bounds-refused}
 use Rattle.zvt.specs.ObjectSteps.{asBounds}
 use Rattle.zvt.specs.FieldSteps.{fieldBounds}
-use Rattle.zvt_rules.specs.Listed.{listedAt, listedFrom, nthListed, namedListed}
+use Rattle.zvt_rules.specs.Listed.{listedAt, listedFrom}
 use Rattle.zvt.specs.ListSteps.{listFields, fieldsBetween, listedIn, ListIn, FieldHere, StandsAt, field, none}
 use Rattle.zvt.specs.WritingSteps.{ListReads}
 use Rattle.zvt.proofs.ShortLists.{first-field}
@@ -112,35 +111,10 @@ module _ (at end : ℕ) (s : List ℕ) (b : Bytes s) (h : ListIn at end s) (n : 
   first-never r e = let z : _≡_ {A = ℕ} 0 1 = cc (first-in at end s b h (omega (arith, h .order)) .read) in omega arith
 
 -- ---- what stands at a place says of the whole list
-pub field-here : {at e : ℕ} {s : List ℕ} {r : FieldAnswer} {l : Listed} → StandsAt at e s r → r ≡ listed-field l → FieldHere at e s l
+pub field-here : {at e : ℕ} {s : List ℕ} {r : Step} {l : Listed} → StandsAt at e s r → r ≡ listed-field l → FieldHere at e s l
 field-here {l = l} (field {l = k} h) e = let same : k ≡ l = cc in rw same at h
 field-here (none h) e = absurd (let z : _≡_ {A = ℕ} 0 1 = cc in omega arith)
 
-pub none-here : {at e : ℕ} {s : List ℕ} {r : FieldAnswer} → StandsAt at e s r → r ≡ End → listedIn at e s ≡ []
+pub none-here : {at e : ℕ} {s : List ℕ} {r : Step} → StandsAt at e s r → r ≡ End → listedIn at e s ≡ []
 none-here (field h) e = absurd (let z : _≡_ {A = ℕ} 0 1 = cc in omega arith)
 none-here (none h) e = h
-
-pub nth-end : (k : ℕ) {ls : List Listed} → ls ≡ [] → End ≡ nthListed k ls
-unfolding nthListed
-nth-end k h = rw h
-
-pub named-end : (id : ℕ) {ls : List Listed} → ls ≡ [] → End ≡ namedListed id ls
-unfolding namedListed
-named-end id h = rw h
-
-module _ {at e : ℕ} {s : List ℕ} {l : Listed} (h : FieldHere at e s l) where
-  pub nth-here : (k : ℕ) → k ≡ 0 → listed-field l ≡ nthListed k (listedIn at e s)
-  unfolding nthListed
-  nth-here k z = rw (h .all, z)
-
-  pub nth-next : (k : ℕ) → (k ≡ 0 → ⊥) → nthListed (k - 1) (listedIn (l .to) e s) ≡ nthListed k (listedIn at e s)
-  unfolding nthListed
-  nth-next k n = let d : k ≡ suc (k - 1) = omega arith in rw (h .all) (sym (ap (λ j. nthListed j (l ∷ listedIn (l .to) e s)) d))
-
-  pub named-here : (id : ℕ) → l .id ≡ id → listed-field l ≡ namedListed id (listedIn at e s)
-  unfolding namedListed
-  named-here id q = rw (h .all, eq-eqb (l .id) id q)
-
-  pub named-next : (id : ℕ) → (l .id ≡ id → ⊥) → namedListed id (listedIn (l .to) e s) ≡ namedListed id (listedIn at e s)
-  unfolding namedListed
-  named-next id n = rw (h .all, ne-eqb (l .id) id n)

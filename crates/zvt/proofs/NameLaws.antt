@@ -1,5 +1,6 @@
 -- The card name: the bytes of field 8B up to the first zero byte, and where they lie. Assumes nothing.
 use mathlib.Core.Path.{_≡_, refl, ap, _∙_}
+use mathlib.Core.Bool.{true, false}
 use mathlib.Core.List.{List, [], _∷_}
 use Prim.Native.Nat.{ℕ, _+_, _<_, _≤_}
 use native.Mathlib.Numerals.{add-one}
@@ -8,15 +9,18 @@ use lib.ListN.{length, getD, drop, drop-of-length-le}
 use lib.Seq.{drop-cons}
 use lib.Dec.{eqb}
 use borrow.Author.Tests.{eq-eqb, ne-eqb}
-use Rattle.zvt_rules.specs.Reading.{part}
+use Rattle.zvt_rules.specs.Reading.{Reading, got, refused, part}
 use Rattle.zvt_rules.proofs.Tests.{pick-test}
 use Rattle.zvt_rules.proofs.ObjectReading.{part-length}
-use Rattle.zvt_rules.specs.declared.Listed.{Listed}
-use Rattle.zvt_rules.specs.declared.FieldAnswer.the-variants.{Field as listed-field, End}
-use Rattle.zvt_rules.specs.Listed.{namedListed}
-use Rattle.zvt.specs.ListSteps.{listedIn}
-use Rattle.zvt_rules.specs.Name.{upToZero, own, between, sizedName, nameIn, nameAt, nameBytes, cardName, namePlace}
-use Rattle.zvt.proofs.PlaceLaws.{StatusIn}
+use Rattle.zvt_rules.specs.declared.Refusal.{Refusal}
+use Rattle.zvt_rules.specs.declared.Span.{Span}
+use Rattle.zvt_rules.specs.declared.FieldAnswer.the-variants.{Absent, Value, Refused as field-refused}
+use Rattle.zvt_rules.specs.Message.{Message, readOf}
+use Rattle.zvt_rules.specs.Listed.{askedOf, fieldAnswer}
+use Rattle.zvt_rules.specs.Name.{upToZero, own, between, sizedName, nameIn, nameOf, nameAt, nameBytes, cardName, namePlace}
+use Rattle.zvt_rules.specs.believed.Grammar.{Bytes}
+use Rattle.zvt.specs.ValueSteps.{statusPair}
+use Rattle.zvt.proofs.ValueLaws.{pair-is}
 
 -- ---- from the i-th byte on
 module _ (s : List ℕ) (i : ℕ) where
@@ -48,20 +52,42 @@ module _ (s till : List ℕ) (p q : ℕ × ℕ) where
   unfolding cardName nameBytes namePlace
   part-name a e h = rw h (refl, refl)
 
-module _ (from end : ℕ) (s : List ℕ) (h : StatusIn from end s) where
-  pub name-missing : namedListed 0x8B (listedIn from end s) ≡ End → nameAt s ≡ own
-  unfolding nameIn
-  name-missing e = h .name ∙ ap (nameIn s) e
+module _ (s : List ℕ) (b : Bytes s) where
+  -- no status information has the till's own
+  pub name-other : statusPair s ≡ false → nameAt s ≡ own
+  unfolding nameAt nameOf
+  name-other t = go (readOf s) refl
+    where
+      go : (x : Reading Message) → readOf s ≡ x → nameOf s x ≡ own
+      go (got m) e = rw (pair-is s m b e ∙ t)
+      go (refused r) e = refl
 
-  module _ (l : Listed) (e : namedListed 0x8B (listedIn from end s) ≡ listed-field l) (k : ℕ) (size : k ≡ length (upToZero (part (l .from) (l .to) s))) where
-    pub name-empty : k ≡ 0 → nameAt s ≡ own
-    unfolding nameIn sizedName
-    name-empty z = h .name ∙ ap (nameIn s) e ∙ rw (← size, z)
+  name-by : statusPair s ≡ true → nameAt s ≡ nameIn s (fieldAnswer 0x8B s)
+  unfolding nameAt nameOf nameIn fieldAnswer askedOf
+  name-by t = go (readOf s) refl
+    where
+      go : (x : Reading Message) → readOf s ≡ x → nameOf s x ≡ nameIn s (askedOf 0x8B x)
+      go (got m) e = rw (pair-is s m b e ∙ t)
+      go (refused r) e = refl
 
-    pub name-found : (k ≡ 0 → ⊥) → nameAt s ≡ between (l .from) (l .from + k)
-    unfolding nameIn sizedName
-    name-found n = h .name ∙ ap (nameIn s) e ∙ rw (← size, ne-eqb k 0 n)
+  module _ (t : statusPair s ≡ true) where
+    pub name-absent : fieldAnswer 0x8B s ≡ Absent → nameAt s ≡ own
+    unfolding nameIn
+    name-absent e = name-by t ∙ ap (nameIn s) e
 
-    -- it is no longer than the field's value
-    pub name-inside : l .from ≤ l .to → l .to ≤ length s → l .from + k ≤ l .to
-    name-inside o i = let v = part (l .from) (l .to) s in omega (arith, size, name-short v, part-length s (l .from) (l .to) o i)
+    pub name-refused : (r : Refusal) → fieldAnswer 0x8B s ≡ field-refused r → nameAt s ≡ own
+    unfolding nameIn
+    name-refused r e = name-by t ∙ ap (nameIn s) e
+
+    module _ (l : Span) (e : fieldAnswer 0x8B s ≡ Value l) (k : ℕ) (size : k ≡ length (upToZero (part (l .from) (l .to) s))) where
+      pub name-empty : k ≡ 0 → nameAt s ≡ own
+      unfolding nameIn sizedName
+      name-empty z = name-by t ∙ ap (nameIn s) e ∙ rw (← size, z)
+
+      pub name-found : (k ≡ 0 → ⊥) → nameAt s ≡ between (l .from) (l .from + k)
+      unfolding nameIn sizedName
+      name-found n = name-by t ∙ ap (nameIn s) e ∙ rw (← size, ne-eqb k 0 n)
+
+      -- it is no longer than the field's value
+      pub name-inside : l .from ≤ l .to → l .to ≤ length s → l .from + k ≤ l .to
+      name-inside o i = let v = part (l .from) (l .to) s in omega (arith, size, name-short v, part-length s (l .from) (l .to) o i)

@@ -4,33 +4,42 @@ use mathlib.Core.Path.{_≡_, refl, sym, ap, _∙_}
 use mathlib.Core.Bool.{true, or-true}
 use mathlib.Core.List.{List, [], _∷_}
 use Prim.Native.Nat.{ℕ, suc, _+_, _<_, _≤_}
+use native.Mathlib.Nat.{add-zero}
 use native.Mathlib.Omega.{arith}
-use lib.ListN.{length, getD, set, replicate}
+use lib.ListN.{length, getD, drop, set, replicate, length-drop}
 use lib.Dec.{eqb}
 use borrow.Author.Tests.{lt-ltb, eqb-true, eq-eqb}
-use Rattle.zvt_rules.specs.Reading.{among}
+use Rattle.zvt_rules.specs.declared.Refusal.{Refusal}
+use Rattle.zvt_rules.specs.Reading.{got, among}
 use Rattle.zvt_rules.specs.Buffers.{front, Whole}
 use Rattle.zvt_rules.specs.Text.{Text, text, addOne, addAll}
-use Rattle.zvt_rules.specs.Fields.{Field, fieldId}
+use Rattle.zvt_rules.specs.Fields.{Field, fieldId, ListRead, listOf}
 use Rattle.zvt_rules.specs.believed.Writing.{fieldBytes}
 use Rattle.zvt_rules.specs.believed.Grammar.{Bytes, ListOk}
 use Rattle.zvt_rules.specs.declared.Listed.{Listed}
 use Rattle.zvt_rules.specs.declared.Span.{Span}
 use Rattle.zvt_rules.specs.declared.FieldAnswer.{FieldAnswer}
-use Rattle.zvt_rules.specs.declared.FieldAnswer.the-variants.{Field as listed-field, End}
-use Rattle.zvt_rules.specs.Listed.{listedAt, listedFrom, namedListed, idsListed, nowhere, spanOf, spansIn}
+use Rattle.zvt_rules.specs.declared.FieldAnswer.the-variants.{Absent, Value, Refused as field-refused}
+use Rattle.zvt_rules.specs.Listed.{listedAt, listedFrom, namedListed, idsListed, nowhere, spanOf}
 use Rattle.zvt_rules.proofs.Tests.{by-test, pick-true, pick-false, true-false}
+use Rattle.zvt_rules.proofs.Readings.{got-same, got-not-refused}
 use Rattle.zvt_rules.proofs.Text.{put-whole}
-use Rattle.zvt.specs.ListSteps.{listedIn, ListIn, FieldHere, noted, notedAll}
-use Rattle.zvt.proofs.ValueLaws.{between-ok}
+use Rattle.zvt_rules.proofs.FieldReading.{list-none}
+use Rattle.zvt_rules.proofs.FieldBytes.{list-sound}
+use Rattle.zvt.specs.declared.objects.Tally.{Tally}
+use Rattle.zvt.specs.declared.objects.PartRead.the-variants.{Refused as part-refused}
+use Rattle.zvt.specs.FieldSteps.{listAnswer, noted, notedAll, spansIn, Finds}
+use Rattle.zvt.specs.ListSteps.{listedIn, FieldHere}
+use Rattle.zvt.proofs.RunLaws.{part-stopped}
+use Rattle.zvt.proofs.ListLaws.{Listing}
 
 -- ---- no id stands twice
 unfoldable Once : List Listed → Type 0
 Once [] = Unit {0}
-Once (l ∷ ls) = (namedListed (l .id) ls ≡ End) × Once ls
+Once (l ∷ ls) = (namedListed (l .id) ls ≡ Absent) × Once ls
 
 -- an id that was seen does not come
-seen-gone : (id at : ℕ) (seen : List ℕ) (fs : List Field) → ListOk seen fs → among seen id ≡ true → namedListed id (listedFrom at fs) ≡ End
+seen-gone : (id at : ℕ) (seen : List ℕ) (fs : List Field) → ListOk seen fs → among seen id ≡ true → namedListed id (listedFrom at fs) ≡ Absent
 unfolding ListOk listedFrom listedAt namedListed among
 seen-gone id at seen [] ok h = refl
 seen-gone id at seen (f ∷ fs) ok h =
@@ -45,30 +54,31 @@ listed-once at seen (f ∷ fs) ok =
     let next = at + length (fieldBytes f) in
     (seen-gone (fieldId f) next (fieldId f ∷ seen) fs (ok .2) (rw (eq-eqb (fieldId f) (fieldId f) refl)), listed-once next (fieldId f ∷ seen) fs (ok .2))
 
-once-in : (a e : ℕ) (s : List ℕ) → Bytes s → ListIn a e s → Once (listedIn a e s)
-unfolding listedIn
-once-in a e s b l = listed-once a [] _ (between-ok a e s b l)
-
 -- ---- the last field with an id, where x was noted before
 unfoldable lastIn : ℕ → Span → List Listed → Span
 lastIn id x [] = x
 lastIn id x (l ∷ ls) = lastIn id (noted id l x) ls
 
-last-none : (id : ℕ) (x : Span) (ls : List Listed) → namedListed id ls ≡ End → lastIn id x ls ≡ x
+value-absent : {X : Type 0} {p : Span} → Value p ≡ Absent → X
+value-absent e = absurd (let z : _≡_ {A = ℕ} 0 1 = cc in omega arith)
+
+last-none : (id : ℕ) (x : Span) (ls : List Listed) → namedListed id ls ≡ Absent → lastIn id x ls ≡ x
 unfolding namedListed lastIn noted
 last-none id x [] e = refl
 last-none id x (l ∷ ls) e =
-    by-test (eqb (l .id) id) (λ t. absurd (let z : _≡_ {A = ℕ} 0 1 = cc (pick-true (listed-field l) (namedListed id ls) t) in omega arith))
+    by-test (eqb (l .id) id) (λ t. value-absent (sym (pick-true _ (namedListed id ls) t) ∙ e))
     (λ t. ap (λ (y : Span). lastIn id y ls) (pick-false _ x t) ∙ last-none id x ls (sym (pick-false _ _ t) ∙ e))
 
 unfoldable orElse : Span → FieldAnswer → Span
-orElse x End = x
-orElse x (listed-field l) = spanOf (listed-field l)
+orElse x Absent = x
+orElse x (Value p) = p
+orElse x (field-refused r) = x
 
 or-nowhere : (x : FieldAnswer) → orElse nowhere x ≡ spanOf x
 unfolding orElse spanOf
-or-nowhere End = refl
-or-nowhere (listed-field l) = refl
+or-nowhere Absent = refl
+or-nowhere (Value p) = refl
+or-nowhere (field-refused r) = refl
 
 last-is : (id : ℕ) (x : Span) (ls : List Listed) → Once ls → lastIn id x ls ≡ orElse x (namedListed id ls)
 unfolding Once namedListed lastIn noted orElse
@@ -76,7 +86,7 @@ last-is id x [] o = refl
 last-is id x (l ∷ ls) o =
     by-test (eqb (l .id) id)
     (λ t.
-    let gone : namedListed id ls ≡ End = rw (← (eqb-true (l .id) id t)) (o .0) in
+    let gone : namedListed id ls ≡ Absent = rw (← (eqb-true (l .id) id t)) (o .0) in
     ap (λ (y : Span). lastIn id y ls) (pick-true _ x t) ∙ last-none id _ ls gone ∙ sym (ap (orElse x) (pick-true _ _ t)))
     (λ t. ap (λ (y : Span). lastIn id y ls) (pick-false _ x t) ∙ last-is id x ls (o .1) ∙ sym (ap (orElse x) (pick-false _ _ t)))
 
@@ -112,10 +122,43 @@ lasts-first (id ∷ ids) ls o =
     let one : lastIn id nowhere ls ≡ spanOf (namedListed id ls) = last-is id _ ls o ∙ or-nowhere (namedListed id ls) in
     rw one (ap (λ ys. spanOf (namedListed id ls) ∷ ys) (lasts-first ids ls o))
 
-pub lasts-all : (ids : List ℕ) (a e : ℕ) (s : List ℕ) → Bytes s → ListIn a e s → length ids ≡ 4
-    → lasts ids (replicate 4 nowhere) (listedIn a e s) ≡ spansIn (listedIn a e s) ids
-lasts-all ids a e s b l h =
-    ap (λ n. lasts ids (replicate n nowhere) (listedIn a e s)) (sym h) ∙ lasts-first ids (listedIn a e s) (once-in a e s b l)
+pub lasts-all : (ids : List ℕ) (at : ℕ) (fs : List Field) → ListOk [] fs → length ids ≡ 4
+    → lasts ids (replicate 4 nowhere) (listedFrom at fs) ≡ spansIn (listedFrom at fs) ids
+lasts-all ids at fs ok h =
+    ap (λ n. lasts ids (replicate n nowhere) (listedFrom at fs)) (sym h) ∙ lasts-first ids (listedFrom at fs) (listed-once at [] fs ok)
+
+-- ---- a list from the i-th byte on, where so much is noted of the fields before it: with those behind it, that is what all of them give
+abbrev pub Noting : ℕ → List ℕ → List ℕ → List ℕ → ℕ → ℕ → List Span → Type 0
+Noting at s ids seen n i fields =
+    (r : ListRead) → listOf seen n (at + i) (drop i s) ≡ got r
+    → (q : ListRead) × (listOf [] 0 at s ≡ got q) × (spansIn (listedFrom at (q .fields)) ids ≡ lasts ids fields (listedFrom (at + i) (r .fields)))
+
+module _ (at : ℕ) (s ids : List ℕ) where
+  pub noting-begins : Bytes s → length ids ≡ 4 → Noting at s ids [] 0 0 (replicate 4 nowhere)
+  noting-begins b h r e =
+      let f : listOf [] 0 at s ≡ got r = rw (add-zero at) at e in
+      (r, f, rw (add-zero at) (sym (lasts-all ids at (r .fields) (list-sound [] 0 at s r b f .1) h)))
+
+  pub noting-goes : (seen : List ℕ) (n i from : ℕ) (fields : List Span) (t : Tally) → Noting at s ids seen n i fields → Listing at s seen n i from t
+      → Noting at s ids (getD s i 0 ∷ seen) (t .objects) (i + t .size)
+      (notedAll ids (record { id = getD s i 0; from = at + i + from; to = at + i + t .size }) fields)
+  noting-goes seen n i from fields t before listing r e =
+      let (q, f, listed) = listing r e in
+      let (w, g, h) = before q f in
+      (w, g, h ∙ ap (lasts ids fields) listed ∙ sym (lasts-next ids fields _ _))
+
+  pub noting-ends : (seen : List ℕ) (n i : ℕ) (fields : List Span) → Noting at s ids seen n i fields → length s ≤ i → length fields ≡ length ids
+      → Finds ids at s fields
+  unfolding listedFrom
+  noting-ends seen n i fields before h l r e =
+      let (w, g, k) = before _ (list-none seen n (at + i) (drop i s) (omega (arith, length-drop i s))) in
+      let same : w ≡ r = got-same (sym g ∙ e) in
+      sym (rw same at k ∙ lasts-end ids fields l)
+
+-- nothing is found in a list that is refused
+pub none-found : (ids : List ℕ) (at : ℕ) (s : List ℕ) (r : Refusal) (fields : List Span) → listAnswer at s ≡ part-refused r → Finds ids at s fields
+unfolding listAnswer
+none-found ids at s r fields e q f = absurd (got-not-refused (sym f ∙ part-stopped _ _ r e))
 
 -- ---- four of them
 abbrev fourOf : {A : Type 0} → A → List A → List A

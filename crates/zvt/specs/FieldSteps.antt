@@ -1,21 +1,30 @@
 -- Steps of the code, private: what the readers of fields answer, by the definitions of crate zvt_rules. Definitions only.
 use Prim.Native.Nat.{ℕ, _+_, _-_}
 use mathlib.Core.Bool.{Bool, true, false}
-use mathlib.Core.List.{List, []}
-use lib.ListN.{length, getD, drop}
+use mathlib.Core.Path.{_≡_}
+use mathlib.Core.List.{List, [], _∷_}
+use lib.ListN.{length, getD, drop, replicate}
+use lib.Dec.{eqb}
+use Rattle.zvt_rules.specs.declared.Refusal.{Refusal}
 use Rattle.zvt_rules.specs.declared.Format.{Format}
 use Rattle.zvt_rules.specs.declared.Format.the-variants.{Unknown, Fixed, Digits, Container}
-use Rattle.zvt_rules.specs.Reading.{Reading, got, refused, no, unless, andThen, part}
+use Rattle.zvt_rules.specs.declared.Listed.{Listed}
+use Rattle.zvt_rules.specs.declared.Span.{Span}
+use Rattle.zvt_rules.specs.Reading.{Reading, got, refused, no, pick, unless, andThen, part}
 use Rattle.zvt_rules.specs.Objects.{formSize, lenOf}
 use Rattle.zvt_rules.specs.Fields.{formatOf, unknown, digitsOf, unlessUndecimal, digitsIn, Field, plain, FieldRead, ListRead, fieldBy, listOf}
-use Rattle.zvt_rules.specs.believed.Writing.{fieldBytes, listBytes}
+use Rattle.zvt_rules.specs.believed.Writing.{fieldBytes, listBytes, fieldValue}
+use Rattle.zvt_rules.specs.Listed.{listedFrom, namedListed, nowhere, spanOf}
 use Rattle.zvt_rules.specs.Shortest.{shortField, shortList}
 use Rattle.zvt.specs.declared.objects.Bounds.{Bounds}
 use Rattle.zvt.specs.declared.objects.BoundsRead.{BoundsRead}
 use Rattle.zvt.specs.declared.objects.Tally.{Tally}
 use Rattle.zvt.specs.declared.objects.PartRead.{PartRead}
+use Rattle.zvt.specs.declared.objects.PartRead.the-variants.{Refused as part-refused}
 use Rattle.zvt.specs.declared.fields.DigitsRead.{DigitsRead}
 use Rattle.zvt.specs.declared.fields.DigitsRead.the-variants.{Number, Refused as digits-refused}
+use Rattle.zvt.specs.declared.fields.FieldFound.{FieldFound}
+use Rattle.zvt.specs.declared.fields.ListFound.{ListFound}
 use Rattle.zvt.specs.declared.fields.Decimals.{Decimals}
 use Rattle.zvt.specs.declared.fields.Decimals.the-variants.{All, Refused as decimals-refused}
 use Rattle.zvt.specs.ObjectSteps.{asBounds, asPart, boundsIn}
@@ -72,5 +81,33 @@ fieldWhen twice n at s =
 unfoldable pub fieldPart : Bool → ℕ → ℕ → List ℕ → PartRead
 fieldPart twice n at s = asPart fieldTally (fieldWhen twice n at s)
 
+-- refused at its id
+abbrev pub refusedAt : ℕ → ℕ → FieldFound
+refusedAt at number = record { part = part-refused (no number at); from = 0 }
+
+-- where the value of a field that is read begins
+abbrev pub ValueFrom : Bool → ℕ → ℕ → List ℕ → ℕ → Type 0
+ValueFrom twice n at s from = (o : FieldRead) → fieldWhen twice n at s ≡ got o → from + length (fieldValue (o .field)) ≡ o .size
+
 unfoldable pub listAnswer : ℕ → List ℕ → PartRead
 listAnswer at s = asPart (listTally s) (listOf [] 0 at s)
+
+-- where a field lies that has the id, else what was noted before
+unfoldable pub noted : ℕ → Listed → Span → Span
+noted id l x = pick (eqb (l .id) id) (record { from = l .from; to = l .to }) x
+
+unfoldable pub notedAll : List ℕ → Listed → List Span → List Span
+notedAll [] l xs = []
+notedAll (id ∷ ids) l [] = []
+notedAll (id ∷ ids) l (x ∷ xs) = noted id l x ∷ notedAll ids l xs
+
+-- where the fields with those ids lie in a list that is read
+unfoldable pub spansIn : List Listed → List ℕ → List Span
+spansIn ls [] = []
+spansIn ls (id ∷ ids) = spanOf (namedListed id ls) ∷ spansIn ls ids
+
+abbrev pub refusedList : Refusal → ListFound
+refusedList r = record { part = part-refused r; fields = replicate 4 nowhere }
+
+abbrev pub Finds : List ℕ → ℕ → List ℕ → List Span → Type 0
+Finds ids at s found = (r : ListRead) → listOf [] 0 at s ≡ got r → found ≡ spansIn (listedFrom at (r .fields)) ids

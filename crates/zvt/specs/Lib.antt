@@ -3,6 +3,7 @@ pub mod ObjectSteps
 pub mod FieldSteps
 pub mod HeaderSteps
 pub mod BodySteps
+pub mod AskingSteps
 pub mod WritingSteps
 pub mod ListSteps
 pub mod ValueSteps

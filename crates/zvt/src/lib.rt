@@ -1,5 +1,6 @@
 // The reader of ZVT messages: what the bytes of a terminal say, the same message with every length shortest, and the digits that
 // a till writes. Each function says in its contract which definition gives its answer.
+mod asking;
 mod body;
 mod digits;
 mod fields;
@@ -12,14 +13,15 @@ mod told;
 mod values;
 mod writing;
 
+use asking::NO_ID;
 use headers::HeaderRead;
 use objects::PartRead;
 use zvt_rules::FieldAnswer;
 use zvt_rules::FirstAnswer;
+use zvt_rules::FirstRead;
 use zvt_rules::HeaderAnswer;
 use zvt_rules::HearAnswer;
 use zvt_rules::Heard;
-use zvt_rules::ListPlace;
 use zvt_rules::Places;
 use zvt_rules::ReadAnswer;
 use zvt_rules::Refusal;
@@ -31,7 +33,7 @@ ghost use Rattle.zvt_rules.specs.Answers.{headerAnswer, readAnswer, firstAnswer
 ghost use Rattle.zvt_rules.specs.Buffers.{Whole};
 ghost use Rattle.zvt_rules.specs.Digits.{digitBytesOf, numberOf};
 ghost use Rattle.zvt_rules.specs.Heard.{hearAnswer};
-ghost use Rattle.zvt_rules.specs.Listed.{fieldAnswer, namedAnswer, idsAnswer, listPlace, placesAnswer};
+ghost use Rattle.zvt_rules.specs.Listed.{fieldAnswer, handedBytes, handedPlace, firstIds, placesAnswer};
 ghost use Rattle.zvt_rules.specs.Name.{nameAt, cardName, namePlace};
 ghost use Rattle.zvt_rules.specs.Values.{statusOf};
 
@@ -49,28 +51,31 @@ pub fn read_header(s: &[u8]) -> HeaderAnswer
 pub fn read(s: &[u8]) -> ReadAnswer
     ensures { λ r. ⌜ r ≡ readAnswer (now (s .entry)) ⌝ }
 {
-    match headers::whole_header(s) {
-        HeaderRead::Refused(f) => ReadAnswer::Refused(f),
-        HeaderRead::Header(h) => match body::body_in(s, h) {
-            PartRead::Refused(f) => ReadAnswer::Refused(f),
-            PartRead::Part(t) => ReadAnswer::Accepted(body::outline_of(h, t)),
-        },
-    }
+    let message = asking::ask(s, [NO_ID; 4]);
+    message.answer
 }
 
-// The message that s begins with.
-pub fn read_first(s: &[u8]) -> FirstAnswer
-    ensures { λ r. ⌜ r ≡ firstAnswer (now (s .entry)) ⌝ }
+// The message that s begins with, and the ids of its list in their order, written to ids. Nothing is written where it is refused.
+pub fn read_first(s: &[u8], ids: &mut [u8; 256]) -> FirstRead
+    ensures answer { λ r. ⌜ r .answer ≡ firstAnswer (now (s .entry)) ⌝ }
+    ensures lent { λ r. ⌜ Whole (firstIds (now (s .entry))) (r .count) (now (ids .entry)) (now (ids .exit)) ⌝ }
 {
     match headers::header_of(s) {
-        HeaderRead::Refused(f) => FirstAnswer::Refused(f),
-        HeaderRead::Header(h) => match body::body_in(s, h) {
-            PartRead::Refused(f) => FirstAnswer::Refused(f),
-            PartRead::Part(t) => {
-                let next = h.start + h.length;
-                FirstAnswer::Accepted(body::outline_of(h, t), next)
+        HeaderRead::Refused(f) => list::refused_first(f),
+        HeaderRead::Header(h) => {
+            let body = body::body_in(s, h, [NO_ID; 4]);
+            let part = body.part;
+            match part {
+                PartRead::Refused(f) => list::refused_first(f),
+                PartRead::Part(t) => {
+                    let next = h.start + h.length;
+                    let outline = body::outline_of(h, t);
+                    let count = list::put_own_ids(&s[..next], outline, ids);
+                    let answer = FirstAnswer::Accepted(outline, next);
+                    FirstRead { answer, count }
+                }
             }
-        },
+        }
     }
 }
 
@@ -81,75 +86,72 @@ pub fn shorten(s: &[u8], out: &mut [u8]) -> ShortenAnswer
 {
     match headers::whole_header(s) {
         HeaderRead::Refused(f) => ShortenAnswer::Refused(f),
-        HeaderRead::Header(h) => match body::body_in(s, h) {
-            PartRead::Refused(f) => ShortenAnswer::Refused(f),
-            PartRead::Part(t) => {
-                let size = writing::message_size(h.length - t.spare);
-                if out.len() < size {
-                    return ShortenAnswer::Refused(Refusal::unplaced(11));
+        HeaderRead::Header(h) => {
+            let body = body::body_in(s, h, [NO_ID; 4]);
+            let part = body.part;
+            match part {
+                PartRead::Refused(f) => ShortenAnswer::Refused(f),
+                PartRead::Part(t) => {
+                    let size = writing::message_size(h.length - t.spare);
+                    if out.len() < size {
+                        return ShortenAnswer::Refused(Refusal::unplaced(11));
+                    }
+                    writing::put_message(s, h, &mut out[..size]);
+                    ShortenAnswer::Written(size)
                 }
-                writing::put_message(s, h, &mut out[..size]);
-                ShortenAnswer::Written(size)
             }
-        },
+        }
     }
 }
 
-// Where the list of the message that s is lies: a password stands before it, behind the header.
-pub fn list_place(s: &[u8]) -> ListPlace
-    ensures { λ r. ⌜ r ≡ listPlace (now (s .entry)) ⌝ }
+// The field with that id of the list of the message that s is: where its value lies.
+pub fn field(s: &[u8], id: u8) -> FieldAnswer
+    ensures { λ r. ⌜ r ≡ fieldAnswer id (now (s .entry)) ⌝ }
 {
-    let parts = list::parts_of(s);
-    let place = parts.list;
-    if place.to == 0 {
-        return ListPlace::Nowhere;
+    let message = asking::ask(s, [id, NO_ID, NO_ID, NO_ID]);
+    let answer = message.answer;
+    match answer {
+        ReadAnswer::Refused(f) => FieldAnswer::Refused(f),
+        ReadAnswer::Accepted(_) => {
+            let places = message.places;
+            let fields = places.fields;
+            asking::answer_at(fields[0])
+        }
     }
-    ListPlace::Between(place.from, place.to)
 }
 
-// Field number k, from 0, of the list of the message that s is.
-pub fn field_at(s: &[u8], k: usize) -> FieldAnswer
-    ensures { λ r. ⌜ r ≡ fieldAnswer k (now (s .entry)) ⌝ }
+// The bytes of that field's value, as they lie in s; the other bytes where s has no such field or is refused.
+pub fn field_bytes<'a>(s: &'a [u8], id: u8, other: &'a [u8]) -> &'a [u8]
+    ensures bytes { λ r. ⌜ now r ≡ handedBytes (now (s .entry)) (now (other .entry)) (fieldAnswer id (now (s .entry))) ⌝ }
+    ensures place { λ r. ⌜ r .ptr ≡ handedPlace (s .entry .ptr) (other .entry .ptr) (fieldAnswer id (now (s .entry))) ⌝ }
 {
-    let parts = list::parts_of(s);
-    let place = parts.list;
-    list::nth(s, place.from, place.to, k)
+    match field(s, id) {
+        FieldAnswer::Absent => other,
+        FieldAnswer::Value(place) => {
+            let from = place.from;
+            let to = place.to;
+            &s[from..to]
+        }
+        FieldAnswer::Refused(_) => other,
+    }
 }
 
-// The field with that id of the list of the message that s is.
-pub fn field_named(s: &[u8], id: u8) -> FieldAnswer
-    ensures { λ r. ⌜ r ≡ namedAnswer id (now (s .entry)) ⌝ }
-{
-    let parts = list::parts_of(s);
-    let place = parts.list;
-    list::named(s, place.from, place.to, id)
-}
-
-// Writes the ids of the list of the message that s is, in their order, and answers how many they are: none where there is no list.
-pub fn ids(s: &[u8], out: &mut [u8; 256]) -> usize
-    ensures { λ r. ⌜ Whole (idsAnswer (now (s .entry))) r (now (out .entry)) (now (out .exit)) ⌝ }
-{
-    let parts = list::parts_of(s);
-    let place = parts.list;
-    list::put_ids(s, place.from, place.to, out)
-}
-
-// Where the password and the fields with those ids lie in the message that s is.
+// Where the password and the values of the fields with those ids lie in the message that s is.
 pub fn places(s: &[u8], ids: [u8; 4]) -> Places
     ensures { λ r. ⌜ r ≡ placesAnswer ids (now (s .entry)) ⌝ }
 {
-    let parts = list::parts_of(s);
-    let password = parts.password;
-    let place = parts.list;
-    let fields = list::four(s, place.from, place.to, ids);
-    Places { password, fields }
+    let message = asking::ask(s, ids);
+    message.places
 }
 
 // What the status information that s is tells; nothing of any other bytes.
 pub fn read_status(s: &[u8]) -> Status
     ensures { λ r. ⌜ r ≡ statusOf (now (s .entry)) ⌝ }
 {
-    told::status_at(s, list::status_place(s))
+    let message = asking::ask(s, values::STATUS_IDS);
+    let places = message.places;
+    let fields = places.fields;
+    values::status_at(s, fields)
 }
 
 // What a desk asks of the message that s is: its header, and what the body behind it tells.
@@ -173,21 +175,22 @@ pub fn card_name<'a>(s: &'a [u8], own: &'a [u8]) -> &'a [u8]
     ensures bytes { λ r. ⌜ now r ≡ cardName (now (s .entry)) (now (own .entry)) ⌝ }
     ensures place { λ r. ⌜ r .ptr ≡ namePlace (s .entry .ptr) (own .entry .ptr) (nameAt (now (s .entry))) ⌝ }
 {
-    match list::status_place(s) {
-        ListPlace::Nowhere => own,
-        ListPlace::Between(from, end) => match list::named(s, from, end, 0x8B) {
-            FieldAnswer::End => own,
-            FieldAnswer::Field(f) => {
-                let a = f.from;
-                let e = f.to;
-                let size = name::name_size(&s[a..e]);
-                if size == 0 {
-                    return own;
-                }
-                let to = a + size;
-                &s[a..to]
+    if !values::is_status(s) {
+        return own;
+    }
+    match field(s, 0x8B) {
+        FieldAnswer::Absent => own,
+        FieldAnswer::Refused(_) => own,
+        FieldAnswer::Value(place) => {
+            let from = place.from;
+            let end = place.to;
+            let size = name::name_size(&s[from..end]);
+            if size == 0 {
+                return own;
             }
-        },
+            let to = from + size;
+            &s[from..to]
+        }
     }
 }
 

@@ -2,40 +2,22 @@
 use crate::body::body_in;
 use crate::body::outline_of;
 use crate::format::layout_of;
-use crate::list::status_list;
 use crate::objects::PartRead;
-use crate::values::status_in;
+use crate::values::STATUS_IDS;
+use crate::values::status_at;
 use zvt_rules::Header;
 use zvt_rules::Layout;
-use zvt_rules::ListPlace;
 use zvt_rules::Outline;
-use zvt_rules::Status;
-use zvt_rules::ToldAmount;
+use zvt_rules::Span;
 use zvt_rules::ToldAnswer;
 use zvt_rules::ToldBody;
 use zvt_rules::ToldCode;
-use zvt_rules::ToldReceipt;
 ghost use mathlib.Core.Path.{_≡_};
 ghost use Rattle.zvt_rules.specs.Heard.{toldAnswer};
 ghost use Rattle.zvt_rules.specs.Message.{readOf};
-ghost use Rattle.zvt_rules.specs.Values.{statusOf};
-ghost use Rattle.zvt.specs.ListSteps.{Was, statusPlace};
+ghost use Rattle.zvt.specs.ListSteps.{Was};
+ghost use Rattle.zvt.specs.ValueSteps.{statusIds, FoundIn};
 ghost use Rattle.zvt.specs.ToldSteps.{HeaderOf, Tells, firstIn};
-
-// What is told where the list of a status information, if s is one, lies.
-pub(crate) fn status_at(s: &[u8], place: ListPlace) -> Status
-    requires { ⌜ place ≡ statusPlace (now s) ⌝ }
-    ensures { λ r. ⌜ r ≡ statusOf (now (s .entry)) ⌝ }
-{
-    match place {
-        ListPlace::Nowhere => Status {
-            code: ToldCode::Missing,
-            amount: ToldAmount::Missing,
-            receipt: ToldReceipt::Missing,
-        },
-        ListPlace::Between(from, end) => status_in(s, from, end),
-    }
-}
 
 // The first byte of a plain body, if it has one.
 fn first_in(s: &[u8], m: Outline) -> ToldCode
@@ -53,14 +35,13 @@ fn first_in(s: &[u8], m: Outline) -> ToldCode
     }
 }
 
-fn told_in(s: &[u8], m: Outline) -> ToldBody
-    requires { ⌜ Was (now s) m ⌝ }
+fn told_in(s: &[u8], m: Outline, fields: [Span; 4]) -> ToldBody
+    requires { ⌜ Was (now s) m × FoundIn statusIds fields (now s) ⌝ }
     ensures { λ r. ⌜ Tells r (now (s .entry)) ⌝ }
 {
-    let place = status_list(s, m);
     ToldBody {
         first: first_in(s, m),
-        status: status_at(s, place),
+        status: status_at(s, fields),
     }
 }
 
@@ -69,8 +50,12 @@ pub(crate) fn told_behind(s: &[u8], h: Header) -> ToldAnswer
     requires { ⌜ HeaderOf h (now s) ⌝ }
     ensures { λ r. ⌜ r ≡ toldAnswer (readOf (now (s .entry))) ⌝ }
 {
-    match body_in(s, h) {
+    let body = body_in(s, h, STATUS_IDS);
+    let places = body.places;
+    let fields = places.fields;
+    let part = body.part;
+    match part {
         PartRead::Refused(f) => ToldAnswer::Refused(f),
-        PartRead::Part(t) => ToldAnswer::Told(told_in(s, outline_of(h, t))),
+        PartRead::Part(t) => ToldAnswer::Told(told_in(s, outline_of(h, t), fields)),
     }
 }

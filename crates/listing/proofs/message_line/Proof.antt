@@ -11,7 +11,7 @@ returns c =
     let ids = c .before .before in
     let size = ids .before .before .before .before in
     let start = size .before .before .before .before in
-    both _ _ _ (start .add-start .ensures) (both _ _ _ (size .add-size .ensures) (ids .add-ids .ensures))
+    both _ _ _ (start .add-start .ensures) (both _ _ _ (size .add-size .ensures) (ids .add-each .ensures))
 
 pub message-line-spec : {M : Type 1} → statement M
 message-line-spec =

@@ -4,6 +4,7 @@ use native.Mathlib.Omega.{arith}
 use lib.Seq.{length-take-le}
 use Rattle.zvt.proofs.Slices.{bytes-known}
 use Rattle.listing.specs.Lines.{Added}
+use Rattle.listing.proofs.LineLaws.{ids-fit, ids-told}
 use Rattle.listing.proofs.NextLaws.{next-over, next-none, next-refused, next-within, next-some-bytes, next-message}
 use borrow.Author.Needs.{needs}
 use Rattle.listing.proofs.next_line.Statement.{statement}
@@ -17,13 +18,12 @@ returns-2 : tie.Need-returns-2
 unfolding Added
 returns-2 c = (_, next-none _ _ (omega arith), c .before .before .ok-line .ensures)
 
-slice-aggregate-message-line : tie.Need-slice-aggregate-message-line
-slice-aggregate-message-line c =
-    let told = c .before .before in
-    let first = told .before .before in
-    let s = first .before .before .before .before in
-    let message = sym (first .read-first .ensures) ∙ told .m .given .1 in
-    sym (length-take-le _ _ (next-within _ (bytes-known _ (s .shared-slice-known .given)) _ _ message))
+-- the ids that were written
+room : tie.Need-array-share-prefix-ids
+room c =
+    let first = c .before .before .before in
+    let s = first .before .before .before .before .before in
+    ids-fit (s .before .args .rest .now) _ (first .read-first .ensures .1 .0) (first .read-first .ensures .1 .1)
 
 returns-3 : tie.Need-returns-3
 unfolding Added
@@ -31,7 +31,7 @@ returns-3 c =
     let line = c .before .before in
     let told = line .before .before .before in
     let first = told .before .before in
-    let refusal = sym (first .read-first .ensures) ∙ told .f .given .1 in
+    let refusal = sym (first .read-first .ensures .0) ∙ told .answer .given .1 in
     (_, next-refused _ _ (omega arith) (λ k. omega arith) _ refusal, line .refused-line2 .ensures)
 
 returns-4 : tie.Need-returns-4
@@ -40,12 +40,13 @@ returns-4 c =
     let line = c .before .before in
     let told = line .before .before .before .before in
     let first = told .before .before in
-    let s = first .before .before .before .before in
-    let message = sym (first .read-first .ensures) ∙ told .m .given .1 in
+    let s = first .before .before .before .before .before in
+    let message = sym (first .read-first .ensures .0) ∙ told .answer2 .given .1 in
+    let ids = ids-told (s .before .args .rest .now) _ (first .read-first .ensures .1 .0) (first .read-first .ensures .1 .1) in
     let known = bytes-known _ (s .shared-slice-known .given) in (
       _,
       next-message _ known _ _ message _ (omega arith) (λ k. omega arith),
-      line .message-line .ensures,
+      rw ids at (line .message-line .ensures),
       next-some-bytes _ known _ _ message,
       next-within _ known _ _ message,
       omega arith,
@@ -54,21 +55,6 @@ returns-4 c =
 pub next-line-spec : {M : Type 1} → statement M
 next-line-spec =
     tie.close
-    (tie.spec
-    (λ c κs. search needs)
-    (λ c. search needs)
-    returns
-    (λ c κs. search needs)
-    (λ c. search needs)
-    returns-2
-    (λ c κs. search needs)
-    (λ c. search needs)
-    (λ c κs. search needs)
-    (λ c. search needs)
-    slice-aggregate-message-line
-    (λ c. search needs)
-    (λ c κs. search needs)
-    (λ c. search needs)
-    returns-3
-    (λ c. search needs)
-    returns-4)
+    (tie.spec (λ c κs. search needs) (λ c. search needs) returns (λ c κs. search needs) (λ c. search needs) returns-2
+    (λ c κs. search needs) (λ c. search needs) (λ c κs. search needs) (λ c. search needs) room (λ c. sym (length-take-le _ _ (room (c .before))))
+    (λ c. search needs) (λ c κs. search needs) (λ c. search needs) returns-3 (λ c. search needs) returns-4)

@@ -39,13 +39,13 @@ abbrev at-header : Read → Headed
 at-header c = c .before .before .before .before .before .before
 
 abbrev tally : Read → Tally
-tally c = c .before .before .before .t .given .0 .0
+tally c = c .before .before .before .part2 .given .0 .0
 
 read : (c : Read) → Short (bytes (at-header c)) (header (at-header c)) (tally c)
 read c =
     let i = at-header c in
     short-found _ _ (headed i) (bytes-known (bytes i) (i .before .before .before .before .before .shared-slice-known .given)) _
-    (sym (c .before .before .before .before .before .body-in .ensures) ∙ c .before .before .before .t .given .1)
+    (sym (c .before .before .before .before .before .body-in .ensures .answer) ∙ c .before .before .before .part2 .given .1)
 
 message-size-requires : tie.Need-message-size-requires
 message-size-requires c κs = omega (arith, whole-within _ _ (headed (at-header c)) .1)
@@ -74,7 +74,7 @@ returns-2 c = no-header _ _ _ (sym (c .before .before .before .whole-header .ens
 
 returns-3 : tie.Need-returns-3
 returns-3 c =
-    no-body _ _ (headed (c .before .before .before .before)) _ _ (sym (c .before .before .before .body-in .ensures) ∙ c .before .f2 .given .1)
+    no-body _ _ (headed (c .before .before .before .before)) _ _ (sym (c .before .before .before .body-in .ensures .answer) ∙ c .before .part .given .1)
 
 returns-4 : tie.Need-returns-4
 returns-4 c =

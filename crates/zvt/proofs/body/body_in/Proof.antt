@@ -1,12 +1,11 @@
 -- `zvt::body::body_in` meets its contract. Assumes nothing.
 use borrow.Author.Needs.{needs}
-use Rattle.zvt.specs.BodySteps.{bodyIn}
+use Rattle.zvt.proofs.BodyLaws.{announced}
 use Rattle.zvt.proofs.body.body_in.Statement.{statement}
 use Rattle.zvt.proofs.body.body_in.Tie as tie
 
 returns : tie.Need-returns
-unfolding bodyIn
-returns c = rw (← (c .before .before .layout-of .ensures)) (c .read-body .ensures)
+returns c = announced _ _ _ _ _ (c .before .before .layout-of .ensures) (c .read-body .ensures)
 
 pub body-in-spec : {M : Type 1} → statement M
 body-in-spec =

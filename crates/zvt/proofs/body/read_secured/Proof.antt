@@ -4,7 +4,7 @@ use native.Mathlib.Omega.{arith}
 use borrow.Author.Needs.{needs}
 use lib.Seq.{length-take-le}
 use Rattle.zvt.proofs.Slices.{bytes-known}
-use Rattle.zvt.proofs.BodyLaws.{secured-cut, secured-undecimal, secured-stopped, secured-read}
+use Rattle.zvt.proofs.BodyLaws.{secured-cut, secured-undecimal, secured-body, refused-reads, secured-reads}
 use Rattle.zvt.proofs.body.read_secured.Statement.{statement}
 use Rattle.zvt.proofs.body.read_secured.Tie as tie
 
@@ -16,33 +16,30 @@ all-decimal-requires c κs =
     let start = c .before .before .before in
     omega (arith, length-take-le 3 (start .args .s .now) (c .before .if1 .left), start .pre)
 
+returns : tie.Need-returns
+returns c = rw (c .refused-body .ensures) (refused-reads _ _ _ _ _ _ (secured-body _ _ ∙ secured-cut _ _ (c .before .if1 .taken)))
+
 returns-2 : tie.Need-returns-2
 returns-2 c =
-    let called = c .before .before .before in
-    sym (secured-undecimal _ _ (called .before .before .if1 .left) _ (sym (called .all-decimal .ensures) ∙ c .before .f .given .1))
+    let told = c .before in
+    let called = told .before .before .before in
+    rw (c .refused-body2 .ensures)
+    (refused-reads _ _ _ _ _ _ (secured-body _ _
+    ∙ secured-undecimal _ _ (called .before .before .if1 .left) _ (sym (called .all-decimal .ensures) ∙ told .before .f .given .1)))
 
 returns-3 : tie.Need-returns-3
 returns-3 c =
-    let listed = c .before .before .before in
-    let called = listed .before .before .before .before in
+    let listed = c .before .before in
+    let digits = listed .before .before in
+    let called = digits .before .before in
     let start = called .before .before .before in
-    sym (secured-stopped _ _ (called .before .before .if1 .left) (bytes-known (start .before .args .s .now) (start .shared-slice-known .given))
-    (sym (called .all-decimal .ensures) ∙ listed .before .before .enum-told .given .1) _
-    (sym (listed .read-list .ensures) ∙ c .before .f2 .given .1))
-
-returns-4 : tie.Need-returns-4
-returns-4 c =
-    let listed = c .before .before .before in
-    let called = listed .before .before .before .before in
-    let start = called .before .before .before in
-    sym (secured-read _ _ (called .before .before .if1 .left) (bytes-known (start .before .args .s .now) (start .shared-slice-known .given))
-    (sym (called .all-decimal .ensures) ∙ listed .before .before .enum-told .given .1) _
-    (sym (listed .read-list .ensures) ∙ c .before .t .given .1))
+    rw (c .as-body .ensures)
+    (secured-reads _ _ _ _ _ (called .before .before .if1 .left) (bytes-known _ (start .shared-slice-known .given))
+    (sym (called .all-decimal .ensures) ∙ digits .enum-told .given .1) (listed .read-list .ensures .0) (listed .read-list .ensures .1))
 
 pub read-secured-spec : {M : Type 1} → statement M
 read-secured-spec =
     tie.close
-    (tie.spec (λ c. search needs) (λ c. sym (secured-cut _ _ (c .if1 .taken))) slice-aggregate-all-decimal
-    all-decimal-requires (λ c. search needs) (λ c. search needs) (λ c. search needs) (λ c. search needs)
-    (λ c. search needs) (λ c. search needs) (λ c κs. search needs) (λ c. search needs) (λ c. search needs) returns-2
-    returns-3 returns-4)
+    (tie.spec (λ c. search needs) (λ c κs. search needs) returns slice-aggregate-all-decimal all-decimal-requires (λ c. search needs)
+    (λ c κs. search needs) (λ c. search needs) (λ c. search needs) (λ c. search needs) (λ c. search needs) (λ c. search needs)
+    (λ c κs. search needs) (λ c κs. search needs) returns-2 returns-3)

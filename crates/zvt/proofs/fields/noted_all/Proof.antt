@@ -1,10 +1,10 @@
--- `zvt::list::noted_all` meets its contract. Assumes nothing.
+-- `zvt::fields::noted_all` meets its contract. Assumes nothing.
 use mathlib.Core.Path.{_≡_}
 use lib.ListN.{length}
 use borrow.Author.Needs.{needs}
 use Rattle.zvt.proofs.WalkLaws.{noted-four}
-use Rattle.zvt.proofs.list.noted_all.Statement.{statement}
-use Rattle.zvt.proofs.list.noted_all.Tie as tie
+use Rattle.zvt.proofs.fields.noted_all.Statement.{statement}
+use Rattle.zvt.proofs.fields.noted_all.Tie as tie
 
 returns : tie.Need-returns
 returns c =

@@ -1,11 +1,11 @@
--- `zvt::list::noted` meets its contract. Assumes nothing.
+-- `zvt::fields::noted` meets its contract. Assumes nothing.
 use mathlib.Core.Path.{sym}
 use borrow.Author.Tests.{eq-eqb, ne-eqb}
 use Rattle.zvt_rules.specs.Listed.{spanOf}
 use Rattle.zvt_rules.proofs.Tests.{pick-true, pick-false}
-use Rattle.zvt.specs.ListSteps.{noted}
-use Rattle.zvt.proofs.list.noted.Statement.{statement}
-use Rattle.zvt.proofs.list.noted.Tie as tie
+use Rattle.zvt.specs.FieldSteps.{noted}
+use Rattle.zvt.proofs.fields.noted.Statement.{statement}
+use Rattle.zvt.proofs.fields.noted.Tie as tie
 
 returns : tie.Need-returns
 unfolding noted spanOf
