@@ -1,12 +1,13 @@
 // What the reader and the lister answer.
+use crate::BYTE;
 use crate::SHORT;
 use crate::WORD;
 use crate::cut;
 use buffers::add;
 use buffers::add_all;
+use buffers::add_bytes;
 use buffers::add_decimal;
 use buffers::add_hex;
-use buffers::upto;
 use desk_rules::Reply;
 use script_text::answers;
 use script_text::answers::bytes_line;
@@ -27,7 +28,7 @@ enum Verdict {
     Refused(u8),
 }
 
-// The message that s is, read as m.
+// The message that s begins with, read as m.
 fn message(s: &[u8], m: Outline, out: &mut [u8]) -> usize {
     let mut to = add_hex(m.class, 0, out);
     to = add_hex(m.instruction, to, out);
@@ -61,11 +62,13 @@ fn header(s: &[u8], out: &mut [u8]) -> usize {
 
 // The message that s begins with, where its body starts and where the next message does.
 fn first(s: &[u8], out: &mut [u8]) -> usize {
-    match zvt::read_first(s) {
+    let mut ids = [0u8; 256];
+    let first = zvt::read_first(s, &mut ids);
+    let answer = first.answer;
+    match answer {
         FirstAnswer::Refused(f) => answers::refused(f, out),
         FirstAnswer::Accepted(m, next) => {
-            let end = upto(next, s);
-            let mut to = message(&s[..end], m, out);
+            let mut to = message(s, m, out);
             to = add_all(b" from", to, out);
             to = answers::add_number(m.start as u64, to, out);
             answers::counted(b" next", next as u64, to, out)
@@ -73,14 +76,16 @@ fn first(s: &[u8], out: &mut [u8]) -> usize {
     }
 }
 
-fn field(k: usize, s: &[u8], out: &mut [u8]) -> usize {
-    match zvt::field_at(s, k) {
-        FieldAnswer::End => add_all(b"end\n", 0, out),
-        FieldAnswer::Field(f) => {
-            let mut to = add_hex(f.id, 0, out);
-            to = add_all(b" from", to, out);
-            to = answers::add_number(f.from as u64, to, out);
-            answers::counted(b" to", f.to as u64, to, out)
+// Where the value of the field with that id begins, and its bytes. An empty value is `-`, as bytes are.
+fn field(s: &[u8], id: u8, out: &mut [u8]) -> usize {
+    match zvt::field(s, id) {
+        FieldAnswer::Refused(f) => answers::refused(f, out),
+        FieldAnswer::Absent => add_all(b"absent\n", 0, out),
+        FieldAnswer::Value(v) => {
+            let mut to = add_decimal(v.from as u64, 0, out);
+            to = add(b' ', to, out);
+            to = add_bytes(zvt::field_bytes(s, id, &s[..0]), to, out);
+            add(b'\n', to, out)
         }
     }
 }
@@ -174,7 +179,7 @@ pub fn reading(o: Order, s: &[u8], out: &mut [u8]) -> usize {
         What::Header => header(s, out),
         What::First => first(s, out),
         What::Status => answers::add_status(zvt::read_status(s), 0, out),
-        What::Field => field(o.first as usize, s, out),
+        What::Field => field(s, cut(o.first, BYTE) as u8, out),
         What::List => listing::list(s, out),
         _ => digits(o, out),
     }

@@ -52,10 +52,10 @@ pub enum What {
     Read,
     Name,
     Shorten,
+    Field,
     Header,
     First,
     Status,
-    Field,
     List,
     Block,
     LastBlock,
@@ -81,6 +81,7 @@ struct Form {
 }
 
 // A line: its word, its numbers, as far as it has any, and its bytes: a message up to size, and from there the till's own name up to end.
+// The id that a message is asked for is the first number.
 pub struct Order {
     pub what: What,
     pub first: u64,
@@ -102,7 +103,7 @@ fn written(what: What, numbers: usize, bytes: usize) -> Form {
 fn script_form(name: &[u8]) -> Form {
     match place(
         name,
-        b"close sale refund reversal terminal lost book lanes net tape replay room read name shorten",
+        b"close sale refund reversal terminal lost book lanes net tape replay room read name shorten field",
     ) {
         0 => written(What::Close, 0, 0),
         1 => written(What::Sale, 2, 0),
@@ -119,6 +120,7 @@ fn script_form(name: &[u8]) -> Form {
         12 => written(What::Read, 0, 1),
         13 => written(What::Name, 0, 2),
         14 => written(What::Shorten, 0, 1),
+        15 => written(What::Field, 0, 2),
         _ => written(What::Bad, 0, 0),
     }
 }
@@ -127,18 +129,17 @@ fn script_form(name: &[u8]) -> Form {
 fn reader_form(name: &[u8]) -> Form {
     match place(
         name,
-        b"header first status field list each amount password receipt add",
+        b"header first status list each amount password receipt add",
     ) {
         0 => written(What::Header, 0, 1),
         1 => written(What::First, 0, 1),
         2 => written(What::Status, 0, 1),
-        3 => written(What::Field, 1, 1),
-        4 => written(What::List, 0, 1),
-        5 => written(What::Each, 1, 1),
-        6 => written(What::Amount, 1, 0),
-        7 => written(What::Password, 1, 0),
-        8 => written(What::Receipt, 1, 0),
-        9 => written(What::Add, 1, 1),
+        3 => written(What::List, 0, 1),
+        4 => written(What::Each, 1, 1),
+        5 => written(What::Amount, 1, 0),
+        6 => written(What::Password, 1, 0),
+        7 => written(What::Receipt, 1, 0),
+        8 => written(What::Add, 1, 1),
         _ => tape_form(name),
     }
 }
@@ -249,6 +250,37 @@ fn with_name(v: &[u8], w: &[u8], bytes: &mut [u8]) -> Order
     o
 }
 
+// The order to ask a message for that field.
+fn asking(id: u8) -> Order
+    ensures { λ r. ⌜ (r .size ≤ r .end) × (r .end ≤ 0) ⌝ }
+{
+    let mut o = bare(What::Field);
+    o.first = id as u64;
+    o
+}
+
+// A message, and the id of a field behind it. There is room for one byte, so that more than one are bad; `-` is none.
+fn with_id(v: &[u8], w: &[u8], bytes: &mut [u8]) -> Order
+    ensures { λ r. ⌜ (r .size ≤ r .end) × (r .end ≤ length (now (bytes .exit))) ⌝ }
+{
+    let mut id = [0u8; 1];
+    let one = bytes_of(w, &mut id);
+    if one.size != 1 {
+        return bare(What::Bad);
+    }
+    with_bytes(asking(id[0]), v, bytes)
+}
+
+// A message, and the other word of bytes that stands behind it.
+fn with_both(what: What, v: &[u8], w: &[u8], bytes: &mut [u8]) -> Order
+    ensures { λ r. ⌜ (r .size ≤ r .end) × (r .end ≤ length (now (bytes .exit))) ⌝ }
+{
+    if let What::Field = what {
+        return with_id(v, w, bytes);
+    }
+    with_name(v, w, bytes)
+}
+
 // A line of that form.
 fn read_as(form: Form, s: &[u8], bytes: &mut [u8]) -> Order
     ensures { λ r. ⌜ (r .size ≤ r .end) × (r .end ≤ length (now (bytes .exit))) ⌝ }
@@ -266,7 +298,7 @@ fn read_as(form: Form, s: &[u8], bytes: &mut [u8]) -> Order
     match runs {
         0 => with_numbers(what, numbers, s),
         1 => with_bytes(with_numbers(what, numbers, s), word(s, count), bytes),
-        _ => with_name(word(s, 1), word(s, 2), bytes),
+        _ => with_both(what, word(s, 1), word(s, 2), bytes),
     }
 }
 
