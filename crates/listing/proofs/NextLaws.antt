@@ -4,7 +4,7 @@ use mathlib.Core.List.{List, [], _∷_, _++_}
 use Prim.Native.Nat.{ℕ, _+_, _-_, _*_, _≤_, _<_}
 use native.Mathlib.Omega.{arith}
 use borrow.Author.Tests.{lt-ltb, le-ltb, eq-eqb, ne-eqb, ltb-false, eqb-true, eqb-false}
-use lib.ListN.{length, take, drop, length-take, length-drop}
+use lib.ListN.{length, take, drop, length-drop}
 use lib.Seq.{drop-drop, length-take-le}
 use lib.Dec.{ltb, eqb}
 use Rattle.zvt_rules.specs.Reading.{Reading, got, refused}
@@ -17,7 +17,7 @@ use Rattle.zvt_rules.specs.Text.{Text, text, addAll}
 use Rattle.zvt_rules.specs.Listing.{messageText, okText, refusedText, idsOf, listing}
 use Rattle.zvt_rules.proofs.ObjectReading.{tail}
 use Rattle.zvt_rules.proofs.Tests.{by-test}
-use Rattle.zvt_rules.proofs.MessageBytes.{first-sound}
+use Rattle.zvt.proofs.PlaceLaws.{own-within}
 use Rattle.zvt_rules.proofs.AnswerLaws.{first-refused-exactly}
 use Rattle.zvt_rules.proofs.Text.{put-exactly, put-whole, putEnd}
 use Rattle.zvt_rules.proofs.Listing.{lines-none, lines-refused, lines-message, listing-long}
@@ -65,10 +65,7 @@ module _ (s : List ℕ) (b : Bytes s) (m : Outline) (next : ℕ) (e : firstAnswe
 
   pub next-within : next ≤ length s
   unfolding firstAnswer
-  next-within =
-      let w = whole (firstOf s) refl e in
-      let sound = first-sound s (w .0) b (w .1) in
-      omega (arith, w .3, ap length (sound .0), length-take (length (messageBytes (w .0))) s)
+  next-within = let w = whole (firstOf s) refl e in own-within s (w .0) next b (w .1) (w .3)
 
   pub next-some-bytes : 1 ≤ next
   unfolding firstAnswer messageBytes

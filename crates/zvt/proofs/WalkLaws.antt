@@ -26,6 +26,7 @@ use Rattle.zvt_rules.proofs.Readings.{got-same, got-not-refused}
 use Rattle.zvt_rules.proofs.Text.{put-whole}
 use Rattle.zvt_rules.proofs.FieldReading.{list-none}
 use Rattle.zvt_rules.proofs.FieldBytes.{list-sound}
+use Rattle.zvt_rules.proofs.Found.{not-absent}
 use Rattle.zvt.specs.declared.objects.Tally.{Tally}
 use Rattle.zvt.specs.declared.objects.PartRead.the-variants.{Refused as part-refused}
 use Rattle.zvt.specs.FieldSteps.{listAnswer, noted, notedAll, spansIn, Finds}
@@ -59,14 +60,11 @@ unfoldable lastIn : ℕ → Span → List Listed → Span
 lastIn id x [] = x
 lastIn id x (l ∷ ls) = lastIn id (noted id l x) ls
 
-value-absent : {X : Type 0} {p : Span} → Value p ≡ Absent → X
-value-absent e = absurd (let z : _≡_ {A = ℕ} 0 1 = cc in omega arith)
-
 last-none : (id : ℕ) (x : Span) (ls : List Listed) → namedListed id ls ≡ Absent → lastIn id x ls ≡ x
 unfolding namedListed lastIn noted
 last-none id x [] e = refl
 last-none id x (l ∷ ls) e =
-    by-test (eqb (l .id) id) (λ t. value-absent (sym (pick-true _ (namedListed id ls) t) ∙ e))
+    by-test (eqb (l .id) id) (λ t. not-absent (sym e ∙ pick-true _ (namedListed id ls) t))
     (λ t. ap (λ (y : Span). lastIn id y ls) (pick-false _ x t) ∙ last-none id x ls (sym (pick-false _ _ t) ∙ e))
 
 unfoldable orElse : Span → FieldAnswer → Span

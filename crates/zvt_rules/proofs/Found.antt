@@ -89,7 +89,7 @@ spanAt at f = record { from = listedAt at f .from; to = listedAt at f .to }
 value-same : {p q : Span} → Value p ≡ Value q → p ≡ q
 value-same e = cc
 
-not-absent : {X : Type 0} {p : Span} → Absent ≡ Value p → X
+pub not-absent : {X : Type 0} {p : Span} → Absent ≡ Value p → X
 not-absent e = absurd (let z : _≡_ {A = ℕ} 0 1 = cc in omega arith)
 
 not-refused : {X : Type 0} {r : Refusal} {p : Span} → field-refused r ≡ Value p → X

@@ -13,16 +13,14 @@ use Rattle.zvt_rules.specs.Fields.{Field, fieldId}
 use Rattle.zvt_rules.specs.Message.{headerSize, Body, bytes, listed, Message, readOf, firstOf}
 use Rattle.zvt_rules.specs.believed.Writing.{fieldBytes, fieldValue}
 
--- a field that begins at place at. F6: "The answer is the part of the message that holds the field's value, without its id and its length":
--- a value ends where its field ends. F7: "An empty value is a part without bytes"
-unfoldable pub listedAt : ℕ → Field → Listed
-listedAt at f =
-    let to = at + length (fieldBytes f) in
-    record { id = fieldId f; from = to - length (fieldValue f); to = to }
-
--- where the field behind it begins
+-- where a field that begins at place at ends, and the field behind it begins
 abbrev pub nextAt : ℕ → Field → ℕ
 nextAt at f = at + length (fieldBytes f)
+
+-- such a field. F6: "The answer is the part of the message that holds the field's value, without its id and its length": a value ends where its
+-- field ends. F7: "An empty value is a part without bytes"
+unfoldable pub listedAt : ℕ → Field → Listed
+listedAt at f = record { id = fieldId f; from = nextAt at f - length (fieldValue f); to = nextAt at f }
 
 -- the fields of a list that begins at place at
 unfoldable pub listedFrom : ℕ → List Field → List Listed

@@ -1,4 +1,4 @@
--- F6 to F11: where the fields of a message lie, a second time: by what stands behind a value. Definitions only.
+-- F6 to F11: where the fields of a message lie, a second time: by what stands behind a value and before it. Definitions only.
 use mathlib.Core.Path.{_≡_}
 use mathlib.Core.Logic.{_⊎_}
 use mathlib.Core.List.{List, [], _∷_, _++_}
