@@ -1,8 +1,7 @@
--- The amounts that a call brings to a lane or a line have at most twelve digits. Assumes nothing.
-use mathlib.Core.Path.{_≡_, refl}
-use mathlib.Core.Bool.{true, not, _&&_, and-eq-true-iff}
-use mathlib.Core.List.{List, [], _∷_}
-use Prim.Native.Nat.{ℕ, suc, _+_, _*_, _≤_}
+-- The amount that a lane remembers, and the one that an end settles, have at most twelve digits. Assumes nothing.
+use mathlib.Core.Path.{_≡_, refl, subst}
+use mathlib.Core.List.{List}
+use Prim.Native.Nat.{ℕ, _+_, _*_, _≤_}
 use native.Mathlib.Omega.{arith}
 use lib.ListN.{getD}
 use lib.Dec.{eqb}
@@ -13,31 +12,28 @@ use Rattle.zvt_rules.specs.Values.{Found, missing, found, valueIn, amountOf, am
 use Rattle.zvt_rules.specs.declared.Status.{Status}
 use Rattle.zvt_rules.specs.declared.ToldCode.{ToldCode}
 use Rattle.zvt_rules.specs.declared.ToldCode.the-variants.{Missing as no-code, Code}
-use Rattle.zvt_rules.specs.declared.ToldAmount.{ToldAmount}
-use Rattle.zvt_rules.specs.declared.ToldAmount.the-variants.{Missing as no-amount, Amount}
+use Rattle.zvt_rules.specs.declared.ToldAmount.the-variants.{Amount}
 use Rattle.zvt_rules.specs.Heard.{firstOf, toldIn}
 use Rattle.zvt_rules.proofs.Told.{Twelve, told-twelve}
-use Rattle.zvt_rules.proofs.Tests.{pick-test, between}
+use Rattle.zvt_rules.proofs.Tests.{pick-test}
 use Rattle.desk_rules.specs.declared.Lane.{Lane}
 use Rattle.desk_rules.specs.declared.Line.{Line}
 use Rattle.desk_rules.specs.declared.Moved.{Moved}
 use Rattle.desk_rules.specs.declared.Moved.the-variants.{Refused, Stays, Becomes, Ends}
 use Rattle.desk_rules.specs.declared.Opening.{Opening}
-use Rattle.desk_rules.specs.declared.Opening.the-variants.{Sale as sale, Refund as refund, Reversal as reversal}
-use Rattle.desk_rules.specs.declared.Reference.{Reference}
-use Rattle.desk_rules.specs.Numbers.{mostAsked, amountOk, passwordOk}
-use Rattle.desk_rules.specs.Kinds.{isReversal, isIdle}
+use Rattle.desk_rules.specs.Numbers.{mostAsked}
+use Rattle.desk_rules.specs.Kinds.{isIdle}
 use Rattle.desk_rules.specs.Lanes.{blankLine}
-use Rattle.desk_rules.specs.Openings.{withinLimits, refersTo, concerns, lastFrom, lastLine, stands, askedBy}
-use Rattle.desk_rules.specs.Course.{runningPairs, pairIs, heardWaiting, amountBy, settledAs, completedBy, abortedBy, reportedBy, movedBy, afterBody, heardRunning, heard, lostBy, openedBy, Call, opening, message, lost, NumbersFit, moves}
+use Rattle.desk_rules.specs.Openings.{withinLimits, refersTo, stands}
+use Rattle.desk_rules.specs.Course.{runningPairs, pairIs, heardWaiting, abortedBy, reportedBy, movedBy, afterBody, heardRunning, heard, lostBy, openedBy, Call, opening, message, lost, NumbersFit, moves}
 use Rattle.desk_rules.specs.Memory.{toldSmall}
-use Rattle.desk_rules.proofs.Heard.{heard-cases}
+use Rattle.desk_rules.proofs.Heard.{heard-cases, completed-cases}
 
 abbrev pub Small : ℕ → Type 0
 Small n = n ≤ mostAsked
 
 abbrev pub LaneFits : Lane → Type 0
-LaneFits l = Small (l .asked) × toldSmall (l .status .amount)
+LaneFits l = toldSmall (l .status .amount)
 
 abbrev pub LinesFit : List Line → Type 0
 LinesFit ls = (k : ℕ) → Small (getD ls k blankLine .settled)
@@ -53,37 +49,27 @@ unfolding Twelve toldSmall amountOf
 told-fits missing h = tt
 told-fits (found value) h = h
 
-amount-fits : (t : ToldAmount) (asked : ℕ) → Small asked → toldSmall t → Small (amountBy t asked)
-unfolding amountBy toldSmall
-amount-fits no-amount asked h k = h
-amount-fits (Amount a) asked h k = k
-
 aborted-fits : (start : ℕ) (t : ToldCode) → Fits (abortedBy start t)
 unfolding abortedBy
 aborted-fits start no-code = tt
 aborted-fits start (Code b) = omega arith
 
 module _ (l : Lane) (h : LaneFits l) where
-  completed-fits : (t : ToldCode) → Fits (completedBy l t)
-  unfolding completedBy settledAs
-  completed-fits no-code = omega arith
-  completed-fits (Code c) =
-      let amount = amountBy (l .status .amount) (l .asked) in
-      pick-test Fits (eqb c 0)
-      (λ _. pick-test Fits (isReversal (l .kind) && not (eqb amount (l .asked))) (λ _. omega arith) (λ _. amount-fits (l .status .amount) (l .asked) (h .0) (h .1)))
-      (λ _. omega arith)
+  approved-fits : (a : ℕ) → l .status .amount ≡ Amount a → Small a
+  unfolding toldSmall
+  approved-fits a e = subst toldSmall e h
 
   reported-fits : (status : Status) (t : ToldCode) → toldSmall (status .amount) → Fits (reportedBy l status t)
   unfolding reportedBy
   reported-fits status no-code k = tt
-  reported-fits status (Code c) k = (h .0, k)
+  reported-fits status (Code c) k = k
 
   module _ (s : List ℕ) (b : Bytes s) where
     read-fits : (r : Reading Message) → readOf s ≡ r → Fits (afterBody l r)
     unfolding afterBody movedBy toldIn statusFields statusIn amountIn
     read-fits (refused f) e = tt
     read-fits (got m) e =
-        pick-test Fits (pairIs (m .class) (m .instruction) 0x06 0x0F) (λ _. completed-fits (l .status .code))
+        pick-test Fits (pairIs (m .class) (m .instruction) 0x06 0x0F) (λ _. completed-cases Fits l (λ c. omega arith) approved-fits (l .status .code))
         (λ _. pick-test Fits (pairIs (m .class) (m .instruction) 0x06 0x1E) (λ _. aborted-fits _ (firstOf (m .body)))
         (λ _. pick-test Fits (pairIs (m .class) (m .instruction) 0x04 0x0F)
         (λ t. reported-fits (toldIn m .status) _ (rw t (told-fits (valueIn 0x04 (bodyFields (m .body))) (told-twelve s m b e))))
@@ -107,25 +93,14 @@ module _ (l : Lane) (h : LaneFits l) where
     heard-fits : Fits (heard l s)
     heard-fits = heard-cases Fits l s (λ r. tt) (λ x _ _. waiting-fits x) (λ x _ _. running-fits x)
 
-asked-fits : (o : Opening) (line : Line) → Small (line .settled) → withinLimits o ≡ true → Small (askedBy o line)
-asked-fits (sale amount) line h e = between amount mostAsked .0 e .1
-asked-fits (refund password amount) line h e = between amount mostAsked .0 (and-eq-true-iff (passwordOk password) (amountOk amount) .0 e .1) .1
-asked-fits (reversal password receipt) line h e = h
-
-opened-fits : (l : Lane) (o : Opening) (line : Line) → Small (line .settled) → Fits (openedBy l o line)
+opened-fits : (l : Lane) (o : Opening) (line : Line) → Fits (openedBy l o line)
 unfolding openedBy toldSmall
-opened-fits l o line h =
+opened-fits l o line =
     pick-test Fits (isIdle (l .phase))
-    (λ _. pick-test Fits (withinLimits o) (λ e. pick-test Fits (stands (refersTo o) line) (λ _. (asked-fits o line h e, tt)) (λ _. tt)) (λ _. tt)) (λ _. tt)
+    (λ _. pick-test Fits (withinLimits o) (λ _. pick-test Fits (stands (refersTo o) line) (λ _. tt) (λ _. tt)) (λ _. tt)) (λ _. tt)
 
-last-fits : (i : ℕ) (r : Reference) (last : Line) (ls : List Line) → Small (last .settled) → LinesFit ls → Small (lastFrom i r last ls .settled)
-unfolding lastFrom
-last-fits i r last [] h k = h
-last-fits i r last (l ∷ ls) h k =
-    last-fits i r _ ls (pick-test (λ (x : Line). Small (x .settled)) (concerns i r l) (λ _. k 0) (λ _. h)) (λ j. k (suc j))
-
-pub moves-fit : (l : Lane) (ls : List Line) (c : Call) → LaneFits l → LinesFit ls → NumbersFit c → Fits (moves l ls c)
-unfolding moves NumbersFit lostBy lastLine
-moves-fit l ls (opening i o) h k n = opened-fits l o _ (last-fits i (refersTo o) blankLine ls (omega arith) k)
-moves-fit l ls (message i s) h k n = heard-fits l h s n
-moves-fit l ls (lost i) h k n = pick-test Fits (isIdle (l .phase)) (λ _. tt) (λ _. omega arith)
+pub moves-fit : (l : Lane) (ls : List Line) (c : Call) → LaneFits l → NumbersFit c → Fits (moves l ls c)
+unfolding moves NumbersFit lostBy
+moves-fit l ls (opening i o) h n = opened-fits l o _
+moves-fit l ls (message i s) h n = heard-fits l h s n
+moves-fit l ls (lost i) h n = pick-test Fits (isIdle (l .phase)) (λ _. tt) (λ _. omega arith)

@@ -27,9 +27,9 @@ use Rattle.desk_rules.specs.declared.Opening.{Opening}
 use Rattle.desk_rules.specs.Kinds.{isIdle}
 use Rattle.desk_rules.specs.Lanes.{runningLane, reportedLane}
 use Rattle.desk_rules.specs.Openings.{withinLimits, refersTo, stands, openedLane}
-use Rattle.desk_rules.specs.Course.{runningPairs, pairIs, heardWaiting, settledAs, completedBy, abortedBy, reportedBy, movedBy, afterBody, heardRunning, lostBy, openedBy, Call, opening, message, lost, opens, moves}
+use Rattle.desk_rules.specs.Course.{runningPairs, pairIs, heardWaiting, completedBy, abortedBy, reportedBy, movedBy, afterBody, heardRunning, lostBy, openedBy, Call, opening, message, lost, opens, moves}
 use Rattle.desk_rules.specs.Payments.{endsBy, ends}
-use Rattle.desk_rules.proofs.Heard.{heard-cases}
+use Rattle.desk_rules.proofs.Heard.{heard-cases, completed-cases}
 use Rattle.desk_rules.proofs.Judge.{orElse, remembered, verdictOf, verdict}
 
 -- not refused
@@ -120,9 +120,7 @@ Closing (Becomes l) = ⊥
 Closing (Ends outcome settled code) = Unit {0}
 
 pub completed-closes : (l : Lane) (t : ToldCode) → Closing (completedBy l t)
-unfolding completedBy settledAs
-completed-closes l no-code = tt
-completed-closes l (Code c) = search (pick-test Closing, tt)
+completed-closes l t = completed-cases Closing l (λ c. tt) (λ a e. tt) t
 
 completed-running : (l : Lane) (t : ToldCode) → completedBy (runningLane l) t ≡ completedBy l t
 unfolding completedBy

@@ -19,7 +19,7 @@ use Rattle.desk_rules.specs.Course.{Call, message, opens, needsPlace}
 use Rattle.desk_rules.specs.Desk.{fresh, laneAt, Accepted, run}
 use Rattle.desk_rules.specs.Runs.{callsOf, total, openings}
 use Rattle.desk_rules.specs.Payments.{paymentsOf, flattened, oneByOne}
-use Rattle.desk_rules.specs.believed.Due.{Ended, not-taken, aborted, cut, approved, differs, other-code, no-status, Open, Due, LaneIs, idle, busy}
+use Rattle.desk_rules.specs.believed.Due.{Ended, not-taken, aborted, cut, approved, amount-untold, differs, other-code, no-status, Open, Due, LaneIs, idle, busy}
 use Rattle.desk_rules.proofs.Lanes.{total-append, opened-one, not-opened, places-total}
 use Rattle.desk_rules.proofs.Runs.{count}
 use Rattle.desk_rules.proofs.Due.{lane-local, due-same, lane-same}
@@ -60,6 +60,7 @@ ended-none (not-taken h) = refl
 ended-none (aborted h) = refl
 ended-none cut = refl
 ended-none (approved h z t r) = refl
+ended-none (amount-untold h z m) = refl
 ended-none (differs h z t r d) = refl
 ended-none (other-code h z d) = refl
 ended-none (no-status h m) = refl

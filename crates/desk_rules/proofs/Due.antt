@@ -35,11 +35,11 @@ use Rattle.desk_rules.specs.declared.Opening.the-variants.{Sale as sale,
 use Rattle.desk_rules.specs.declared.Reference.the-variants.{Sold}
 use Rattle.desk_rules.specs.Lanes.{noStatus, blankLine, waitingLane, toldReceipt, receiptBy, lineAt}
 use Rattle.desk_rules.specs.Openings.{refersTo, lastLine, sold, stands, openedLane}
-use Rattle.desk_rules.specs.Course.{pairIs, amountBy, settledAs, completedBy, abortedBy, Call, opening, message, lost, laneOf}
+use Rattle.desk_rules.specs.Course.{pairIs, settledAs, completedBy, abortedBy, Call, opening, message, lost, laneOf}
 use Rattle.desk_rules.specs.Runs.{ofLane}
 use Rattle.desk_rules.specs.Payments.{endsBy, ends}
 use Rattle.desk_rules.specs.believed.LastSale.{None, Named}
-use Rattle.desk_rules.specs.believed.Due.{Reads, Report, Remembered, nothing, report, Told, told, untold, CodeIs, Asks, by-sale, by-refund, by-reversal, Ended, not-taken, aborted, cut, approved, differs, other-code, no-status, Ending, by-84, by-061E, by-060F, by-loss, ReceiptIs, of-reversal, of-another, Open, Due, PhaseIs, waiting, running, StatusIs, LaneIs, idle, busy}
+use Rattle.desk_rules.specs.believed.Due.{Reads, Report, Remembered, nothing, report, Told, told, untold, CodeIs, AmountIs, Asks, by-sale, by-refund, by-reversal, Ended, not-taken, aborted, cut, approved, amount-untold, differs, other-code, no-status, Ending, by-84, by-061E, by-060F, by-loss, ReceiptIs, of-reversal, of-another, Open, Due, PhaseIs, waiting, running, StatusIs, LaneIs, idle, busy}
 use Rattle.desk_rules.proofs.NamedSale.{named-is, named-there}
 use Rattle.desk_rules.proofs.Judge.{orElse, remembered, recalled, verdictOf, verdict}
 use Rattle.desk_rules.proofs.Calls.{both}
@@ -59,13 +59,17 @@ tell fs id says other = go (valueIn id fs) refl
     go missing e = (other, untold e)
     go (found v) e = (says v, told e)
 
-code-is : (fs : List Field) (c : ℕ) → CodeIs fs c → statusIn fs .code ≡ Code c
+pub code-is : (fs : List Field) (c : ℕ) → CodeIs fs c → statusIn fs .code ≡ Code c
 unfolding statusIn codeIn codeOf
 code-is fs c k = rw (k .1, k .2)
 
-amount-is : {fs : List Field} {asked n : ℕ} → Told fs 0x04 numberOf asked n → amountBy (statusIn fs .amount) asked ≡ n
-unfolding statusIn amountIn amountOf amountBy
-amount-is {asked = asked} t = told-as (λ v. amountBy (amountOf v) asked) refl (λ v. refl) t
+pub amount-is : (fs : List Field) (n : ℕ) → AmountIs fs n → statusIn fs .amount ≡ Amount n
+unfolding statusIn amountIn amountOf
+amount-is fs n k = rw (k .1, k .2)
+
+amount-none : (fs : List Field) → valueIn 0x04 fs ≡ missing → statusIn fs .amount ≡ no-amount
+unfolding statusIn amountIn amountOf
+amount-none fs m = rw m
 
 receipt-is : {fs : List Field} {named n : ℕ} {kind : Kind} → ReceiptIs fs named kind n → receiptBy kind named (statusIn fs .receipt) ≡ n
 unfolding statusIn receiptIn receiptOf receiptBy
@@ -229,7 +233,7 @@ ask-local {i} before (by-reversal {receipt = receipt} {sold = line} h) =
 
 -- ---- how it ended
 
-settles : (k : Kind) (a amount : ℕ) → (k ≡ Reversal → amount ≡ a) → settledAs k a amount ≡ Ends Approved amount 0
+settles : (k : Kind) (a amount : ℕ) → (k ≡ Reversal → amount ≡ a) → settledAs k a (Amount amount) ≡ Ends Approved amount 0
 unfolding settledAs
 settles Sale a amount r = refl
 settles Refund a amount r = refl
@@ -241,15 +245,19 @@ module _ (i : ℕ) (l : Lane) (fs : List Field) (same : l .status ≡ statusIn f
   unfolding verdict verdictOf
   completed h = rw (h .whole, same)
 
+  remembers : l .status .amount ≡ statusIn fs .amount
+  remembers = ap (λ (x : Status). x .amount) same
+
   verdict-is : {c : Call} {o : Outcome} {s code : ℕ} → Ended i (l .kind) (l .asked) fs c o s code → verdict l c ≡ Ends o s code
   unfolding verdict verdictOf firstOf abortedBy completedBy settledAs statusIn codeIn codeOf
   verdict-is (not-taken h) = rw (h .whole)
   verdict-is (aborted h) = rw (h .whole)
   verdict-is cut = refl
   verdict-is (approved {amount = amount} h z t r) =
-      completed h ∙ rw (code-is fs 0 z, ap (λ (x : Status). amountBy (x .amount) (l .asked)) same, amount-is t) (settles (l .kind) (l .asked) amount r)
+      completed h ∙ rw (code-is fs 0 z, remembers, amount-is fs amount t) (settles (l .kind) (l .asked) amount r)
+  verdict-is (amount-untold h z m) = completed h ∙ rw (code-is fs 0 z, remembers, amount-none fs m)
   verdict-is (differs {amount = amount} h z t r d) =
-      completed h ∙ rw (code-is fs 0 z, ap (λ (x : Status). amountBy (x .amount) (l .asked)) same, amount-is t, r, ne-eqb amount (l .asked) d)
+      completed h ∙ rw (code-is fs 0 z, remembers, amount-is fs amount t, r, ne-eqb amount (l .asked) d)
   verdict-is (other-code {code = code} h z d) = completed h ∙ rw (code-is fs code z, ne-eqb code 0 d)
   verdict-is (no-status h m) = completed h ∙ rw (statusIn, codeIn, m)
 
@@ -257,13 +265,18 @@ module _ (i : ℕ) (l : Lane) (fs : List Field) (same : l .status ≡ statusIn f
   Some : Call → Type 0
   Some c = (o : Outcome) × (s : ℕ) × (code : ℕ) × Ended i (l .kind) (l .asked) fs c o s code
 
-  settling : {s : List ℕ} {body : Body} {amount : ℕ} → Reads s 0x06 0x0F body → CodeIs fs 0 → Told fs 0x04 numberOf (l .asked) amount
+  settling : {s : List ℕ} {body : Body} {amount : ℕ} → Reads s 0x06 0x0F body → CodeIs fs 0 → AmountIs fs amount
       → (k : Kind) → l .kind ≡ k → Some (message i s)
   unfolding Some
   settling h z t Reversal e =
       case (eqb-test _ (l .asked)) (λ f. (Approved, _, 0, approved h z t (λ _. f))) (λ f. (Unclear, 0, 0, differs h z t e f))
   settling h z t Sale e = (Approved, _, 0, approved h z t (λ f. absurd (let q : _≡_ {A = ℕ} 0 1 = cc in omega arith)))
   settling h z t Refund e = (Approved, _, 0, approved h z t (λ f. absurd (let q : _≡_ {A = ℕ} 0 1 = cc in omega arith)))
+
+  coded : {s : List ℕ} {body : Body} → Reads s 0x06 0x0F body → CodeIs fs 0 → (v : Found) → valueIn 0x04 fs ≡ v → Some (message i s)
+  unfolding Some
+  coded h z missing e = (Unclear, 0, 0, amount-untold h z e)
+  coded h z (found v) e = settling h z (v, e, refl) (l .kind) refl
 
   completing : {s : List ℕ} {body : Body} → Reads s 0x06 0x0F body → Some (message i s)
   unfolding Some
@@ -272,7 +285,7 @@ module _ (i : ℕ) (l : Lane) (fs : List Field) (same : l .status ≡ statusIn f
       go : (v : Found) → valueIn 0x27 fs ≡ v → Some (message i s)
       go missing e = (Unclear, 0, 0, no-status h e)
       go (found v) e =
-          case (eqb-test (getD v 0 0) 0) (λ f. settling h (v, e, f) (tell fs 0x04 numberOf (l .asked) .1) (l .kind) refl)
+          case (eqb-test (getD v 0 0) 0) (λ f. coded h (v, e, f) (valueIn 0x04 fs) refl)
           (λ f. (Unclear, 0, getD v 0 0, other-code h (v, e, refl) f))
 
   module _ (outcome : Outcome) (settled code : ℕ) where

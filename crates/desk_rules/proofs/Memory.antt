@@ -5,7 +5,7 @@ use mathlib.Core.List.{List, [], _∷_, _++_, append-nil}
 use Prim.Native.Nat.{ℕ, zero, suc, _+_, _≤_, _<_}
 use native.Mathlib.Numerals.{add-one}
 use native.Mathlib.Omega.{arith}
-use lib.ListN.{length, getD, set, take, replicate, length-set}
+use lib.ListN.{length, getD, set, replicate, length-set}
 use lib.Seq.{length-take-le, set-getD, take-suc-set}
 use lib.Dec.{ltb, leb}
 use borrow.Author.Tests.{leb-false, ltb-false}
@@ -42,12 +42,6 @@ set-all P (x ∷ ls) zero a d p h (suc k) = h (suc k)
 set-all P (x ∷ ls) (suc i) a d p h zero = h 0
 set-all P (x ∷ ls) (suc i) a d p h (suc k) = set-all P ls i a d p (λ j. h (suc j)) k
 
-take-all-fit : (n : ℕ) (ls : List Line) → LinesFit ls → LinesFit (take n ls)
-take-all-fit zero ls h k = omega arith
-take-all-fit (suc n) [] h k = h k
-take-all-fit (suc n) (x ∷ ls) h zero = h 0
-take-all-fit (suc n) (x ∷ ls) h (suc k) = take-all-fit n ls (λ j. h (suc j)) k
-
 replicate-all : {A : Type 0} (P : A → Type 0) (n : ℕ) (d : A) → P d → (k : ℕ) → P (getD (replicate n d) k d)
 replicate-all P zero d p k = p
 replicate-all P (suc n) d p zero = p
@@ -80,8 +74,7 @@ fresh-valid =
       lanes = refl;
       lines = refl;
       room = omega arith;
-      asked = replicate-all (λ (l : Lane). Small (l .asked)) laneCount idleLane (omega arith);
-      told = replicate-all (λ (l : Lane). toldSmall (l .status .amount)) laneCount idleLane tt;
+      told = replicate-all LaneFits laneCount idleLane tt;
       settled = replicate-all (λ (l : Line). Small (l .settled)) bookLines blankLine (omega arith);
     }
 
@@ -102,13 +95,11 @@ module _ (d : Desk) (v : Valid d) where
         → b .count + placesTaken (d .lanes) + placeTaken l ≤ bookLines + placeTaken (laneAt (d .lanes) i)
         → Valid (record { lanes = set (d .lanes) i l; book = b })
     changed-valid l b f n k few =
-        let all = set-all LaneFits (d .lanes) i l idleLane f (λ j. (v .asked j, v .told j)) in
         record {
           lanes = simp length-set (v .lanes);
           lines = n;
           room = omega (arith, places-set (d .lanes) i l (omega (arith, v .lanes)));
-          asked = λ j. all j .0;
-          told = λ j. all j .1;
+          told = set-all LaneFits (d .lanes) i l idleLane f (v .told);
           settled = k;
         }
 
@@ -126,9 +117,9 @@ module _ (d : Desk) (v : Valid d) where
             → d .book .count + placesTaken (d .lanes) + (placeTaken idleLane + length (lineIf b line)) ≤ bookLines + placeTaken (laneAt (d .lanes) i)
             → Valid (record { lanes = set (d .lanes) i idleLane; book = pick b (withLine (d .book) line) (d .book) })
         go true e =
-            changed-valid idleLane (withLine (d .book) line) (omega arith, tt) (simp length-set (v .lines))
+            changed-valid idleLane (withLine (d .book) line) tt (simp length-set (v .lines))
             (set-all (λ (l : Line). Small (l .settled)) (d .book .lines) (d .book .count) line blankLine f (v .settled)) (omega arith)
-        go false e = changed-valid idleLane (d .book) (omega arith, tt) (v .lines) (v .settled) (omega arith)
+        go false e = changed-valid idleLane (d .book) tt (v .lines) (v .settled) (omega arith)
 
     -- ---- the desk follows the course
 
@@ -222,7 +213,7 @@ module _ (d : Desk) (c : Call) (room : ℕ) where
           let i = laneOf c in
           rw (accepted-answer e)
           (moved-valid d v i (t .lane) (moveOf d c) (taken-roomy v t)
-          (moves-fit (laneFor d c) (linesOfDesk d) c (v .asked i, v .told i) (take-all-fit (d .book .count) (d .book .lines) (v .settled)) n))
+          (moves-fit (laneFor d c) (linesOfDesk d) c (v .told i) n))
 
 module _ (d : Desk) (c : Call) (out : List ℕ) where
   pub refused-leaves : (n : Refusal) → decide (view d) c (length out) ≡ refuse n → leavesOf d c out ≡ out

@@ -1,6 +1,6 @@
 -- A call is decided as its rows of refusal say, read both ways. Assumes nothing.
 use mathlib.Core.Path.{_≡_, refl, sym, ap, _∙_, subst}
-use mathlib.Core.Bool.{Bool, true, false, not, _&&_, _||_, false≢true, and-eq-true-iff}
+use mathlib.Core.Bool.{Bool, true, false, _&&_, _||_, false≢true, and-eq-true-iff}
 use mathlib.Core.Logic.{_↔_, _⊎_, inl, inr, ⊎-elim, Iff·trans}
 use mathlib.Core.List.{List, [], _∷_}
 use Prim.Native.Nat.{ℕ, _+_, _*_, _≤_, _<_}
@@ -21,7 +21,7 @@ use Rattle.zvt_rules.proofs.RowMessages.{whole-got}
 use Rattle.zvt_rules.specs.believed.Values.{In}
 use Rattle.zvt_rules.specs.Heard.{firstOf, toldIn}
 use Rattle.zvt_rules.proofs.Lists.{in-none, in-first, among-exactly}
-use Rattle.zvt_rules.proofs.Tests.{by-test, true-false, pick-test, pick-alike, pick-same, pick-under, leb-test, eqb-test, and-test, or-test, between, no-for}
+use Rattle.zvt_rules.proofs.Tests.{by-test, true-false, pick-test, pick-alike, pick-under, leb-test, eqb-test, and-test, or-test, between, no-for}
 use Rattle.desk_rules.specs.declared.Kind.{Kind}
 use Rattle.desk_rules.specs.declared.Kind.the-variants.{Sale, Refund, Reversal}
 use Rattle.desk_rules.specs.declared.Phase.{Phase}
@@ -32,10 +32,10 @@ use Rattle.desk_rules.specs.declared.Moved.{Moved}
 use Rattle.desk_rules.specs.declared.Opening.{Opening}
 use Rattle.desk_rules.specs.declared.Opening.the-variants.{Sale as sale, Refund as refund, Reversal as reversal}
 use Rattle.desk_rules.specs.Numbers.{laneCount, bookLines, mostAsked, mostReceipt, mostPassword}
-use Rattle.desk_rules.specs.Kinds.{isReversal, booked, isIdle}
+use Rattle.desk_rules.specs.Kinds.{booked, isIdle}
 use Rattle.desk_rules.specs.Lanes.{placeTaken}
 use Rattle.desk_rules.specs.Openings.{kindOf, withinLimits, refersTo, lastLine, sold, stands, missingNo, commandSize}
-use Rattle.desk_rules.specs.Course.{noMove, runningPairs, pairIs, heardWaiting, completedBy, settledAs, abortedBy, reportedBy, movedBy, afterBody, heardRunning, heardBy, afterHeader, heard, lostBy, answered, openedBy, Call, opening, message, lost, laneOf, needsPlace, moves, writes}
+use Rattle.desk_rules.specs.Course.{noMove, runningPairs, pairIs, heardWaiting, completedBy, abortedBy, reportedBy, movedBy, afterBody, heardRunning, heardBy, afterHeader, heard, lostBy, answered, openedBy, Call, opening, message, lost, laneOf, needsPlace, moves, writes}
 use Rattle.desk_rules.specs.Desk.{State, laneAt, placesTaken, load, Decision, refuse, accept, unlessRefused, decide}
 use Rattle.desk_rules.specs.declared.Reference.the-variants.{Sold}
 use Rattle.desk_rules.specs.believed.LastSale.{Named}
@@ -43,6 +43,7 @@ use Rattle.desk_rules.specs.believed.Due.{Reads}
 use Rattle.desk_rules.specs.believed.Table.{Given, gives, givesAt, refuses, phaseAt, openIn, openPayments, Within, Stands, needs, openingRows, whileRunning, Allowed, hearingRows, losingRows, Row}
 use Rattle.desk_rules.proofs.Commands.{command-size}
 use Rattle.desk_rules.proofs.NamedSale.{named-is, named-there}
+use Rattle.desk_rules.proofs.Heard.{completed-cases}
 use Rattle.desk_rules.proofs.Calls.{plain-read}
 
 -- ---- rows, one by one
@@ -221,10 +222,8 @@ Goes : Moved → Type 0
 Goes m = (x : Decision) → unlessRefused m x ≡ x
 
 completed-goes : (l : Lane) (code : ToldCode) → Goes (completedBy l code)
-unfolding Goes unlessRefused completedBy settledAs
-completed-goes l Missing x = refl
-completed-goes l (Code c) x =
-    simp (pick-under (λ m. unlessRefused m x)) (pick-same (eqb c 0) (pick-same (isReversal (l .kind) && not (eqb _ (l .asked))) refl))
+unfolding Goes unlessRefused
+completed-goes l code = completed-cases Goes l (λ c x. refl) (λ a e x. refl) code
 
 reported-goes : (l : Lane) (status : Status) (code : ToldCode) → Goes (reportedBy l status code)
 unfolding Goes unlessRefused reportedBy

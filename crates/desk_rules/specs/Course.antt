@@ -44,21 +44,18 @@ heardWaiting l h =
     (pick (eqb (h .class) 0x84) (Ends Declined 0 (h .instruction)) (noMove 15)))
     (noMove 15)
 
--- P24: "The settled amount is field 04 of the remembered status or, where it has none, the amount asked."
-unfoldable pub amountBy : ToldAmount → ℕ → ℕ
-amountBy no-amount asked = asked
-amountBy (Amount a) asked = a
+-- P23: "The settled amount is field 04 of the remembered status; an amount of 0 counts as told." P24: "a remembered status without field
+-- 04 means unclear, for every kind". P25: "a reversal is unclear where field 04 says another amount than it asked for"
+unfoldable pub settledAs : Kind → ℕ → ToldAmount → Moved
+settledAs kind asked no-amount = Ends Unclear 0 0
+settledAs kind asked (Amount a) = pick (isReversal kind && not (eqb a asked)) (Ends Unclear 0 0) (Ends Approved a 0)
 
--- P25: "A reversal that settles another amount than it asked for is unclear."
-unfoldable pub settledAs : Kind → ℕ → ℕ → Moved
-settledAs kind asked amount = pick (isReversal kind && not (eqb amount asked)) (Ends Unclear 0 0) (Ends Approved amount 0)
-
--- P23: "a remembered code 00 means approved". P26: "another remembered code, or no remembered status, means unclear". P33: "The
--- code at 06 0F is the remembered one, or 0 where nothing is remembered."
+-- P23: "a remembered code 00 means approved, but for P24 and P25". P26: "a remembered code other than 00, or no remembered status, means
+-- unclear". P33: "The code at 06 0F is the remembered one, or 0 where nothing is remembered."
 unfoldable pub completedBy : Lane → ToldCode → Moved
 completedBy l no-code = Ends Unclear 0 0
 completedBy l (Code c) =
-    pick (eqb c 0) (settledAs (l .kind) (l .asked) (amountBy (l .status .amount) (l .asked))) (Ends Unclear 0 c)
+    pick (eqb c 0) (settledAs (l .kind) (l .asked) (l .status .amount)) (Ends Unclear 0 c)
 
 -- P21: "06 1E ends the payment, declined. The first byte of its body is the code, the others are not read; an empty body is refused
 -- (1)." R48: "for an empty 06 1E (P21) the first byte behind the body": an empty body ends where it starts

@@ -54,7 +54,6 @@ pub record Valid (d : Desk) : Type 0 where
   pub lanes : length (d .lanes) ≡ laneCount
   pub lines : length (d .book .lines) ≡ bookLines
   pub room : d .book .count + placesTaken (d .lanes) ≤ bookLines
-  pub asked : (i : ℕ) → getD (d .lanes) i idleLane .asked ≤ mostAsked
   pub told : (i : ℕ) → toldSmall (getD (d .lanes) i idleLane .status .amount)
   pub settled : (k : ℕ) → getD (d .book .lines) k blankLine .settled ≤ mostAsked
 

@@ -1,8 +1,8 @@
--- What stands in a list: found by taking it apart, and by the test `among`. Assumes nothing.
-use mathlib.Core.Path.{_≡_, sym, ap}
+-- What stands in a list: found by taking it apart, in two lists together, and by the test `among`. Assumes nothing.
+use mathlib.Core.Path.{_≡_, sym, ap, _∙_}
 use mathlib.Core.Bool.{true, false≢true}
 use mathlib.Core.Logic.{_↔_, _⊎_, inl, inr, ⊎-elim}
-use mathlib.Core.List.{List, [], _∷_}
+use mathlib.Core.List.{List, [], _∷_, _++_, append-assoc}
 use Prim.Native.Nat.{ℕ}
 use native.Mathlib.Omega.{arith}
 use lib.ListN.{length}
@@ -23,6 +23,13 @@ in-first (z ∷ before, after, e) = inr (before, after, cc)
 pub in-more : {A : Type 0} {x y : A} {xs : List A} → (x ≡ y) ⊎ In x xs → In x (y ∷ xs)
 in-more {xs} (inl e) = ([], xs, rw e)
 in-more {y} (inr k) = (y ∷ k .0, k .1, ap (λ l. y ∷ l) (k .2))
+
+-- and what stands in one of two lists stands in both together
+pub in-left : {A : Type 0} {x : A} (xs ys : List A) → In x xs → In x (xs ++ ys)
+in-left xs ys (before, after, e) = (before, after ++ ys, ap (λ zs. zs ++ ys) e ∙ append-assoc before _ ys)
+
+pub in-right : {A : Type 0} {x : A} (xs ys : List A) → In x ys → In x (xs ++ ys)
+in-right xs ys (before, after, e) = (xs ++ before, after, ap (λ zs. xs ++ zs) e ∙ sym (append-assoc xs before _))
 
 -- "one of a list of numbers"
 pub among-exactly : (ks : List ℕ) (x : ℕ) → (among ks x ≡ true) ↔ In x ks

@@ -48,14 +48,17 @@ pub data Remembered (messages : List (List ℕ)) : List Field → Type 0 where
   nothing : None Report messages → Remembered messages []
   report : {s : List ℕ} → (r : Last Report messages s) → Remembered messages (bodyFields (r .holds .body))
 
--- what a field of the remembered status says or, "where it has none", another
+-- what a field of the remembered status says or, where it has none, another
 pub data Told {A : Type 0} (status : List Field) (id : ℕ) (says : List ℕ → A) (other : A) : A → Type 0 where
   told : {value : List ℕ} → valueIn id status ≡ found value → Told status id says other (says value)
   untold : valueIn id status ≡ missing → Told status id says other other
 
--- the remembered code
+-- the remembered code, and the remembered amount
 abbrev pub CodeIs : List Field → ℕ → Type 0
 CodeIs status code = (value : List ℕ) × (valueIn 0x27 status ≡ found value) × (getD value 0 0 ≡ code)
+
+abbrev pub AmountIs : List Field → ℕ → Type 0
+AmountIs status amount = (value : List ℕ) × (valueIn 0x04 status ≡ found value) × (numberOf value ≡ amount)
 
 -- ---- what was asked, and how it ended
 
@@ -77,14 +80,17 @@ pub data Ended (i : ℕ) (kind : Kind) (asked : ℕ) (status : List Field) : Cal
   aborted : {s : List ℕ} {b : ℕ} {rest : List ℕ} → Reads s 0x06 0x1E (bytes (b ∷ rest)) → Ended i kind asked status (message i s) Declined 0 b
   -- P27: "Where the link is lost, a waiting or running lane ends its payment, unclear". P33: "The code of a lost link is 0."
   cut : Ended i kind asked status (lost i) Unclear 0 0
-  -- P23: "At 06 0F a remembered code 00 means approved." P24: "The settled amount is field 04 of the remembered status or, where it
-  -- has none, the amount asked." P25 is the row below
-  approved : {s : List ℕ} {body : Body} {amount : ℕ} → Reads s 0x06 0x0F body → CodeIs status 0 → Told status 0x04 numberOf asked amount
+  -- P23: "At 06 0F a remembered code 00 means approved, but for P24 and P25", the two rows below. "The settled amount is field 04 of the
+  -- remembered status; an amount of 0 counts as told." P33, here and below: "The code at 06 0F is the remembered one"
+  approved : {s : List ℕ} {body : Body} {amount : ℕ} → Reads s 0x06 0x0F body → CodeIs status 0 → AmountIs status amount
       → (kind ≡ Reversal → amount ≡ asked) → Ended i kind asked status (message i s) Approved amount 0
-  -- P25: "A reversal that settles another amount than it asked for is unclear."
-  differs : {s : List ℕ} {body : Body} {amount : ℕ} → Reads s 0x06 0x0F body → CodeIs status 0 → Told status 0x04 numberOf asked amount
+  -- P24: "At 06 0F after code 00, a remembered status without field 04 means unclear, for every kind."
+  amount-untold : {s : List ℕ} {body : Body} → Reads s 0x06 0x0F body → CodeIs status 0 → valueIn 0x04 status ≡ missing
+      → Ended i kind asked status (message i s) Unclear 0 0
+  -- P25: "At 06 0F after code 00, a reversal is unclear where field 04 says another amount than it asked for."
+  differs : {s : List ℕ} {body : Body} {amount : ℕ} → Reads s 0x06 0x0F body → CodeIs status 0 → AmountIs status amount
       → kind ≡ Reversal → (amount ≡ asked → ⊥) → Ended i kind asked status (message i s) Unclear 0 0
-  -- P26: "At 06 0F another remembered code .. means unclear." P33: "The code at 06 0F is the remembered one"
+  -- P26: "At 06 0F a remembered code other than 00 .. means unclear."
   other-code : {s : List ℕ} {body : Body} {code : ℕ} → Reads s 0x06 0x0F body → CodeIs status code → (code ≡ 0 → ⊥)
       → Ended i kind asked status (message i s) Unclear 0 code
   -- P26: "or no remembered status, means unclear". P33: "or 0 where nothing is remembered"
