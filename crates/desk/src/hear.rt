@@ -27,7 +27,7 @@ ghost use mathlib.Core.Path.{_≡_};
 ghost use Prim.Native.Nat.{_*_, _+_, _≤_};
 ghost use lib.ListN.{length};
 ghost use Rattle.desk_rules.specs.Lanes.{receiptBy, lineAt};
-ghost use Rattle.desk_rules.specs.Course.{completedBy, settledAs, amountBy, abortedBy, answered, heard, noMove, openedBy};
+ghost use Rattle.desk_rules.specs.Course.{completedBy, settledAs, abortedBy, answered, heard, noMove, openedBy};
 ghost use Rattle.desk.specs.Hear.{saidBy, waitingMoved, runningMoved, reportedAs, movedFor, replied};
 
 // What a message says to a running lane.
@@ -96,26 +96,21 @@ pub(crate) fn ending_line(lane: u8, l: Lane, outcome: Outcome, settled: u64, cod
     }
 }
 
-// The amount told, else the amount asked.
-pub(crate) fn amount_by(told: ToldAmount, asked: u64) -> u64
-    ensures { λ r. ⌜ r ≡ amountBy told asked ⌝ }
+// Code 00: approved for the amount told. Unclear where none was told, and for a reversal at another amount than it asked for.
+pub(crate) fn settled_as(kind: Kind, asked: u64, told: ToldAmount) -> Moved
+    ensures { λ r. ⌜ r ≡ settledAs kind asked told ⌝ }
 {
     match told {
-        ToldAmount::Missing => asked,
-        ToldAmount::Amount(a) => a,
-    }
-}
-
-// Code 00: approved, but for a reversal at another amount.
-pub(crate) fn settled_as(kind: Kind, asked: u64, amount: u64) -> Moved
-    ensures { λ r. ⌜ r ≡ settledAs kind asked amount ⌝ }
-{
-    if is_reversal(kind) {
-        if amount != asked {
-            return Moved::Ends(Outcome::Unclear, 0, 0);
+        ToldAmount::Missing => Moved::Ends(Outcome::Unclear, 0, 0),
+        ToldAmount::Amount(amount) => {
+            if is_reversal(kind) {
+                if amount != asked {
+                    return Moved::Ends(Outcome::Unclear, 0, 0);
+                }
+            }
+            Moved::Ends(Outcome::Approved, amount, 0)
         }
     }
-    Moved::Ends(Outcome::Approved, amount, 0)
 }
 
 // 06 0F: the remembered code decides.
@@ -132,7 +127,7 @@ pub(crate) fn completed(l: Lane) -> Moved
             }
             let told = status.amount;
             let kind = l.kind;
-            settled_as(kind, l.asked, amount_by(told, l.asked))
+            settled_as(kind, l.asked, told)
         }
     }
 }

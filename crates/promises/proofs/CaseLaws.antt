@@ -19,7 +19,7 @@ use Rattle.zvt_rules.specs.Listed.{listedAt, listedFrom, listedBody, listedMess
 use Rattle.zvt_rules.specs.Name.{upToZero, sizedName, nameIn, nameOf, nameAt, nameBytes, cardName}
 use Rattle.desk_rules.specs.Lanes.{receiptBy, lineAt, placeTaken}
 use Rattle.desk_rules.specs.Openings.{concerns, lastFrom, lastLine, commandOf, commandBytes}
-use Rattle.desk_rules.specs.Course.{heardWaiting, amountBy, settledAs, completedBy, abortedBy, reportedBy, movedBy, afterBody, heardRunning}
+use Rattle.desk_rules.specs.Course.{heardWaiting, settledAs, completedBy, abortedBy, reportedBy, movedBy, afterBody, heardRunning}
 use Rattle.desk_rules.specs.Course.{heardBy, afterHeader, heard, openedBy}
 use Rattle.desk_rules.specs.Course.{laneOf, needsPlace, moves, answered, writes}
 use Rattle.desk_rules.specs.Desk.{placesTaken, load, unlessRefused, decide}
@@ -41,7 +41,7 @@ unfolding unless andThen among secondTag tagSize formSize oneByteLen twoByteLen 
     bodyFields outlineOf asReadAnswer readAnswer shortened asShortenAnswer shortenAnswer writtenLeaves shortenLeaves
     listedAt listedFrom listedBody listedMessage namedListed askedOf upToZero sizedName nameIn nameOf nameAt nameBytes cardName
     receiptBy lineAt commandOf commandBytes
-    firstOf toldIn statusFields heardWaiting amountBy settledAs completedBy abortedBy reportedBy movedBy afterBody heardRunning heardBy afterHeader heard
+    firstOf toldIn statusFields heardWaiting settledAs completedBy abortedBy reportedBy movedBy afterBody heardRunning heardBy afterHeader heard
     concerns lastFrom lastLine openedBy laneOf needsPlace moves answered writes
     placeTaken placesTaken load unlessRefused decide view endedDesk movedDesk refusedAnswer answerBy answerOf leavesBy leavesOf
     total netOf

@@ -20,5 +20,6 @@ pub mod Placing
 pub mod Turns
 pub mod OtherDays
 pub mod Counted
+pub mod Settled
 pub mod Openings
 pub mod ReplayedDays

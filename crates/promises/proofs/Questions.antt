@@ -1,4 +1,4 @@
--- The auditor's three questions, each with the theorem that answers it. A day is any list of calls that the desk accepted, from a fresh
+-- The auditor's three questions, each with the theorems that answer it. A day is any list of calls that the desk accepted, from a fresh
 -- one on. Assumes nothing.
 use mathlib.Core.Path.{_≡_, refl, ap, _∙_}
 use mathlib.Core.Logic.{_↔_}
@@ -6,7 +6,7 @@ use mathlib.Core.List.{List, [], _∷_, _++_}
 use Prim.Native.Nat.{ℕ, _<_}
 use lib.ListN.{length, getD, take}
 use Rattle.desk_rules.specs.declared.Kind.{Kind}
-use Rattle.desk_rules.specs.declared.Outcome.the-variants.{Approved}
+use Rattle.desk_rules.specs.declared.Outcome.the-variants.{Unclear, Approved}
 use Rattle.desk_rules.specs.declared.Desk.{Desk}
 use Rattle.desk_rules.specs.Lanes.{blankLine}
 use Rattle.desk_rules.specs.Course.{Call, laneOf}
@@ -18,9 +18,10 @@ use Rattle.desk_rules.specs.believed.Due.{Due}
 use Rattle.desk_rules.proofs.Lanes.{isolation}
 use Rattle.desk_rules.proofs.Memory.{refused-same, follows}
 use Rattle.promises.specs.Days.{DeskTurn, callsIn, OfBytes, Taken, linesIn, openingsIn, firsts}
-use Rattle.promises.specs.Counted.{Counted}
+use Rattle.promises.specs.Counted.{Counted, WithoutAmount, Settled}
 use Rattle.promises.proofs.Turns.{a-day}
-use Rattle.promises.proofs.Counted.{counted}
+use Rattle.promises.proofs.Counted.{counted, not-counted}
+use Rattle.promises.proofs.Settled.{payment-bytes, settled-by}
 use Rattle.promises.proofs.Openings.{one-by-one}
 use Rattle.promises.proofs.DemandThree.{every-line}
 
@@ -34,6 +35,19 @@ module _ (day : List DeskTurn) (b : OfBytes (callsIn day)) (t : Taken freshDesk 
       × ((kind : Kind) (amount : ℕ)
       → ((line .outcome ≡ Approved) × (line .kind ≡ kind) × (line .settled ≡ amount)) ↔ Counted (take j (linesIn day)) calls kind amount)
   which-bytes j small = let d = every-line day b t .1 j small _ .0 refl in (d, counted d)
+
+  -- "A completion after code 00 without field 04 is unclear, settled 0, for all three kinds."; the code of the line is the 00 reported.
+  pub no-amount-no-sale : (j : ℕ) → j < length (linesIn day) → let line = getD (linesIn day) j blankLine in
+      WithoutAmount (take j (linesIn day)) (getD (paymentsOf (callsIn day) .ended) j [])
+      → (line .outcome ≡ Unclear) × (line .settled ≡ 0) × (line .code ≡ 0)
+  no-amount-no-sale j small = not-counted (which-bytes j small .0)
+
+  -- Every settled amount on the book is the number in field 04 of a report on that payment's own lane, and never taken from the amount
+  -- asked: line j is approved, and the report that it is counted by is a message of its lane whose bytes spell that amount; or it is not
+  -- approved and has settled 0.
+  pub settled-reported : (j : ℕ) → j < length (linesIn day)
+      → Settled (take j (linesIn day)) (getD (paymentsOf (callsIn day) .ended) j []) (getD (linesIn day) j blankLine)
+  settled-reported j small = settled-by (which-bytes j small .0) (λ s. payment-bytes (callsIn day) (a-day day b t .accepted) b j)
 
   -- "Can a payment begin and leave no line at all?" The openings of a lane are, one by one and in order, the first calls of its payments: of
   -- those that ended and of the one that is still open. Those that ended are as many as the book's lines.

@@ -15,10 +15,9 @@ returns-2 c = rw (c .enum-told .given .1)
 
 returns-3 : tie.Need-returns-3
 unfolding completedBy
-returns-3 c = rw (c .settled-as .ensures, c .before .amount-by .ensures, c .before .before .before .before .code .given .1, c .before .before .if1 .left)
+returns-3 c = rw (c .settled-as .ensures, c .before .before .before .code .given .1, c .before .if1 .left)
 
 pub completed-spec : {M : Type 1} → statement M
 completed-spec =
     tie.close
-    (tie.spec (λ c. search needs) (λ c. search needs) returns (λ c κs. search needs) (λ c κs. search needs) returns-2
-    returns-3)
+    (tie.spec (λ c. search needs) (λ c. search needs) returns (λ c κs. search needs) returns-2 returns-3)
