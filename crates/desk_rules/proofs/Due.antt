@@ -133,9 +133,14 @@ ending-exactly (opening i o) = (λ e. absurd (false≢true e), ending-ends)
 ending-exactly (message i s) = (ended-by s i (readOf s) refl, ending-ends)
 ending-exactly (lost i) = (λ e. by-loss, ending-ends)
 
+-- a report tells what its fields say, and that is remembered
+pub report-status : (s : List ℕ) (r : Report s) → statusOf s ≡ statusIn (bodyFields (r .body))
+unfolding statusOf statusFields
+report-status s r = rw (r .read .whole)
+
 heeded : (st : Status) (s : List ℕ) (r : Report s) → remembered st s ≡ statusIn (bodyFields (r .body))
-unfolding remembered statusOf statusFields statusIn codeIn codeOf orElse
-heeded st s r = rw (r .read .whole, r .coded)
+unfolding remembered statusIn codeIn codeOf orElse
+heeded st s r = rw (report-status s r, r .coded)
 
 -- a message is a report, or changes nothing that is remembered; and not both
 heard : (s : List ℕ) → Report s ⊎ ((st : Status) → remembered st s ≡ st)

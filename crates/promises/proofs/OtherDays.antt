@@ -125,7 +125,7 @@ bytes-from (c ∷ cs) h =
     fewer k false b = b
 
 -- so are calls that are the same lane by lane
-same-bytes : (cs ds : List Call) → ((k : ℕ) → callsOf k ds ≡ callsOf k cs) → OfBytes cs → OfBytes ds
+pub same-bytes : (cs ds : List Call) → ((k : ℕ) → callsOf k ds ≡ callsOf k cs) → OfBytes cs → OfBytes ds
 same-bytes cs ds same b = bytes-from ds (λ k. subst OfBytes (sym (same k)) (bytes-at cs k b))
 
 -- ---- calls in an order that keeps that of each lane: each takes the next of its lane's turns
