@@ -14,7 +14,7 @@ use Rattle.zvt_rules.specs.declared.Refusal.{Refusal}
 use Rattle.zvt_rules.specs.declared.Status.{Status}
 use Rattle.zvt_rules.specs.declared.ToldCode.{ToldCode}
 use Rattle.zvt_rules.specs.declared.ToldCode.the-variants.{Missing as no-code, Code}
-use Rattle.zvt_rules.specs.Heard.{firstOf, toldIn}
+use Rattle.zvt_rules.specs.Heard.{firstByte, toldIn}
 use Rattle.zvt_rules.proofs.Readings.{then-on, then-got, got-same}
 use Rattle.basics.proofs.Tests.{pick-test, never}
 use Rattle.desk_rules.specs.declared.Outcome.the-variants.{Declined}
@@ -192,7 +192,7 @@ module _ (l : Lane) (i : ℕ) (s : List ℕ) where
       (λ e. let p = both (m .class) (m .instruction) 0x06 0x0F e in
       closes (completedBy l (l .status .code)) (completed-closes l _) (rw (r, p .0, p .1) (completed-running l _)))
       (λ _. pick-test Goes (pairIs (m .class) (m .instruction) 0x06 0x1E)
-      (λ e. let p = both (m .class) (m .instruction) 0x06 0x1E e in closes (abortedBy (headerSize (m .long)) (firstOf (m .body))) (aborted-closes _ _) (rw (r, p .0, p .1)))
+      (λ e. let p = both (m .class) (m .instruction) 0x06 0x1E e in closes (abortedBy (headerSize (m .long)) (firstByte (m .body))) (aborted-closes _ _) (rw (r, p .0, p .1)))
       (λ _. pick-test Goes (pairIs (m .class) (m .instruction) 0x04 0x0F)
       (λ e. reported (toldIn m .status) (rw (r, e)) on)
       (λ e. stays (running-same l on ∙ same λ k f. rw (got-same (sym f ∙ r)) e))))

@@ -22,7 +22,7 @@ use Rattle.desk_rules.specs.Course.{Call, laneOf, moves}
 use Rattle.desk_rules.specs.Desk.{State, fresh, laneAfter, linesFrom, step, Accepts, Accepted, run}
 use Rattle.desk_rules.specs.Runs.{having, ofLane, callsOf, Own, ownOf}
 use Rattle.desk_rules.specs.Payments.{Payments, withCall, paymentsFrom, paymentsOf, flattened}
-use Rattle.desk_rules.specs.believed.Due.{Due, LaneIs}
+use Rattle.desk_rules.specs.believed.Due.{LineDue, LaneIs}
 use Rattle.desk_rules.proofs.Calls.{endsIn, ends-same}
 use Rattle.desk_rules.proofs.Lanes.{having-append, moves-local, after, by-lane, told, lanes-step}
 use Rattle.desk_rules.proofs.Payment.{Goes, goes, Brings, brings-more, Ongoing, open-none, its-more}
@@ -34,7 +34,7 @@ pub record Block (ls : List Line) (p : List Call) (x : Line) : Type 0 where
   pub lane : ℕ
   pub small : lane < laneCount
   pub its : (j : ℕ) → callsOf j p ≡ pick (eqb lane j) p []
-  pub due : Due ls p x
+  pub due : LineDue ls p x
   pub brings : Brings lane (ofLane lane ls) p idleLane (x ∷ [])
 
 -- payments, and the lines that they brought
@@ -162,7 +162,7 @@ kept-step s p past c kept h =
         (rw (e, f, append-nil (w .lines)) (record { its = its-more q c (now .its); brings = rw (e, f) at brings; says = g }))
         (rw (f, append-nil (s .lines), append-nil (p .ended)) (kept .blocks)))
 
-    ended : (x : Line) → laneAfter (w .lane) (turn s c) ≡ idleLane → linesFrom i (w .lane) (turn s c) ≡ x ∷ [] → Due (s .lines) (q ++ (c ∷ [])) x
+    ended : (x : Line) → laneAfter (w .lane) (turn s c) ≡ idleLane → linesFrom i (w .lane) (turn s c) ≡ x ∷ [] → LineDue (s .lines) (q ++ (c ∷ [])) x
         → Kept (step s c) (record { ended = p .ended ++ ((q ++ (c ∷ [])) ∷ []); ongoing = set (p .ongoing) i [] }) (past ++ (c ∷ []))
     ended x e l d =
         kept-with s p past c kept h ((q ++ (c ∷ [])) ∷ []) [] (simp append-nil) (rw e (open-none i _))

@@ -11,7 +11,7 @@ use Rattle.basics.specs.Choice.{pick}
 use Rattle.basics.proofs.Tests.{pick-test, pick-under, never}
 use Rattle.desk_rules.specs.declared.Desk.{Desk}
 use Rattle.desk_rules.specs.Numbers.{laneCount}
-use Rattle.desk_rules.specs.Course.{Call, laneOf, needsPlace, moves, writes}
+use Rattle.desk_rules.specs.Course.{Call, laneOf, needsLine, moves, writes}
 use Rattle.desk_rules.specs.Desk.{State, fresh, laneAt, load, accept, decide, step, Accepts, Accepted, run}
 use Rattle.desk_rules.specs.Memory.{freshDesk, view, Valid}
 use Rattle.desk_rules.specs.Runs.{having, callsOf, Own, ownOf}
@@ -52,7 +52,7 @@ fitting s c room h fits =
     rw (
       lt-leb laneCount (laneOf c) (t .lane),
       passing (moves l (s .lines) c) _ (t .moved),
-      room-tell (needsPlace c) (load s) (t .room),
+      room-tell (needsLine c) (load s) (t .room),
       le-ltb room (length (writes l c)) fits,
     )
 

@@ -6,7 +6,7 @@ use native.Mathlib.Omega.{arith}
 use Rattle.zvt_rules.specs.Reading.{unplaced}
 use Rattle.desk_rules.specs.declared.Reply.the-variants.{Written}
 use Rattle.desk_rules.specs.Kinds.{isIdle}
-use Rattle.desk_rules.specs.Course.{lost, laneOf, needsPlace, NumbersFit, moves, writes}
+use Rattle.desk_rules.specs.Course.{lost, laneOf, needsLine, NumbersFit, moves, writes}
 use Rattle.desk_rules.specs.Desk.{laneAt, accept, decide}
 use Rattle.desk_rules.specs.Memory.{view}
 use Rattle.desk_rules.proofs.Memory.{taken-line}
@@ -19,7 +19,7 @@ open-lane : (c : tie.Else2) → let a = c .before .before .before .before .args 
 open-lane c = sym (c .before .is-idle .ensures) ∙ c .if2 .left
 
 accepts : (c : tie.Else2) → let a = c .before .before .before .before .args in decide (view (a .t1)) (lost (a .lane)) 0 ≡ accept
-unfolding laneOf needsPlace moves writes
+unfolding laneOf needsLine moves writes
 accepts c =
     let a = c .before .before .before .before .args in
     goes-on (a .t1) (lost (a .lane)) 0 (c .before .before .before .if1 .left) (rw (lost-open (laneAt (a .t1 .lanes) (a .lane)) (open-lane c)) tt) refl (omega arith)
