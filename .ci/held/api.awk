@@ -1,6 +1,6 @@
-# What API says of the sources: the names in the first column as "CRATE<tab>NAME<tab>LINE", for complete.awk (names=1); or, as claims (names.awk
-# says what a claim is), the rules, the constants that a type has, and what the last column of functions names, `File` (`theorem`, `theorem`),
-# a file of the promises.
+# What API says of the sources: the names in the first column as "CRATE<tab>NAME<tab>LINE", for complete.awk (names=1); or, as claims
+# (names.awk says what a claim is), the rules, the constants that a type has, and what the last column of functions names, `File`
+# (`theorem`, `theorem`), a file of the promises.
 
 function claim(what, where, name) { print FILENAME "\t" FNR "\t" what "\t" where "\t" name }
 

@@ -1,5 +1,5 @@
-# The files of cases are just those that vectors' args and the table of CASES name, and vectors' stdout has the number of their answers. Inputs,
-# by the variable of: the files there are, args, stdout, CASES, and the files of cases themselves.
+# The files of cases are just those that vectors' args and the table of CASES name, and vectors' stdout has the number of their answers.
+# Inputs, by the variable of: the files there are, args, stdout, CASES, and the files of cases themselves.
 
 function said(what) { print what; wrong++ }
 

@@ -1,6 +1,6 @@
-# Every public function stands in API, in Ends and in OneAnswer, with a row named after it; every public type stands in API; and API names no
-# others. Inputs, by the variable of: the public names (public.awk), Ends, OneAnswer, and API's names (api.awk). The variable apart names the
-# functions that have no rows.
+# Every public function stands in API, in Ends and in OneAnswer, with a row named after it; every public type stands in API; and API names
+# no others. Inputs, by the variable of: the public names (public.awk), Ends, OneAnswer, and API's names (api.awk). The variable apart names
+# the functions that have no rows.
 BEGIN { FS = "\t" }
 NR == 1 {
     words = split(apart, word, " ")
@@ -46,7 +46,8 @@ function named_after(row, function_name, ending) {
 
 function hold_row(k, file, ending) {
     if (!((file, name[k]) in rows)) said(where[k], name[k] " has no row in " file ".antt")
-    else if (!named_after(rows[file, name[k]], name[k], ending)) said(where[k], "the row of " name[k] " in " file ".antt is not named after it")
+    else if (!named_after(rows[file, name[k]], name[k], ending))
+        said(where[k], "the row of " name[k] " in " file ".antt is not named after it")
 }
 
 END {

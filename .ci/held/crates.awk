@@ -24,6 +24,8 @@ function leads(a, b,    k) {
     return 0
 }
 
+function drawn(pair,    part) { split(pair, part, SUBSEP); return part[1] " --> " part[2] }
+
 END {
     for (a in crate) {
         if (!(a in named)) said("the table of crates lacks " a)
@@ -32,8 +34,8 @@ END {
             if (b in crate && !over(a, b)) due[a, b]
         }
     }
-    for (pair in due) if (!(pair in arrow)) { split(pair, end, SUBSEP); said("the picture lacks " end[1] " --> " end[2]) }
-    for (pair in arrow) if (!(pair in due)) { split(pair, end, SUBSEP); said("the picture has " end[1] " --> " end[2] ", which crates.txt does not say") }
+    for (pair in due) if (!(pair in arrow)) said("the picture lacks " drawn(pair))
+    for (pair in arrow) if (!(pair in due)) said("the picture has " drawn(pair) ", which crates.txt does not say")
     for (a in named) if (!(a in crate)) said("the table of crates has " a ", which is none")
     exit wrong > 0
 }

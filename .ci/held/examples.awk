@@ -1,6 +1,6 @@
-# Every example of a page is a case of vectors/data/page-NAME.txt, and every case there an example of the page. First come all files of cases,
-# then the pages. An example is, on TRIAL, what stands between ``` lines, each answer indented below its line; on the other pages a command and,
-# behind a blank line, what it prints, both indented:
+# Every example of a page is a case of vectors/data/page-NAME.txt, and every case there an example of the page. First come all files of
+# cases, then the pages. An example is, on TRIAL, what stands between ``` lines, each answer indented below its line; on the other pages a
+# command and, behind a blank line, what it prints, both indented:
 #     printf 'LINE\n' | ./run trial       the case has that line
 #     printf '\x06..' | ./run lister      the case has `list` with these bytes
 #     ./run replay <FILE                  the case ends with `replay-tape`

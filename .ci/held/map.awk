@@ -44,7 +44,7 @@ function single(token) {
 }
 
 function take(before, token, after) {
-    if (token ~ /(^|\/)[A-Z]+(\/|\.txt|$)/ || token ~ /^specs/) return    # NAME stands for any name
+    if (token ~ /^(CRATE\/|NAME\.)/) return    # any name
     if (kind == "test" && edit(before, token)) return
     if (kind == "") head(before, token)
     if (token ~ /\.txt$/) claim("file", "vectors/data/" token)

@@ -1,5 +1,5 @@
-# Holds the claims of the pages to the sources. Three inputs, by the variable of: the files there are, what they define ("FILE<tab>NAME"), and
-# the claims, "PAGE<tab>LINE<tab>WHAT<tab>WHERE<tab>NAME":
+# Holds the claims of the pages to the sources. Inputs, by the variable of: the files there are, what they define ("FILE<tab>NAME"), and the
+# claims, "PAGE<tab>LINE<tab>WHAT<tab>WHERE<tab>NAME":
 #     file      WHERE is a file or a folder
 #     name      WHERE, one file or several, defines NAME, or NAME is a crate
 #     function  a crate has the function NAME, `crate::function` or `Type::method`

@@ -1,6 +1,6 @@
-# What PROMISES says of the sources, as claims (names.awk says what a claim is). A name stands in a file that its heading names, or in the one
-# that is named beside it: `name`, `name` (`File.antt`), `File.antt` (`name`), `name` of `File.antt`; a bare file is one of the promises. In
-# the table of the two writings each column has its own folder; a token `crate/label` of the tables below is a must-fail edit.
+# What PROMISES says of the sources, as claims (names.awk says what a claim is). A name stands in a file that its heading names, or in the
+# one that is named beside it: `name`, `name` (`File.antt`), `File.antt` (`name`), `name` of `File.antt`; a bare file is one of the
+# promises. In the table of the two writings each column has its own folder; a token `crate/label` of the tables below is a must-fail edit.
 
 function claim(line, what, where, name) { print FILENAME "\t" line "\t" what "\t" where "\t" name }
 
@@ -33,7 +33,7 @@ function follow_brackets(k) {
 
 function take(k,    part) {
     follow_brackets(k)
-    if (token[k] ~ /[ =]|^(specs|proofs|src)\// || token[k] ~ /(^|\/)[A-Z]+(\/|\.edit|$)/) return    # code, a folder of any crate, NAME for any name
+    if (token[k] ~ /[ =]|^(specs|proofs|src)\/|(CRATE|LABEL)/) return    # code, a folder of any crate, any name
     if (token[k] ~ /\.md$/) claim(line[k], "file", "docs/" token[k])
     else if (token[k] ~ /^[a-z_]+\/[a-z0-9_]+$/ && part_of == "edits") {
         split(token[k], part, "/")

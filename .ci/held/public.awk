@@ -1,6 +1,6 @@
-# The public functions and types of the libraries: a line "FILE<tab>LINE<tab>WHAT<tab>CRATE<tab>NAME" for each, WHAT being function or type, NAME with
-# its module and type before it (`answers::refused`, `Lane::idle`). A module is public where the crate's lib.rt says so; lib.rt comes
-# before the crate's other files.
+# The public functions and types of the libraries: a line "FILE<tab>LINE<tab>WHAT<tab>CRATE<tab>NAME" for each, WHAT being function or
+# type, NAME with its module and type before it (`answers::refused`, `Lane::idle`). A module is public where the crate's lib.rt says so;
+# lib.rt comes before the crate's other files.
 
 function item(what, name) { print FILENAME "\t" FNR "\t" what "\t" crate "\t" module (type == "" ? "" : type "::") name }
 

@@ -1,7 +1,7 @@
-# Every quotation is its source's own words. In a comment, what stands in double quotes is of the rule that is cited last before it, or of one
-# of several cited together ("R42, R43:"); where none is cited, it is of some rule, or of a demand or request as PROMISES quotes it. On a
-# page only what directly follows a rule's number (`R46: ".."`) is a quotation. ".." stands for words left out; blanks and line breaks are equal.
-# The first file is RULES, the second PROMISES.
+# Every quotation is its source's own words. In a comment, what stands in double quotes is of the rule that is cited last before it, or of
+# one of several cited together ("R42, R43:"); where none is cited, it is of some rule, or of a demand or request as PROMISES quotes it. On
+# a page only what directly follows a rule's number (`R46: ".."`) is a quotation. ".." stands for words left out; blanks and line breaks are
+# equal. The first file is RULES, the second PROMISES.
 
 FNR == 1 { input++ }
 
