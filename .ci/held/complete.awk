@@ -13,6 +13,7 @@ of == "public" {
     name[++names] = $4 "::" $5
     where[names] = $1 ":" $2
     what[names] = $3
+    signature[names] = $6
     next
 }
 
@@ -35,7 +36,7 @@ of == "Ends" || of == "OneAnswer" {
     next
 }
 
-of == "API" { api[$1 "::" $2] = "docs/API.md:" $3 }
+of == "API" { entry = $1 "::" $2; api[entry] = "docs/API.md:" $3; written[entry] = $4 }
 
 # Whether a row is named after its function: its name ends with the function's and how the rows of its file end.
 function named_after(row, function_name, ending) {
@@ -54,6 +55,7 @@ END {
     for (k = 1; k <= names; k++) {
         listed[name[k]]
         if (!(name[k] in api)) said(where[k], name[k] " does not stand in docs/API.md")
+        else if (written[name[k]] != signature[k]) said(api[name[k]], name[k] " is " signature[k])
         if (what[k] == "type" || name[k] in excepted) continue
         hold_row(k, "Ends", "ends")
         hold_row(k, "OneAnswer", "one")
