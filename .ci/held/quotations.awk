@@ -1,7 +1,7 @@
 # Every quotation is its source's own words. In a comment, what stands in double quotes is of the rule that is cited last before it, or of
-# one of several cited together ("R42, R43:"); where none is cited, it is of some rule, or of a demand or request as PROMISES quotes it. On
-# a page only what directly follows a rule's number (`R46: ".."`) is a quotation. ".." stands for words left out; blanks and line breaks are
-# equal. The first file is RULES, the second PROMISES.
+# one of several cited together ("R42, R43:"); where none is cited, it is of some rule, of a demand or request as PROMISES quotes it, or of
+# TRIAL or CASES. On a page only what directly follows a rule's number (`R46: ".."`) is a quotation. ".." stands for words left out; blanks
+# and line breaks are equal. First come RULES, PROMISES, TRIAL and CASES.
 
 FNR == 1 { input++ }
 
@@ -18,12 +18,14 @@ input == 1 {
     if (/^#/ || /^```/ || /^[A-Z]/) rule = ""
     if (/^- \*\*[A-Z][0-9]+\*\*/) rule = clean($2)
     if (/^\| \*\*[0-9]+\*\*/) rule = "R" clean($2)
-    if (rule != "") text[rule] = clean(text[rule] " " $0)
+    if (rule != "") text[rule] = text[rule] " " clean($0)
     next
 }
 
-# ---- the demands and requests, which are set apart, and the auditor's questions, which are bold
-input == 2 && (/^> / || /^\*\*.*\?\*\*$/) { sub(/^> /, ""); text["demands"] = clean(text["demands"] " " $0) }
+# ---- the demands and requests, which are set apart, and the auditor's questions, which are bold; and the words of scripts and cases
+input == 2 && (/^> / || /^\*\*.*\?\*\*$/) { sub(/^> /, ""); text["demands"] = text["demands"] " " clean($0) }
+input == 3 || input == 4 { text[FILENAME] = text[FILENAME] " " clean($0) }
+input <= 4 { next }
 
 # Whether the pieces of a quotation stand in a text, one behind the other.
 function stands_in(said, rest,    piece, count, k, at) {
@@ -50,7 +52,7 @@ function stands_in_cited(said, cited,    rule, count, k) {
 function hold(said, cited) {
     quotations++
     if (cited == "" ? stands_anywhere(said) : stands_in_cited(said, cited)) return
-    print file ":" first ": not the words of " (cited == "" ? "any rule or demand" : cited) ": \"" said "\""
+    print file ":" first ": not the words of " (cited == "" ? "any source" : cited) ": \"" said "\""
     wrong++
 }
 
