@@ -1,11 +1,11 @@
 # Every example of a page is a case of vectors/data/page-NAME.txt, and every case there an example of the page. First come all files of
-# cases, then the pages. An example is, on TRIAL, what stands between ``` lines, each answer indented below its line; on the other pages a
-# command and, behind a blank line, what it prints, both indented:
+# cases, then the pages. An example is what stands between ``` lines, on CASES as a case, on TRIAL with each answer indented below its line;
+# on the other pages a command and, behind a blank line, what it prints, both indented:
 #     printf 'LINE\n' | ./run trial       the case has that line
 #     printf '\x06..' | ./run lister      the case has `list` with these bytes
 #     ./run replay <FILE                  the case ends with `replay-tape`
 # A message drawn above a command, in a row `byte`, is the one that it reads.
-# And an answer of a reader or a replay that a page names (`refused 22 at 9`, `end 43 refused 23`) is one that some case has.
+# And an answer of a reader or a replay that a page names (`refused 22 at 9`, `end 43 refused 23`, `= absent`) is one that some case has.
 
 function said(line, what) { print file ":" line ": " what; wrong++ }
 
@@ -85,8 +85,8 @@ function end_block() {
 function end_paragraph(    part, count, k) {
     count = split(paragraph, part, "`")
     for (k = 2; k < count; k += 2)
-        if (part[k] ~ /^(refused [0-9]+( at [0-9]+)?|end [0-9]+ (ok|refused [0-9]+))$/ && !(part[k] in answer))
-            said(FNR, "no case answers `" part[k] "`")
+        if (sub(/^= /, "", part[k]) && part[k] != "" || part[k] ~ /^(refused [0-9]+( at [0-9]+)?|end [0-9]+ (ok|refused [0-9]+))$/)
+            if (!(part[k] in answer)) said(FNR, "no case answers `" part[k] "`")
     paragraph = ""
 }
 
