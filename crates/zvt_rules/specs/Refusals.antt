@@ -1,4 +1,5 @@
--- The numbers of refusal by name: "Number *n* is rule R*n*." The second writing and the pages have the numbers themselves. Definitions only.
+-- The numbers of refusal by name, each with the rule that it is. The second writing and the pages have the numbers themselves, so that a
+-- wrong one here breaks their agreement. Definitions only.
 use Prim.Native.Nat.{ℕ}
 
 -- R1: "the bytes end before a thing that they began"
