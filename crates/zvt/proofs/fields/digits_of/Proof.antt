@@ -44,25 +44,29 @@ returns c =
 returns-2 : tie.Need-returns-2 Inv-loop μ-loop
 unfolding asDigits
 returns-2 c =
-    let l = c .before .before .before .before .loop in
-    let no-digit : lengthDigit (getD (c .before .before .before .before .before .args .s .now) (l .i) 0) ≡ false =
+    let turn = c .before .before .before .before in
+    let l = turn .loop in
+    let no-digit : lengthDigit (getD (turn .before .args .s .now) (l .i) 0) ≡ false =
     digit-not _ (⊎-elim (λ w. inl (w .taken)) (λ w. inr (omega (arith, ltb-true))) (c .if2 .came)) in
     sym (l .inv .2 ∙ ap asDigits (digits-stop _ (l .v) _ _ (l .i) (c .before .before .before .loop-test .taken) (c .before .before .if1 .left) no-digit))
 
 mul-v : tie.Need-mul-v Inv-loop μ-loop
 mul-v c =
-    let l = c .before .before .before .before .before .loop in
+    let turn = c .before .before .before .before .before in
+    let l = turn .loop in
     omega (arith, ltb-false, below (l .i) (omega arith), l .inv .1)
 
 add-v : tie.Need-add-v Inv-loop μ-loop
 add-v c =
-    let l = c .before .before .before .before .before .loop in
+    let turn = c .before .before .before .before .before in
+    let l = turn .loop in
     omega (arith, ltb-false, below (l .i) (omega arith), l .inv .1)
 
 loop-again : tie.Need-loop-again Inv-loop μ-loop
 loop-again c =
-    let l = c .before .before .before .before .before .loop in
-    let high : getD (c .before .before .before .before .before .before .args .s .now) (l .i) 0 ≤ 249 = omega (arith, ltb-false) in (
+    let turn = c .before .before .before .before .before in
+    let l = turn .loop in
+    let high : getD (turn .before .args .s .now) (l .i) 0 ≤ 249 = omega (arith, ltb-false) in (
       omega arith,
       rw (add-one (l .i), pow-succ' 10 (l .i)) (omega (arith, high, l .inv .1)),
       l .inv .2

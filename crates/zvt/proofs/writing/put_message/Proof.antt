@@ -20,8 +20,11 @@ use Rattle.zvt.proofs.writing.put_message.Tie as tie
 abbrev Inner : Type 0
 Inner = tie.After-slice-known2
 
+abbrev laid : Inner → tie.After-layout-of
+laid c = c .before .before .before .before .before
+
 abbrev begun : Inner → tie.Start
-begun c = c .before .before .before .before .before .before .before .before .before
+begun c = laid c .before .before .before .before
 
 abbrev body : Inner → List ℕ
 body c = let a = begun c .args in shortBodyOf (headerLayout (a .h)) (bodyPart (a .h) (a .s .now))
@@ -33,7 +36,7 @@ inner : (c : Inner) → Put (body c) (begun c .args .out .now) (c .before .befor
 unfolding headerLayout bodyPart
 inner c =
     let a = begun c .args in
-    put-as (ap (λ (l : Layout). shortBodyOf l (bodyPart (a .h) (a .s .now))) (c .before .before .before .before .before .layout-of .ensures))
+    put-as (ap (λ (l : Layout). shortBodyOf l (bodyPart (a .h) (a .s .now))) (laid c .layout-of .ensures))
     (c .before .before .put-body .ensures)
 
 fits : (c : Inner) → length (head c (length (body c)) ++ body c) ≤ length (begun c .args .out .now)
@@ -46,7 +49,7 @@ small c =
     let m = begun c in
     let h = m .args .h in
     let s = m .args .s .now in
-    let known = bytes-known s (c .before .before .before .before .before .before .before .before .shared-slice-known .given) in
+    let known = bytes-known s (laid c .before .before .before .shared-slice-known .given) in
     let l = part-length s (h .start) (h .start + h .length) (omega arith) (m .pre .0) in
     omega (arith, body-fits (headerLayout h) (bodyPart h s) (bytes-part (h .start) (h .start + h .length) s known) (m .pre .2), m .pre .1)
 
