@@ -38,9 +38,9 @@ field-bounds-requires c κs =
 
 returns-2 : tie.Need-returns-2
 returns-2 c =
-    let g = c .before .before .before .before .before .before in
+    let filled-list = c .before .before .before .before .before .before in
     absurd
-    (first-never _ _ _ (bytes-known _ (g .before .shared-slice-known .given)) (g .before .before .pre) (g .if1 .left) _
+    (first-never _ _ _ (bytes-known _ (filled-list .before .shared-slice-known .given)) (filled-list .before .before .pre) (filled-list .if1 .left) _
     (sym (c .before .before .field-bounds .ensures) ∙ c .enum-told .given .1))
 
 pub field-from-spec : {M : Type 1} → statement M

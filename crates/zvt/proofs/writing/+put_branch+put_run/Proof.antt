@@ -111,8 +111,8 @@ module _ (t : ℕ) where
   branch-returns : put-branch-lts.Need-returns branch-claims branch-at put-branch.Post
   unfolding valueBytes
   branch-returns c =
-      let i = c .before .before .before .before in
-      then-head (head i) (inner i) (fits i) (c .before .before .put-head .ensures)
+      let inside = c .before .before .before .before in
+      then-head (head inside) (inner inside) (fits inside) (c .before .before .put-head .ensures)
 
   -- ---- a run: the bounds of its first object are found
   abbrev Found : Type 0

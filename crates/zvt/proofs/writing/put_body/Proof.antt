@@ -65,8 +65,8 @@ put-list-requires-2 c κs =
 
 slice-aggregate-put : tie.Need-slice-aggregate-put
 slice-aggregate-put c =
-    let t = c .before .before .before .before .before .before in
-    sym (length-take-le 3 (bytes t) (secured t .0))
+    let told = c .before .before .before .before .before .before in
+    sym (length-take-le 3 (bytes told) (secured told .0))
 
 slice-aggregate-put-2 : tie.Need-slice-aggregate-put-2
 slice-aggregate-put-2 c =

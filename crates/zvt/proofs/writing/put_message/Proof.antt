@@ -56,13 +56,13 @@ small c =
 put-body-requires : tie.Need-put-body-requires
 unfolding headerLayout bodyPart shortMessageOf
 put-body-requires c κs =
-    let m = c .before .before .before .before .before .before in
-    let h = m .args .h in
-    let s = m .args .s .now in
+    let start = c .before .before .before .before .before .before in
+    let h = start .args .h in
+    let s = start .args .s .now in
     let b = shortBodyOf (headerLayout h) (bodyPart h s) in
-    let l = part-length s (h .start) (h .start + h .length) (omega arith) (m .pre .0) in
+    let l = part-length s (h .start) (h .start + h .length) (omega arith) (start .pre .0) in
     let k = length-append (headerBytes (h .class) (h .instruction) (length b)) b in
-    rw (c .before .before .layout-of .ensures) (omega (arith, m .pre .1), m .pre .2, omega (arith, m .pre .3))
+    rw (c .before .before .layout-of .ensures) (omega (arith, start .pre .1), start .pre .2, omega (arith, start .pre .3))
 
 slice-aggregate-put-header : tie.Need-slice-aggregate-put-header
 slice-aggregate-put-header c = let i = c .before in lent-all (head i (length (body i))) (inner i) (fits i)
@@ -75,8 +75,8 @@ put-header-requires c κs =
 returns : tie.Need-returns
 unfolding shortMessageOf
 returns c =
-    let i = c .before .before .before .before in
-    then-head (head i) (inner i) (fits i) (c .before .before .put-header .ensures)
+    let inside = c .before .before .before .before in
+    then-head (head inside) (inner inside) (fits inside) (c .before .before .put-header .ensures)
 
 pub put-message-spec : {M : Type 1} → statement M
 put-message-spec =
