@@ -17,6 +17,8 @@ use Rattle.zvt_rules.specs.declared.ToldCode.the-variants.{Missing as no-code, 
 use Rattle.zvt_rules.specs.Heard.{firstByte, toldIn}
 use Rattle.zvt_rules.proofs.Readings.{then-on, then-got, got-same}
 use Rattle.basics.proofs.Tests.{pick-test, never}
+use Rattle.desk_rules.specs.declared.Kind.{Kind}
+use Rattle.desk_rules.specs.declared.Kind.the-variants.{Sale, Refund, Reversal}
 use Rattle.desk_rules.specs.declared.Outcome.the-variants.{Declined}
 use Rattle.desk_rules.specs.declared.Phase.{Phase}
 use Rattle.desk_rules.specs.declared.Phase.the-variants.{Running}
@@ -25,7 +27,7 @@ use Rattle.desk_rules.specs.declared.Line.{Line}
 use Rattle.desk_rules.specs.declared.Moved.{Moved}
 use Rattle.desk_rules.specs.declared.Moved.the-variants.{Refused, Stays, Becomes, Ends}
 use Rattle.desk_rules.specs.declared.Opening.{Opening}
-use Rattle.desk_rules.specs.Kinds.{isIdle}
+use Rattle.desk_rules.specs.Kinds.{booked, isIdle}
 use Rattle.desk_rules.specs.Lanes.{runningLane, reportedLane}
 use Rattle.desk_rules.specs.Openings.{withinLimits, refersTo, stands, openedLane}
 use Rattle.desk_rules.specs.Course.{runningPairs, pairIs, heardWaiting, completedBy, abortedBy, reportedBy, movedBy, afterBody, heardRunning, lostBy, openedBy, Call, opening, message, lost, opens, moves}
@@ -39,6 +41,12 @@ Passes (Refused r) = ⊥
 Passes Stays = Unit {0}
 Passes (Becomes l) = Unit {0}
 Passes (Ends outcome settled code) = Unit {0}
+
+-- P29: an end of every kind puts its line into the book
+pub every-kind : (k : Kind) → booked k ≡ true
+every-kind Sale = refl
+every-kind Refund = refl
+every-kind Reversal = refl
 
 -- ---- an opening finds its lane idle and makes it wait for what it asks
 abbrev Opened : Lane → Opening → Line → Moved → Type 0

@@ -20,11 +20,12 @@ use Rattle.desk_rules.specs.Desk.{fresh, laneAt, Accepted, run}
 use Rattle.desk_rules.specs.Runs.{callsOf, total, openings}
 use Rattle.desk_rules.specs.Payments.{paymentsOf, flattened, oneByOne}
 use Rattle.desk_rules.specs.believed.Due.{Ended, not-taken, aborted, cut, approved, amount-untold, differs, other-code, no-status, Open, LineDue, LaneIs, idle, busy}
+use Rattle.desk_rules.proofs.Calls.{every-kind}
 use Rattle.desk_rules.proofs.Lanes.{total-append, opened-one, not-opened, places-total}
 use Rattle.desk_rules.proofs.Runs.{count}
 use Rattle.desk_rules.proofs.Due.{lane-local, due-same, lane-same}
 use Rattle.desk_rules.proofs.Payment.{phase-busy}
-use Rattle.desk_rules.proofs.Kept.{every-kind, Blocks, kept}
+use Rattle.desk_rules.proofs.Kept.{Blocks, kept}
 
 -- ---- line j is due for payment j
 

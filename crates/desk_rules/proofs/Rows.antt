@@ -25,7 +25,6 @@ use Rattle.zvt_rules.specs.Heard.{firstByte, toldIn}
 use Rattle.basics.proofs.Lists.{in-none, in-first, among-exactly}
 use Rattle.basics.proofs.Tests.{by-test, true-false, pick-test, pick-alike, pick-under, leb-test, eqb-test, and-test, or-test, between, no-for, never}
 use Rattle.desk_rules.specs.declared.Kind.{Kind}
-use Rattle.desk_rules.specs.declared.Kind.the-variants.{Sale, Refund, Reversal}
 use Rattle.desk_rules.specs.declared.Phase.{Phase}
 use Rattle.desk_rules.specs.declared.Phase.the-variants.{Idle, Waiting, Running}
 use Rattle.desk_rules.specs.declared.Lane.{Lane}
@@ -46,7 +45,7 @@ use Rattle.desk_rules.specs.believed.Table.{Given, gives, givesAt, refus
 use Rattle.desk_rules.proofs.Commands.{command-size}
 use Rattle.desk_rules.proofs.NamedSale.{named-is, named-there}
 use Rattle.desk_rules.proofs.Heard.{completed-cases}
-use Rattle.desk_rules.proofs.Calls.{plain-read}
+use Rattle.desk_rules.proofs.Calls.{every-kind, plain-read}
 
 -- ---- rows, one by one
 
@@ -122,15 +121,10 @@ within-test (sale amount) = between amount mostAsked
 within-test (refund password amount) = and-test (leb-test password mostPassword) (between amount mostAsked)
 within-test (reversal password receipt) = and-test (leb-test password mostPassword) (between receipt mostReceipt)
 
-pub every-kind-booked : (k : Kind) → booked k ≡ true
-every-kind-booked Sale = refl
-every-kind-booked Refund = refl
-every-kind-booked Reversal = refl
-
 place-open : (p : Phase) (k : Kind) → pick (isIdle p) 0 (pick (booked k) 1 0) ≡ openIn p
 place-open Idle k = refl
-place-open Waiting k = rw (every-kind-booked k)
-place-open Running k = rw (every-kind-booked k)
+place-open Waiting k = rw (every-kind k)
+place-open Running k = rw (every-kind k)
 
 -- P3: "An open payment takes the place of the line that it will write."
 pub places-open : (ls : List Lane) → linesTaken ls ≡ openPayments ls
@@ -140,7 +134,7 @@ places-open (l ∷ ls) = rw (place-open (l .phase) (l .kind), places-open ls)
 
 full-test : (s : State) (o : Opening) → (booked (kindOf o) && leb bookLines (load s) ≡ true) ↔ (64 ≤ length (s .lines) + openPayments (s .lanes))
 unfolding load
-full-test s o = rw (every-kind-booked (kindOf o), places-open (s .lanes)) (leb-test _ _)
+full-test s o = rw (every-kind (kindOf o), places-open (s .lanes)) (leb-test _ _)
 
 room-test : (o : Opening) (room : ℕ) → (ltb room (commandSize o) ≡ true) ↔ (room < needs o)
 room-test (sale amount) room = ltb-test _ _

@@ -3,7 +3,7 @@
 -- ended payments one after another in the order in which they ended, then the calls of each payment still open, lane by lane.
 -- Payments opened = book lines + open payments; net turnover = approved sales less approved reversals and refunds, judged from the
 -- terminals' messages by the rules and not from stored sums." A day is any list of calls that the desk accepted. Assumes nothing.
-use mathlib.Core.Path.{_≡_, refl}
+use mathlib.Core.Path.{_≡_}
 use mathlib.Core.Bool.{true}
 use mathlib.Core.Logic.{_↔_}
 use mathlib.Core.List.{List, []}
@@ -11,7 +11,6 @@ use Prim.Native.Nat.{ℕ, _+_, _<_}
 use lib.IntN.{pos, _-ℤ_}
 use lib.ListN.{length, getD, take}
 use Rattle.desk_rules.specs.declared.Opening.{Opening}
-use Rattle.desk_rules.specs.declared.Opening.the-variants.{Sale, Refund, Reversal}
 use Rattle.desk_rules.specs.declared.Lane.{Lane}
 use Rattle.desk_rules.specs.declared.Line.{Line}
 use Rattle.desk_rules.specs.Kinds.{booked}
@@ -96,6 +95,4 @@ module _ (day : List DeskTurn) (b : OfBytes (callsIn day)) (t : Taken freshDesk 
 
 -- A payment of every kind takes a place in the book, and so ends with a line.
 pub every-kind-booked : (o : Opening) → booked (kindOf o) ≡ true
-every-kind-booked (Sale amount) = refl
-every-kind-booked (Refund password amount) = refl
-every-kind-booked (Reversal password receipt) = refl
+every-kind-booked o = every-kind (kindOf o)

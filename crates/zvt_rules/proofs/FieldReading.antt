@@ -1,6 +1,7 @@
 -- What the reading of fields, lists and headers gives step by step, with no bound on the steps. Assumes nothing.
 use mathlib.Core.Path.{_≡_, refl, sym, _∙_}
 use mathlib.Core.Bool.{Bool, true, false, not}
+use mathlib.Core.Logic.{_↔_, _⊎_}
 use mathlib.Core.List.{List, [], _∷_}
 use Prim.Native.Nat.{ℕ, zero, suc, _+_, _-_, _*_, _^_, _<_, _≤_}
 use native.Mathlib.Numerals.{add-one}
@@ -20,11 +21,14 @@ use Rattle.zvt_rules.specs.Fields.{formatOf, unknown, lengthDigit, digit
 use Rattle.zvt_rules.specs.Message.{BodyLength, lengthOf, Heading, headerSize, end, headerWith, headerOf}
 use Rattle.zvt_rules.specs.believed.Grammar.{Decimals}
 use Rattle.zvt_rules.proofs.Readings.{got-same, got-not-refused, unless-got, unless-on, then-got, then-alike}
-use Rattle.basics.proofs.Tests.{pick-test, leb-test, and-test, never}
+use Rattle.basics.proofs.Tests.{pick-test, leb-test, leb-fails, and-test, nand-test, never}
 
 -- ---- length digits, from the i-th on
-pub digit-in : (b : ℕ) → lengthDigit b ≡ true → (0xF0 ≤ b) × (b ≤ 0xF9)
-digit-in b e = and-test (leb-test 0xF0 b) (leb-test b 0xF9) .0 e
+pub digit-test : (b : ℕ) → (lengthDigit b ≡ true) ↔ ((0xF0 ≤ b) × (b ≤ 0xF9))
+digit-test b = and-test (leb-test 0xF0 b) (leb-test b 0xF9)
+
+pub digit-fails : (b : ℕ) → (lengthDigit b ≡ false) ↔ ((b < 0xF0) ⊎ (0xF9 < b))
+digit-fails b = nand-test (leb-fails 0xF0 b) (leb-fails b 0xF9)
 
 digits-first : (d v at : ℕ) (s : List ℕ) (i : ℕ) → i < d → i < length s
     → digitsOf (d - i) v (at + i) (drop i s)
@@ -74,7 +78,7 @@ digits-in zero v at s w e = let k = got-same e in (omega arith, omega arith)
 digits-in (suc d) v at s w e =
     let l = digits-last d v at s w e in
     let h = digits-in d v at s (l .0) (l .1) in
-    let t = digit-in (getD s d 0) (l .3) in
+    let t = digit-test (getD s d 0) .0 (l .3) in
     (omega arith, rw (pow-succ' 10 d) (omega (arith, h .1, l .4, t)))
 
 -- ---- bytes of decimal digits, from the i-th on

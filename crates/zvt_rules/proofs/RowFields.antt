@@ -21,24 +21,18 @@ use Rattle.basics.specs.believed.Lists.{Bytes}
 use Rattle.zvt_rules.specs.believed.Grammar.{FormOk, Decimals, SizeOk, FieldOk}
 use Rattle.zvt_rules.specs.believed.Digits.{Number, Says}
 use Rattle.zvt_rules.specs.believed.Rows.{Cut, RunNo, New, Undecimal, ListNo, noField, twice, short, noDigit, undecimal, sizedIn, inside, behind}
-use Rattle.basics.proofs.Tests.{by-test, pick-true, leb-test, leb-fails, and-test, nand-test, fails, never}
+use Rattle.basics.proofs.Tests.{by-test, pick-true, leb-fails, nand-test, fails, never}
 use Rattle.zvt_rules.proofs.Readings.{unless-on, then-on, then-stop}
 use Rattle.zvt_rules.proofs.ObjectReading.{part-length}
 use Rattle.zvt_rules.proofs.Lengths.{lenBytes-size, len-sound, len-written}
 use Rattle.zvt_rules.proofs.ObjectBytes.{bytes-drop, bytes-part}
-use Rattle.zvt_rules.proofs.FieldReading.{digits-in, value-in, field-in, field-got, list-none, list-step}
+use Rattle.zvt_rules.proofs.FieldReading.{digit-test, digit-fails, digits-in, value-in, field-in, field-got, list-none, list-step}
 use Rattle.zvt_rules.proofs.FieldBytes.{digitBytes-size, digits-written, digits-sound, cut, value-back, back-within, back, field-by, six, container-id, begins, field-sound, field-complete}
 use Rattle.basics.proofs.Lists.{among-exactly}
 use Rattle.zvt_rules.proofs.RowReadings.{Told, is, not, told-unless, moved, placed, told-pick, told-then, told-as, filled}
 use Rattle.zvt_rules.proofs.RowObjects.{SizedRead, sized-read, len-told, value-short, run-refused, run-told}
 
 -- ---- the tests of single bytes and ids, as the rows say them
-digit-test : (b : ℕ) → (lengthDigit b ≡ true) ↔ ((0xF0 ≤ b) × (b ≤ 0xF9))
-digit-test b = and-test (leb-test 0xF0 b) (leb-test b 0xF9)
-
-digit-fails : (b : ℕ) → (lengthDigit b ≡ false) ↔ ((b < 0xF0) ⊎ (0xF9 < b))
-digit-fails b = nand-test (leb-fails 0xF0 b) (leb-fails b 0xF9)
-
 decimal-fails : (b : ℕ) → (decimal b ≡ false) ↔ Undecimal b
 decimal-fails b = nand-test (leb-fails (b / 16) 9) (leb-fails (b % 16) 9)
 

@@ -72,23 +72,23 @@ returns-3 c =
 moved-requires : tie.Need-moved-requires
 unfolding laneOf moves
 moved-requires c κs =
-    let e = c .before .before .before .before in
-    let h = e .before .before .before in
+    let room = c .before .before .before .before in
+    let h = room .before .before .before in
     let k = known h in
     let a = k .before .args in
     let v = k .before .pre in
-    let t = taken-line (a .t1) (message (a .lane) (a .s .now)) _ v (accepts e) in
+    let t = taken-line (a .t1) (message (a .lane) (a .s .now)) _ v (accepts room) in
     (record { lane = low h; lanes = v .lanes; lines = v .lines }, rw (h .heard .ensures) t)
 
 returns-4 : tie.Need-returns-4
 unfolding laneOf moves writes NumbersFit
 returns-4 c =
-    let e = c .before .before .before .before .before in
-    let r = e .before in
+    let room = c .before .before .before .before .before in
+    let r = room .before in
     let h = r .before .before in
     let k = known h in
     let a = k .before .args in
-    taken-as (a .t1) (k .before .pre) (message (a .lane) (a .s .now)) (bytes k) (a .out .now) (record { reply = Written (r .reply-size .result); desk = c .moved .result }) _ (accepts e)
+    taken-as (a .t1) (k .before .pre) (message (a .lane) (a .s .now)) (bytes k) (a .out .now) (record { reply = Written (r .reply-size .result); desk = c .moved .result }) _ (accepts room)
     (written (r .reply-size .ensures) (c .moved .ensures ∙ ap (movedDesk (a .t1) (a .lane)) (h .heard .ensures)))
     (c .before .before .before .put-reply .ensures ∙ rw (r .reply-size .ensures) (replied-is _ (a .out .now)))
 

@@ -25,15 +25,17 @@ loop-holds c = omega arith
 
 add-n : tie.Need-add-n Inv-loop μ-loop
 add-n c =
-    let d = c .before .before .before .before .args .t1 in
-    let i = c .before .before .before .loop .i in
+    let turn = c .before .before .before in
+    let d = turn .before .args .t1 in
+    let i = turn .loop .i in
     let e : c .line-taken .result ≡ lineTaken (laneAt (d .lanes) i) = c .line-taken .ensures in
     omega (arith, place-most (laneAt (d .lanes) i), places-most i (d .lanes))
 
 loop-again : tie.Need-loop-again Inv-loop μ-loop
 loop-again c =
-    let d = c .before .before .before .before .args .t1 in
-    let i = c .before .before .before .loop .i in
+    let turn = c .before .before .before in
+    let d = turn .before .args .t1 in
+    let i = turn .loop .i in
     let e : c .line-taken .result ≡ lineTaken (laneAt (d .lanes) i) = c .line-taken .ensures in
     omega (arith, places-take (d .lanes) i (omega arith))
 
