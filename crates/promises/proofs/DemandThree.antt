@@ -23,6 +23,7 @@ use Rattle.desk_rules.specs.Payments.{Payments, paymentsOf, oneByOne}
 use Rattle.desk_rules.specs.Turnover.{netOf}
 use Rattle.desk_rules.specs.believed.Due.{LineDue, LaneIs, Takings}
 use Rattle.desk_rules.specs.believed.Grouping.{Grouping}
+use Rattle.desk_rules.proofs.Calls.{every-kind}
 use Rattle.desk_rules.proofs.Runs as runs
 use Rattle.desk_rules.proofs.DayBook as book
 use Rattle.desk_rules.proofs.Order as law

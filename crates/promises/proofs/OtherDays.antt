@@ -16,7 +16,7 @@ use Rattle.desk_rules.specs.Desk.{State, fresh, laneAt, step, Accepted, run}
 use Rattle.desk_rules.specs.Memory.{freshDesk, view, Valid}
 use Rattle.desk_rules.specs.Runs.{having, callsOf, Own, ownOf}
 use Rattle.desk_rules.specs.Payments.{oneByOne}
-use Rattle.desk_rules.proofs.Lanes.{after, by-lane, accepts-room, lanes-step}
+use Rattle.desk_rules.proofs.Lanes.{after, by-lane, told, accepts-room, lanes-step}
 use Rattle.desk_rules.proofs.Runs.{repliesTo}
 use Rattle.desk_rules.proofs.Memory.{taken, follows, fresh-valid, answer-valid, view-fresh}
 use Rattle.desk_rules.proofs.Order.{order, same-calls}

@@ -212,7 +212,7 @@ module _ {us : List TapeTurn} {e : Day} {cs : List Call} {p : List ℕ} (played 
           a-reply = c .lacks;
           place = rw front-is (joined-exactly (c .whole) (joined (c .whole)) .1 (refl, each-front Small (c .whole) _ (rw records-so at small-records)));
           inside = (c .within, size-most);
-          piecesOf = c .next;
+          cut = c .next;
           ending = refl;
         }
 

@@ -162,7 +162,7 @@ agree (messages i s t w b d r q) =
 module _ (c e : Call) (a : Agree c e) where
   bytes-agree : (s : State) → callBytes s c ≡ callBytes s e
   unfolding callBytes
-  bytes-agree s = rw (a .lane, a .entries (laneAt (s .lanes) (laneOf e)))
+  bytes-agree s = rw (a .lane, a .records (laneAt (s .lanes) (laneOf e)))
 
   module _ (t : Taped) where
     decide-taped-agree : (out room : ℕ) → decideTaped t c out room ≡ decideTaped t e out room

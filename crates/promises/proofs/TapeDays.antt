@@ -117,8 +117,8 @@ module _ {e : Day} {cs : List Call} {p : List ℕ} (k : Known e cs p) where
         λ d. rw (sym (same rs .0 d) ∙ same (its .0) .0 (its .1)) (its .2),
       )
 
-  pub records-are : (rs : List Record) → Joined rs p → recordsOfRun fresh cs ≡ rs
-  records-are rs j = records-exactly fresh cs (k .accepted) (k .fit) rs .0 (records-are rs .0 j)
+  pub run-records : (rs : List Record) → Joined rs p → recordsOfRun fresh cs ≡ rs
+  run-records rs j = records-exactly fresh cs (k .accepted) (k .fit) rs .0 (records-are rs .0 j)
 
   pub file-reads : (room : ℕ) → length p ≤ room → readTape (e .file) room ≡ got p
   file-reads room h = read-tape-drawn (e .file) p room .1 ((length (piecesOf p), k .drawn), h)
