@@ -1,7 +1,7 @@
 -- The first demand's first sentence: "Every call ends and stays within its memory, for all bytes and all numbers, with nothing left
 -- for the caller to test beforehand." Assumes nothing. A row for each public function, in the order of `OneAnswer`: a call of it ends,
--- reads and writes only what it was lent, and answers as its contract states; and it asks nothing of its caller, but those over a desk
--- that the desk, with its tape where it has one, is one that these functions gave out.
+-- reads and writes only what it was lent, and answers as its contract states; and it asks nothing of its caller. Only those over a desk
+-- ask that the desk, with its tape where it has one, is one that these functions gave out.
 use mathlib.Core.Path.{refl}
 use Rattle.zvt_rules.proofs as zvt_rules
 use Rattle.desk_rules.proofs as desk_rules
