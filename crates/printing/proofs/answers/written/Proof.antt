@@ -1,0 +1,15 @@
+-- `printing::answers::written`. Assumes nothing.
+use borrow.Author.Needs.{needs}
+use Rattle.printing.proofs.answers.written.Statement.{statement}
+use Rattle.printing.proofs.answers.written.Tie as tie
+
+returns : tie.Need-returns
+returns c = ?
+
+returns-2 : tie.Need-returns-2
+returns-2 c = ?
+
+pub written-spec : {M : Type 1} → statement M
+written-spec =
+    tie.close
+    (tie.spec (λ c. search needs) (λ c κs. search needs) (λ c. search needs) returns (λ c. search needs) (λ c κs. search needs) (λ c κs. search needs) (λ c κs. search needs) (λ c. search needs) returns-2)

@@ -1,0 +1,15 @@
+-- `printing::desks::add_code`. Assumes nothing.
+use borrow.Author.Needs.{needs}
+use Rattle.printing.proofs.desks.add_code.Statement.{statement}
+use Rattle.printing.proofs.desks.add_code.Tie as tie
+
+returns : tie.Need-returns
+returns c = ?
+
+returns-2 : tie.Need-returns-2
+returns-2 c = ?
+
+pub add-code-spec : {M : Type 1} → statement M
+add-code-spec =
+    tie.close
+    (tie.spec (λ c. search needs) (λ c κs. search needs) (λ c. search needs) (λ c κs. search needs) (λ c. search needs) returns (λ c. search needs) returns-2)

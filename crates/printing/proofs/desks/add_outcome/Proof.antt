@@ -1,0 +1,18 @@
+-- `printing::desks::add_outcome`. Assumes nothing.
+use borrow.Author.Needs.{needs}
+use Rattle.printing.proofs.desks.add_outcome.Statement.{statement}
+use Rattle.printing.proofs.desks.add_outcome.Tie as tie
+
+returns : tie.Need-returns
+returns c = ?
+
+returns-2 : tie.Need-returns-2
+returns-2 c = ?
+
+returns-3 : tie.Need-returns-3
+returns-3 c = ?
+
+pub add-outcome-spec : {M : Type 1} → statement M
+add-outcome-spec =
+    tie.close
+    (tie.spec (λ c. search needs) (λ c. search needs) (λ c κs. search needs) (λ c. search needs) (λ c. search needs) (λ c κs. search needs) (λ c. search needs) (λ c. search needs) (λ c κs. search needs) (λ c. search needs) returns (λ c. search needs) returns-2 (λ c. search needs) returns-3)

@@ -1,0 +1,12 @@
+-- `printing::desks::shown`. Assumes nothing.
+use borrow.Author.Needs.{needs}
+use Rattle.printing.proofs.desks.shown.Statement.{statement}
+use Rattle.printing.proofs.desks.shown.Tie as tie
+
+returns-2 : tie.Need-returns-2
+returns-2 c = ?
+
+pub shown-spec : {M : Type 1} → statement M
+shown-spec =
+    tie.close
+    (tie.spec (λ c. search needs) (λ c. search needs) (λ c. search needs) returns-2 (λ c. search needs))
