@@ -9,10 +9,10 @@ use borrow.Author.Tests.{lt-ltb, le-ltb}
 use lib.ListN.{length, drop, set, getD, length-set, drop-of-length-le}
 use lib.Seq.{drop-cons}
 use lib.Dec.{ltb}
-use Rattle.zvt_rules.proofs.Tests.{pick-test}
+use Rattle.basics.proofs.Tests.{pick-test}
 use Rattle.io.specs.Digits.{digits, glyph, Fewest}
-use Rattle.zvt_rules.specs.Text.{Text, text, addOne, addAll, hexText, hexes, bytesText, decimalText}
-use Rattle.zvt_rules.proofs.Text.{decimal-one, decimal-more}
+use Rattle.basics.specs.Text.{Text, text, addOne, addAll, hexText, hexes, bytesText, decimalText}
+use Rattle.basics.proofs.Text.{decimal-one, decimal-more}
 
 pub add-full : (b at : ℕ) (out : List ℕ) → length out ≤ at → text at out ≡ addAll (b ∷ []) (text at out)
 unfolding addAll addOne

@@ -5,7 +5,7 @@ ghost use Prim.Native.Nat.{_<_, min};
 ghost use mathlib.Core.List.{[], _∷_};
 ghost use lib.ListN.{length, replicate};
 ghost use Rattle.io.specs.Counts.{Counts};
-ghost use Rattle.zvt_rules.specs.Text.{text, addAll, hexDigit, hexText, hexes, bytesText, hexValue, decimalText};
+ghost use Rattle.basics.specs.Text.{text, addAll, hexDigit, hexText, hexes, bytesText, hexValue, decimalText};
 
 // Every byte becomes that value.
 pub fn fill(out: &mut [u8], value: u8)

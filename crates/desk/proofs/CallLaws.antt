@@ -13,7 +13,7 @@ use denote.Enum.Declared.{tagOf}
 use types.Run.{OneOf}
 use Rattle.zvt_rules.specs.declared.Refusal.{Refusal}
 use Rattle.zvt_rules.specs.Reading.{unplaced}
-use Rattle.zvt_rules.specs.Buffers.{front}
+use Rattle.basics.specs.Buffers.{front}
 use Rattle.desk_rules.specs.declared.Outcome.{Outcome}
 use Rattle.desk_rules.specs.declared.Outcome.the-variants.{Unclear}
 use Rattle.desk_rules.specs.declared.Lane.{Lane}

@@ -10,7 +10,7 @@ use lib.IntN.{pos, negsuc, _-ℤ_}
 use mir.Syntax.{w64}
 use mir.Val.{SFits, toZ}
 use borrow.Author.Tests.{ltb-true, lt-ltb}
-use Rattle.zvt_rules.specs.Buffers.{front}
+use Rattle.basics.specs.Buffers.{front}
 use Rattle.desk_rules.specs.declared.Phase.{Phase}
 use Rattle.desk_rules.specs.declared.Phase.the-variants.{Idle, Waiting, Running}
 use Rattle.desk_rules.specs.Course.{answered}

@@ -10,14 +10,17 @@ use lib.Dec.{eqb}
 use types.Run.{OneOf}
 use denote.Enum.Declared.{tagOf}
 use borrow.Author.Tests.{eq-eqb, eqb-true, eqb-false, ne-eqb}
+use Rattle.basics.proofs.Tests.{never}
 use Rattle.zvt_rules.specs.declared.ToldReceipt.{ToldReceipt}
 use Rattle.zvt_rules.specs.declared.Refusal.{Refusal}
 use Rattle.zvt_rules.specs.declared.Status.{Status}
 use Rattle.zvt_rules.specs.declared.ToldCode.the-variants.{Code}
-use Rattle.zvt_rules.specs.Reading.{Reading, got, refused, pick, among}
+use Rattle.basics.specs.Choice.{pick}
+use Rattle.basics.specs.Lists.{among}
+use Rattle.zvt_rules.specs.Reading.{Reading, got, refused}
 use Rattle.zvt_rules.specs.Message.{Heading, headerSize, start, wholeHeader, Message, readOf}
 use Rattle.zvt_rules.specs.believed.Writing.{messageBytes}
-use Rattle.zvt_rules.specs.believed.Grammar.{Bytes}
+use Rattle.basics.specs.believed.Lists.{Bytes}
 use Rattle.zvt_rules.proofs.MessageBytes.{read-sound}
 use Rattle.zvt_rules.specs.declared.ToldBody.{ToldBody}
 use Rattle.zvt_rules.specs.declared.ToldAnswer.{ToldAnswer}
@@ -167,7 +170,7 @@ unfolding hearAnswer asHearAnswer afterHeader
 unheard hears s r e = go (wholeHeader s) e
   where
     go : (x : Reading Heading) → asHearAnswer (readOf s) x ≡ header-refused r → afterHeader hears x ≡ Refused r
-    go (got g) f = absurd (let z : _≡_ {A = ℕ} 0 1 = cc in omega arith)
+    go (got g) f = never cc
     go (refused f) g = cc
 
 hears-header : (s : List ℕ) (h : Heard) → hearAnswer s ≡ header-heard h → (g : Heading) × (wholeHeader s ≡ got g) × (heardAs g s ≡ h)
@@ -176,7 +179,7 @@ hears-header s h e = go (wholeHeader s) refl e
   where
     go : (x : Reading Heading) → wholeHeader s ≡ x → asHearAnswer (readOf s) x ≡ header-heard h → (g : Heading) × (wholeHeader s ≡ got g) × (heardAs g s ≡ h)
     go (got g) f a = (g, f, cc)
-    go (refused r) f a = absurd (let z : _≡_ {A = ℕ} 0 1 = cc in omega arith)
+    go (refused r) f a = never cc
 
 module _ (l : Lane) (s : List ℕ) (o : isIdle (l .phase) ≡ false) where
   pub heard-refused : (r : Refusal) → hearAnswer s ≡ header-refused r → heard l s ≡ Refused r

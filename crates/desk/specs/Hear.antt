@@ -3,8 +3,9 @@ use Prim.Native.Nat.{ℕ, _+_, _*_}
 use mathlib.Core.Bool.{false}
 use mathlib.Core.List.{List}
 use lib.Dec.{eqb}
-use Rattle.zvt_rules.specs.Reading.{pick, among}
-use Rattle.zvt_rules.specs.Buffers.{front}
+use Rattle.basics.specs.Choice.{pick}
+use Rattle.basics.specs.Lists.{among}
+use Rattle.basics.specs.Buffers.{front}
 use Rattle.zvt_rules.specs.Message.{Heading}
 use Rattle.zvt_rules.specs.declared.Status.{Status}
 use Rattle.zvt_rules.specs.declared.ToldBody.{ToldBody}

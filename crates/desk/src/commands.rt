@@ -4,7 +4,7 @@ use desk_rules::Opening;
 ghost use mathlib.Core.Path.{_≡_};
 ghost use Prim.Native.Nat.{_≤_};
 ghost use lib.ListN.{length};
-ghost use Rattle.zvt_rules.specs.Buffers.{front};
+ghost use Rattle.basics.specs.Buffers.{front};
 ghost use Rattle.desk_rules.specs.Openings.{commandBytes, mostCommand, supposed, same};
 
 // 06 01: amount, currency.

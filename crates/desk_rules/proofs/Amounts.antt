@@ -5,8 +5,9 @@ use Prim.Native.Nat.{ℕ, _+_, _*_, _≤_}
 use native.Mathlib.Omega.{arith}
 use lib.ListN.{getD}
 use lib.Dec.{eqb}
-use Rattle.zvt_rules.specs.Reading.{Reading, got, refused, among}
-use Rattle.zvt_rules.specs.believed.Grammar.{Bytes}
+use Rattle.basics.specs.Lists.{among}
+use Rattle.zvt_rules.specs.Reading.{Reading, got, refused}
+use Rattle.basics.specs.believed.Lists.{Bytes}
 use Rattle.zvt_rules.specs.Message.{Heading, Message, readOf}
 use Rattle.zvt_rules.specs.Values.{Found, missing, found, valueIn, amountOf, amountIn, statusIn, bodyFields, statusFields}
 use Rattle.zvt_rules.specs.declared.Status.{Status}
@@ -15,7 +16,7 @@ use Rattle.zvt_rules.specs.declared.ToldCode.the-variants.{Missing as no-code, 
 use Rattle.zvt_rules.specs.declared.ToldAmount.the-variants.{Amount}
 use Rattle.zvt_rules.specs.Heard.{firstOf, toldIn}
 use Rattle.zvt_rules.proofs.Told.{Twelve, told-twelve}
-use Rattle.zvt_rules.proofs.Tests.{pick-test}
+use Rattle.basics.proofs.Tests.{pick-test}
 use Rattle.desk_rules.specs.declared.Lane.{Lane}
 use Rattle.desk_rules.specs.declared.Line.{Line}
 use Rattle.desk_rules.specs.declared.Moved.{Moved}

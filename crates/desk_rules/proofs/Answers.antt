@@ -11,17 +11,18 @@ use lib.Seq.{length-take-le, split-at, getD-at, getD-set-same, getD-set-other, e
 use lib.Dec.{eqb, ltb}
 use borrow.Author.Tests.{eqb-true, eq-eqb, ne-eqb, ltb-true, ltb-false, lt-ltb, le-ltb}
 use Rattle.zvt_rules.specs.declared.Refusal.{Refusal}
-use Rattle.zvt_rules.specs.Reading.{Reading, got, refused, unplaced, pick, among}
+use Rattle.basics.specs.Choice.{pick}
+use Rattle.basics.specs.Lists.{among}
+use Rattle.zvt_rules.specs.Reading.{Reading, got, refused, unplaced}
 use Rattle.zvt_rules.specs.Fields.{Field}
 use Rattle.zvt_rules.specs.Message.{Heading, headerSize, wholeHeader, Message, readOf, messageOf, bodyOf, layoutOf, start}
 use Rattle.zvt_rules.specs.Values.{Found, missing, found, valueIn, bodyFields, codeOf, codeIn, statusIn, statusFields}
 use Rattle.zvt_rules.specs.believed.Writing.{messageBytes}
-use Rattle.zvt_rules.specs.believed.Grammar.{Bytes}
-use Rattle.zvt_rules.specs.believed.Values.{In}
+use Rattle.basics.specs.believed.Lists.{Bytes, In}
 use Rattle.zvt_rules.specs.Heard.{toldIn}
-use Rattle.zvt_rules.proofs.Lists.{in-none, in-first}
+use Rattle.basics.proofs.Lists.{in-none, in-first}
 use Rattle.zvt_rules.proofs.Readings.{got-same, then-got, then-on}
-use Rattle.zvt_rules.proofs.Tests.{true-false, pick-test, case, eqb-test}
+use Rattle.basics.proofs.Tests.{true-false, pick-test, case, eqb-test}
 use Rattle.zvt_rules.proofs.MessageBytes.{read-sound}
 use Rattle.desk_rules.specs.declared.Outcome.the-variants.{Unclear, Declined}
 use Rattle.desk_rules.specs.declared.Phase.{Phase}

@@ -6,7 +6,8 @@ use Prim.Native.Nat.{ℕ, _-_, _+_, _*_, _≤_, _<_}
 use native.Mathlib.Omega.{arith}
 use lib.Dec.{eqb}
 use borrow.Author.Tests.{eqb-true, ne-eqb}
-use Rattle.zvt_rules.specs.Reading.{Reading, got, refused, andThen, part, among}
+use Rattle.basics.specs.Lists.{part, among}
+use Rattle.zvt_rules.specs.Reading.{Reading, got, refused, andThen}
 use Rattle.zvt_rules.specs.Message.{Heading, headerSize, wholeHeader, bytes, Message, readOf, messageOf, bodyOf, layoutOf, start, end}
 use Rattle.zvt_rules.specs.Values.{isStatus, statusOf, statusIn, statusFields, codeIn, codeOf, valueIn}
 use Rattle.zvt_rules.specs.declared.Refusal.{Refusal}
@@ -15,7 +16,7 @@ use Rattle.zvt_rules.specs.declared.ToldCode.{ToldCode}
 use Rattle.zvt_rules.specs.declared.ToldCode.the-variants.{Missing as no-code, Code}
 use Rattle.zvt_rules.specs.Heard.{firstOf, toldIn}
 use Rattle.zvt_rules.proofs.Readings.{then-on, then-got, got-same}
-use Rattle.zvt_rules.proofs.Tests.{pick-test}
+use Rattle.basics.proofs.Tests.{pick-test, never}
 use Rattle.desk_rules.specs.declared.Outcome.the-variants.{Declined}
 use Rattle.desk_rules.specs.declared.Phase.{Phase}
 use Rattle.desk_rules.specs.declared.Phase.the-variants.{Running}
@@ -83,8 +84,8 @@ both a b x y = go (eqb a x) refl (eqb b y) refl
   where
     go : (p : Bool) → eqb a x ≡ p → (q : Bool) → eqb b y ≡ q → p && q ≡ true → (a ≡ x) × (b ≡ y)
     go true e true f h = (eqb-true a x e, eqb-true b y f)
-    go true e false f h = let z : _≡_ {A = ℕ} 0 1 = cc in absurd (omega arith)
-    go false e q f h = let z : _≡_ {A = ℕ} 0 1 = cc in absurd (omega arith)
+    go true e false f h = never cc
+    go false e q f h = never cc
 
 -- a number above all of a list is not among them
 abbrev Under : List ℕ → ℕ → Type 0
@@ -211,7 +212,7 @@ not-idle e n = rw e n
 
 pub later : (l : Lane) (ls : List Line) (c : Call) → opens c ≡ false → Passes (moves l ls c) → (isIdle (l .phase) ≡ false) × Later l c (moves l ls c)
 unfolding opens moves lostBy verdict Goes
-later l ls (opening i o) e = let z : _≡_ {A = ℕ} 0 1 = cc in absurd (omega arith)
+later l ls (opening i o) e = never cc
 later l ls (message i s) e =
     heard-cases (λ m. Passes m → (isIdle (l .phase) ≡ false) × Later l (message i s) m) l s (λ r h. absurd h)
     (λ x w p h. (not-idle p refl, waiting l i s x w h))
@@ -291,7 +292,7 @@ module _ (l : Lane) (s : List ℕ) where
       not-84 : among runningPairs (h .class * 256 + h .instruction) ≡ true → h .class ≡ 0x84 → ⊥
       not-84 t c =
           let u = above runningPairs (h .class * 256 + h .instruction) (omega arith) in
-          let z : _≡_ {A = ℕ} 0 1 = cc in omega arith
+          never cc
 
       go : (r : Reading Message) → readOf s ≡ r
           → among runningPairs (h .class * 256 + h .instruction) ≡ true → Right (afterBody l r)

@@ -9,15 +9,17 @@ use lib.ListN.{length}
 use lib.Dec.{ltb}
 use borrow.Author.Tests.{leb-true, ltb-true, lt-ltb}
 use Rattle.zvt_rules.specs.declared.Format.the-variants.{Fixed}
-use Rattle.zvt_rules.specs.Reading.{got, among}
+use Rattle.basics.specs.Lists.{among}
+use Rattle.zvt_rules.specs.Reading.{got}
 use Rattle.zvt_rules.specs.Fields.{plain, decimal, formatOf, fieldId, countField, countFields}
 use Rattle.zvt_rules.specs.Message.{Message, layoutOf, readOf}
 use Rattle.zvt_rules.specs.believed.Writing.{fieldBytes, lengthIn, listBytes, bodyBytes, lengthBytes, messageBytes}
-use Rattle.zvt_rules.specs.believed.Grammar.{Bytes, Decimals, SizeOk, FieldOk, ListOk, FieldsOk, LayoutOk, LengthOk, MessageOk}
+use Rattle.basics.specs.believed.Lists.{Bytes}
+use Rattle.zvt_rules.specs.believed.Grammar.{Decimals, SizeOk, FieldOk, ListOk, FieldsOk, LayoutOk, LengthOk, MessageOk}
 use Rattle.zvt_rules.specs.Digits.{digitBytesOf, decimalFrom, numberOf}
 use Rattle.zvt_rules.proofs.DigitLaws.{digits-size, digits-decimal, number-same}
 use Rattle.zvt_rules.proofs.MessageBytes.{read-sound, read-complete}
-use Rattle.zvt_rules.proofs.Tests.{leb-test, and-test, between}
+use Rattle.basics.proofs.Tests.{leb-test, and-test, between}
 use Rattle.desk_rules.specs.declared.Opening.{Opening}
 use Rattle.desk_rules.specs.declared.Opening.the-variants.{Sale as sale, Refund as refund, Reversal as reversal}
 use Rattle.desk_rules.specs.declared.Phase.{Phase}

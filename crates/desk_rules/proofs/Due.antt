@@ -19,7 +19,7 @@ use Rattle.zvt_rules.specs.declared.ToldCode.the-variants.{Missing as no-code, 
 use Rattle.zvt_rules.specs.declared.ToldAmount.the-variants.{Missing as no-amount, Amount}
 use Rattle.zvt_rules.specs.declared.ToldReceipt.the-variants.{Missing as no-receipt, Receipt}
 use Rattle.zvt_rules.specs.Heard.{firstOf}
-use Rattle.zvt_rules.proofs.Tests.{pick-test, case, eqb-test, either}
+use Rattle.basics.proofs.Tests.{pick-test, case, eqb-test, either, never}
 use Rattle.desk_rules.specs.declared.Kind.{Kind}
 use Rattle.desk_rules.specs.declared.Kind.the-variants.{Sale, Refund, Reversal}
 use Rattle.desk_rules.specs.declared.Outcome.{Outcome}
@@ -83,8 +83,8 @@ pub receipt-there : (fs : List Field) (named : ℕ) (k : Kind) → ReceiptIs fs 
 receipt-there fs named k = let r = some k in subst (ReceiptIs fs named k) (sym (receipt-is (r .1))) (r .1)
   where
     some : (k : Kind) → (r : ℕ) × ReceiptIs fs named k r
-    some Sale = let t = tell fs 0x87 numberOf 0 in (t .0, of-another {kind = Sale} (λ e. absurd (let z : _≡_ {A = ℕ} 0 1 = cc e in omega arith)) (t .1))
-    some Refund = let t = tell fs 0x87 numberOf 0 in (t .0, of-another {kind = Refund} (λ e. absurd (let z : _≡_ {A = ℕ} 0 1 = cc e in omega arith)) (t .1))
+    some Sale = let t = tell fs 0x87 numberOf 0 in (t .0, of-another {kind = Sale} (λ e. never (cc e)) (t .1))
+    some Refund = let t = tell fs 0x87 numberOf 0 in (t .0, of-another {kind = Refund} (λ e. never (cc e)) (t .1))
     some Reversal = (named, of-reversal)
 
 pub status-is : {fs : List Field} {st : Status} → StatusIs fs st → statusIn fs ≡ st
@@ -166,7 +166,7 @@ silent : (s : List ℕ) → ((st : Status) → remembered st s ≡ st) → Repor
 silent s same r =
     let e : Code (getD (r .code) 0 0) ≡ noStatus .code =
     sym (code-is (bodyFields (r .body)) _ (r .code, r .coded, refl)) ∙ ap (λ (t : Status). t .code) (sym (heeded noStatus s r) ∙ same noStatus) in
-    let z : _≡_ {A = ℕ} 0 1 = cc in omega arith
+    never cc
 
 passed-over : (s : List ℕ) → (Report s → ⊥) → (st : Status) → remembered st s ≡ st
 passed-over s n = ⊎-elim (λ r. absurd (n r)) (λ f. f) (heard s)

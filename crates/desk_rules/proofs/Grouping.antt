@@ -8,8 +8,8 @@ use lib.Dec.{eqb}
 use lib.ListN.{length, getD, set, replicate, length-set}
 use lib.Seq.{append-snoc, ext-getD}
 use borrow.Author.Tests.{eqb-true, eqb-false, eq-eqb, ne-eqb}
-use Rattle.zvt_rules.specs.Reading.{pick}
-use Rattle.zvt_rules.proofs.Tests.{pick-test, pick-same, no-for, true-false}
+use Rattle.basics.specs.Choice.{pick}
+use Rattle.basics.proofs.Tests.{pick-test, pick-same, no-for, true-false}
 use Rattle.desk_rules.specs.Numbers.{laneCount}
 use Rattle.desk_rules.specs.Course.{Call, opening, message, lost, laneOf}
 use Rattle.desk_rules.specs.Desk.{State, fresh, step, Accepted}

@@ -12,7 +12,7 @@ use Rattle.zvt_rules.specs.declared.ToldAmount.{ToldAmount}
 use Rattle.zvt_rules.specs.declared.ToldAmount.the-variants.{Missing as no-amount, Amount}
 use Rattle.zvt_rules.specs.Reading.{Reading, got, refused}
 use Rattle.zvt_rules.specs.Message.{Heading, wholeHeader}
-use Rattle.zvt_rules.proofs.Tests.{pick-test}
+use Rattle.basics.proofs.Tests.{pick-test}
 use Rattle.desk_rules.specs.declared.Outcome.the-variants.{Unclear, Approved}
 use Rattle.desk_rules.specs.declared.Phase.{Phase}
 use Rattle.desk_rules.specs.declared.Phase.the-variants.{Idle, Waiting, Running}

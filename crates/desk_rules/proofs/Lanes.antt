@@ -9,8 +9,8 @@ use lib.ListN.{length, getD, set, length-append, length-set}
 use lib.Seq.{getD-set-same, getD-set-other}
 use borrow.Author.Tests.{eqb-true, eqb-false, eq-eqb, ne-eqb, leb-false, lt-leb, le-ltb}
 use Rattle.zvt_rules.specs.declared.Refusal.{Refusal}
-use Rattle.zvt_rules.specs.Reading.{pick}
-use Rattle.zvt_rules.proofs.Tests.{pick-same, pick-under}
+use Rattle.basics.specs.Choice.{pick}
+use Rattle.basics.proofs.Tests.{pick-same, pick-under, never}
 use Rattle.desk_rules.specs.declared.Lane.{Lane}
 use Rattle.desk_rules.specs.declared.Line.{Line}
 use Rattle.desk_rules.specs.declared.Moved.{Moved}
@@ -126,12 +126,12 @@ pub record Told (s : State) (c : Call) : Type 0 where
   pub room : needsPlace c ≡ true → load s < bookLines
 
 pub not-refused : (t : Bool) (n : Refusal) (d : Decision) → pick t (refuse n) d ≡ accept → (t ≡ false) × (d ≡ accept)
-not-refused true n d e = let z : _≡_ {A = ℕ} 0 1 = cc in absurd (omega arith)
+not-refused true n d e = never cc
 not-refused false n d e = (refl, e)
 
 pub passed : (m : Moved) (d : Decision) → unlessRefused m d ≡ accept → Passes m × (d ≡ accept)
 unfolding unlessRefused
-passed (Refused r) d e = let z : _≡_ {A = ℕ} 0 1 = cc in absurd (omega arith)
+passed (Refused r) d e = never cc
 passed Stays d e = (tt, e)
 passed (Becomes l) d e = (tt, e)
 passed (Ends outcome settled code) d e = (tt, e)
@@ -145,7 +145,7 @@ passing (Ends outcome settled code) d h = refl
 
 room-told : (o : Bool) (n : ℕ) → o && leb bookLines n ≡ false → o ≡ true → n < bookLines
 room-told true n e f = leb-false bookLines n e
-room-told false n e f = let z : _≡_ {A = ℕ} 0 1 = cc in absurd (omega arith)
+room-told false n e f = never cc
 
 pub room-tell : (o : Bool) (n : ℕ) → (o ≡ true → n < bookLines) → o && leb bookLines n ≡ false
 room-tell true n h = lt-leb bookLines n (h refl)
@@ -196,7 +196,7 @@ opened-one c e = rw e
 -- only an opening needs a place
 pub not-opened : (c : Call) → opens c ≡ false → oneOpened c ≡ 0
 unfolding opens oneOpened needsPlace
-not-opened (opening i o) e = let z : _≡_ {A = ℕ} 0 1 = cc in absurd (omega arith)
+not-opened (opening i o) e = never cc
 not-opened (message i s) e = refl
 not-opened (lost i) e = refl
 

@@ -4,9 +4,8 @@ use mathlib.Core.Bool.{Bool, true, false, _&&_, false≢true}
 use mathlib.Core.Logic.{_↔_, _⊎_, inl, inr, ⊎-elim}
 use mathlib.Core.List.{List, [], _∷_}
 use Prim.Native.Nat.{ℕ}
-use native.Mathlib.Omega.{arith}
 use lib.Dec.{eqb}
-use Rattle.zvt_rules.proofs.Tests.{eqb-test, and-test}
+use Rattle.basics.proofs.Tests.{eqb-test, and-test, never}
 use Rattle.desk_rules.specs.declared.Kind.{Kind}
 use Rattle.desk_rules.specs.declared.Kind.the-variants.{Sale, Refund, Reversal}
 use Rattle.desk_rules.specs.declared.Outcome.{Outcome}
@@ -21,8 +20,8 @@ use Rattle.desk_rules.specs.believed.LastSale.{Concerned}
 -- ---- the lines that a reversal looks at are those of the rule
 approved : (o : Outcome) → (isApproved o ≡ true) ↔ (o ≡ Approved)
 approved Approved = (λ e. refl, λ e. refl)
-approved Declined = (λ e. absurd (false≢true e), λ e. absurd (let z : _≡_ {A = ℕ} 0 1 = cc in omega arith))
-approved Unclear = (λ e. absurd (false≢true e), λ e. absurd (let z : _≡_ {A = ℕ} 0 1 = cc in omega arith))
+approved Declined = (λ e. absurd (false≢true e), λ e. never cc)
+approved Unclear = (λ e. absurd (false≢true e), λ e. never cc)
 
 sale-or-reversal : (receipt : ℕ) (k : Kind) → (looksAt (Sold receipt) k ≡ true) ↔ ((k ≡ Sale) ⊎ (k ≡ Reversal))
 sale-or-reversal receipt Sale = (λ e. inl refl, λ e. refl)
@@ -30,7 +29,7 @@ sale-or-reversal receipt Reversal = (λ e. inr refl, λ e. refl)
 sale-or-reversal receipt Refund = (
   λ e. absurd (false≢true e),
   λ e.
-      absurd (⊎-elim (λ h. let z : _≡_ {A = ℕ} 0 1 = cc in omega arith) (λ h. let z : _≡_ {A = ℕ} 0 1 = cc in omega arith) e),
+      absurd (⊎-elim (λ h. never cc) (λ h. never cc) e),
 )
 
 pub concerned-exactly : (i receipt : ℕ) (l : Line) → (concerns i (Sold receipt) l ≡ true) ↔ Concerned i receipt l
@@ -56,5 +55,5 @@ nothing-last i ls = go blankLine ls
 
 pub is-sale : (k : Kind) → isSale k ≡ true → k ≡ Sale
 is-sale Sale e = refl
-is-sale Refund e = absurd (let z : _≡_ {A = ℕ} 0 1 = cc in omega arith)
-is-sale Reversal e = absurd (let z : _≡_ {A = ℕ} 0 1 = cc in omega arith)
+is-sale Refund e = never cc
+is-sale Reversal e = never cc

@@ -10,9 +10,9 @@ use lib.Seq.{length-take-le, set-getD, take-suc-set}
 use lib.Dec.{ltb, leb}
 use borrow.Author.Tests.{leb-false, ltb-false}
 use Rattle.zvt_rules.specs.declared.Refusal.{Refusal}
-use Rattle.zvt_rules.specs.Reading.{pick}
-use Rattle.zvt_rules.specs.Buffers.{front}
-use Rattle.zvt_rules.proofs.Tests.{pick-test}
+use Rattle.basics.specs.Choice.{pick}
+use Rattle.basics.specs.Buffers.{front}
+use Rattle.basics.proofs.Tests.{pick-test}
 use Rattle.desk_rules.specs.declared.Lane.{Lane}
 use Rattle.desk_rules.specs.declared.Line.{Line}
 use Rattle.desk_rules.specs.declared.Moved.{Moved}

@@ -4,8 +4,8 @@ use mathlib.Core.Bool.{Bool, true, false≢true, and-eq-true-iff}
 use mathlib.Core.Logic.{_⊎_, inl, inr, ⊎-elim}
 use mathlib.Core.List.{List, [], _∷_, _++_}
 use Prim.Native.Nat.{ℕ}
-use Rattle.zvt_rules.specs.Reading.{pick}
-use Rattle.zvt_rules.proofs.Tests.{case, no-for}
+use Rattle.basics.specs.Choice.{pick}
+use Rattle.basics.proofs.Tests.{case, no-for}
 use Rattle.desk_rules.specs.declared.Line.{Line}
 use Rattle.desk_rules.specs.declared.Reference.the-variants.{Sold}
 use Rattle.desk_rules.specs.Kinds.{isApproved}

@@ -6,9 +6,9 @@ use Prim.Native.Nat.{ℕ, _<_}
 use lib.Dec.{eqb}
 use lib.ListN.{length, set}
 use lib.Seq.{getD-set-same, set-set, set-getD}
-use Rattle.zvt_rules.specs.Reading.{pick}
+use Rattle.basics.specs.Choice.{pick}
 use Rattle.zvt_rules.specs.Values.{valueIn, codeOf, amountOf, receiptOf, codeIn, amountIn, receiptIn, statusIn}
-use Rattle.zvt_rules.proofs.Tests.{pick-same, true-false}
+use Rattle.basics.proofs.Tests.{pick-same, true-false}
 use Rattle.zvt_rules.specs.declared.Status.{Status}
 use Rattle.desk_rules.specs.declared.Outcome.{Outcome}
 use Rattle.desk_rules.specs.declared.Phase.{Phase}

@@ -12,16 +12,18 @@ use Rattle.zvt_rules.specs.declared.Refusal.{Refusal}
 use Rattle.zvt_rules.specs.declared.Status.{Status}
 use Rattle.zvt_rules.specs.declared.ToldCode.{ToldCode}
 use Rattle.zvt_rules.specs.declared.ToldCode.the-variants.{Missing, Code}
-use Rattle.zvt_rules.specs.Reading.{Reading, got, refused, no, unplaced, pick, part, among}
+use Rattle.basics.specs.Choice.{pick}
+use Rattle.basics.specs.Lists.{part, among}
+use Rattle.zvt_rules.specs.Reading.{Reading, got, refused, no, unplaced}
 use Rattle.zvt_rules.specs.Message.{Heading, headerSize, start, end, wholeHeader, Body, bytes, listed, Message, layoutOf, bodyOf, messageOf, readOf}
 use Rattle.zvt_rules.proofs.Readings.{got-same, got-not-refused, then-got}
 use Rattle.zvt_rules.proofs.ObjectReading.{part-length}
 use Rattle.zvt_rules.proofs.FieldReading.{header-in}
 use Rattle.zvt_rules.proofs.RowMessages.{whole-got}
-use Rattle.zvt_rules.specs.believed.Values.{In}
+use Rattle.basics.specs.believed.Lists.{In}
 use Rattle.zvt_rules.specs.Heard.{firstOf, toldIn}
-use Rattle.zvt_rules.proofs.Lists.{in-none, in-first, among-exactly}
-use Rattle.zvt_rules.proofs.Tests.{by-test, true-false, pick-test, pick-alike, pick-under, leb-test, eqb-test, and-test, or-test, between, no-for}
+use Rattle.basics.proofs.Lists.{in-none, in-first, among-exactly}
+use Rattle.basics.proofs.Tests.{by-test, true-false, pick-test, pick-alike, pick-under, leb-test, eqb-test, and-test, or-test, between, no-for, never}
 use Rattle.desk_rules.specs.declared.Kind.{Kind}
 use Rattle.desk_rules.specs.declared.Kind.the-variants.{Sale, Refund, Reversal}
 use Rattle.desk_rules.specs.declared.Phase.{Phase}
@@ -368,7 +370,7 @@ module _ (p : Phase) (l : Lane) (b : List ℕ) (room : ℕ) where
       not-6 l e = omega arith
 
       waiting-runs : Waiting ≡ Running → ⊥
-      waiting-runs e = let z : _≡_ {A = ℕ} 0 1 = cc in omega arith
+      waiting-runs e = never cc
 
   allowed-agrees : (h : Heading) → wholeHeader b ≡ got h → (q : Phase) → p ≡ q → Allowed q h → Agrees (further q) bodyRows
   unfolding further
@@ -426,7 +428,7 @@ one-row s c room d e h k = sym (table s c room d .1 h) ∙ table s c room e .1 k
 pub past : (Gives : Refusal → Type 0) (rows : List (Refusal → Type 0)) → Given (Gives ∷ rows) accept
     → ((r : Refusal) → Gives r → ⊥) × Given rows accept
 unfolding Given
-past Gives rows = ⊎-elim (λ k. let z : _≡_ {A = ℕ} 0 1 = cc (k .2) in absurd (omega arith)) (λ k. k)
+past Gives rows = ⊎-elim (λ k. never (cc (k .2))) (λ k. k)
 
 was-got : {A : Type 0} (x : Reading A) → ((r : Refusal) → refuses x r → ⊥) → (a : A) × (x ≡ got a)
 was-got (got a) h = (a, refl)

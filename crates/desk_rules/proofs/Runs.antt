@@ -6,7 +6,7 @@ use Prim.Native.Nat.{ℕ, _+_, _<_, _≤_}
 use native.Mathlib.Omega.{arith}
 use lib.ListN.{length}
 use borrow.Author.Tests.{eq-eqb}
-use Rattle.zvt_rules.specs.Reading.{pick}
+use Rattle.basics.specs.Choice.{pick}
 use Rattle.desk_rules.specs.Numbers.{laneCount, bookLines}
 use Rattle.desk_rules.specs.Lanes.{placeTaken}
 use Rattle.desk_rules.specs.Course.{Call, laneOf, needsPlace, moves, writes}

@@ -7,8 +7,8 @@ use native.Mathlib.Numerals.{add-one}
 use native.Mathlib.Omega.{arith}
 use lib.ListN.{length, getD, take, drop}
 use lib.Seq.{take-suc, drop-cons}
-use Rattle.zvt_rules.specs.Reading.{pick}
-use Rattle.zvt_rules.proofs.Tests.{pick-test}
+use Rattle.basics.specs.Choice.{pick}
+use Rattle.basics.proofs.Tests.{pick-test}
 use Rattle.desk_rules.specs.declared.Kind.{Kind}
 use Rattle.desk_rules.specs.declared.Kind.the-variants.{Sale, Refund, Reversal}
 use Rattle.desk_rules.specs.declared.Lane.{Lane}

@@ -6,7 +6,8 @@ use mathlib.Core.List.{List, [], _∷_, _++_}
 use lib.ListN.{length, getD, set, replicate}
 use lib.Dec.{ltb, leb}
 use Rattle.zvt_rules.specs.declared.Refusal.{Refusal}
-use Rattle.zvt_rules.specs.Reading.{unplaced, pick}
+use Rattle.basics.specs.Choice.{pick}
+use Rattle.zvt_rules.specs.Reading.{unplaced}
 use Rattle.desk_rules.specs.declared.Lane.{Lane}
 use Rattle.desk_rules.specs.declared.Line.{Line}
 use Rattle.desk_rules.specs.declared.Moved.{Moved}

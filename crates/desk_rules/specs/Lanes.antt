@@ -12,7 +12,7 @@ use Rattle.desk_rules.specs.declared.Outcome.the-variants.{Unclear}
 use Rattle.desk_rules.specs.declared.Phase.the-variants.{Idle, Waiting, Running}
 use Rattle.desk_rules.specs.declared.Lane.{Lane}
 use Rattle.desk_rules.specs.declared.Line.{Line}
-use Rattle.zvt_rules.specs.Reading.{pick}
+use Rattle.basics.specs.Choice.{pick}
 use Rattle.desk_rules.specs.Kinds.{booked, isIdle}
 
 -- nothing remembered

@@ -5,8 +5,9 @@ use mathlib.Core.List.{List}
 use lib.ListN.{length, getD, set, take, replicate}
 use lib.Dec.{ltb}
 use Rattle.zvt_rules.specs.declared.Refusal.{Refusal}
-use Rattle.zvt_rules.specs.Reading.{unplaced, pick}
-use Rattle.zvt_rules.specs.Buffers.{front}
+use Rattle.basics.specs.Choice.{pick}
+use Rattle.zvt_rules.specs.Reading.{unplaced}
+use Rattle.basics.specs.Buffers.{front}
 use Rattle.zvt_rules.specs.declared.ToldAmount.{ToldAmount}
 use Rattle.zvt_rules.specs.declared.ToldAmount.the-variants.{Missing as no-amount, Amount}
 use Rattle.desk_rules.specs.declared.Lane.{Lane}

@@ -3,7 +3,8 @@ use mathlib.Core.Bool.{Bool, true, false, _||_}
 use mathlib.Core.List.{List, [], _∷_, _++_}
 use lib.ListN.{getD, set, replicate}
 use lib.Dec.{eqb}
-use Rattle.zvt_rules.specs.Reading.{Reading, got, refused, pick}
+use Rattle.basics.specs.Choice.{pick}
+use Rattle.zvt_rules.specs.Reading.{Reading, got, refused}
 use Rattle.zvt_rules.specs.Message.{Message, readOf}
 use Rattle.desk_rules.specs.Numbers.{laneCount}
 use Rattle.desk_rules.specs.Course.{pairIs, Call, opening, message, lost, laneOf}

@@ -11,7 +11,7 @@ use Rattle.zvt_rules.specs.Fields.{Field, fieldId}
 use Rattle.zvt_rules.specs.Message.{headerSize, Body, bytes, listed, Message, firstOf}
 use Rattle.zvt_rules.specs.believed.Writing.{fieldBytes}
 use Rattle.zvt_rules.specs.Listed.{listedAt, listedFrom, listedBody, listedMessage, idsListed, firstIds}
-use Rattle.zvt_rules.specs.Text.{Text, addAll, hexText}
+use Rattle.basics.specs.Text.{Text, addAll, hexText}
 use Rattle.zvt_rules.specs.Listing.{idsText, bodyIds, idsOf}
 use Rattle.listing.specs.Lines.{eachText}
 use Rattle.buffers.proofs.TextLaws.{addAll-append, addAll-first}

@@ -9,17 +9,17 @@ use lib.Seq.{drop-drop, length-take-le}
 use lib.Dec.{ltb, eqb}
 use Rattle.zvt_rules.specs.Reading.{Reading, got, refused}
 use Rattle.io.specs.Counts.{Counts}
-use Rattle.zvt_rules.specs.Buffers.{front, Whole}
+use Rattle.basics.specs.Buffers.{front, Whole}
 use Rattle.zvt_rules.specs.Message.{Message, firstOf}
 use Rattle.zvt_rules.specs.believed.Writing.{messageBytes}
-use Rattle.zvt_rules.specs.believed.Grammar.{Bytes}
-use Rattle.zvt_rules.specs.Text.{Text, text, addAll}
+use Rattle.basics.specs.believed.Lists.{Bytes}
+use Rattle.basics.specs.Text.{Text, text, addAll}
 use Rattle.zvt_rules.specs.Listing.{messageText, okText, refusedText, idsOf, listing}
 use Rattle.zvt_rules.proofs.ObjectReading.{tail}
-use Rattle.zvt_rules.proofs.Tests.{by-test}
+use Rattle.basics.proofs.Tests.{by-test, never}
 use Rattle.zvt.proofs.PlaceLaws.{own-within}
 use Rattle.zvt_rules.proofs.AnswerLaws.{first-refused-exactly}
-use Rattle.zvt_rules.proofs.Text.{put-exactly, put-whole, putEnd}
+use Rattle.basics.proofs.Text.{put-exactly, put-whole, putEnd}
 use Rattle.zvt_rules.proofs.Listing.{lines-none, lines-refused, lines-message, listing-long}
 use Rattle.zvt_rules.specs.declared.Refusal.{Refusal}
 use Rattle.zvt_rules.specs.declared.Outline.{Outline}
@@ -61,7 +61,7 @@ module _ (s : List ℕ) (b : Bytes s) (m : Outline) (next : ℕ) (e : firstAnswe
       let same : outlineOf t ≡ m = cc in
       let size : length (messageBytes t) ≡ next = cc in
       (t, k, same, size)
-  whole (refused r) k h = let z : _≡_ {A = ℕ} 0 1 = cc in absurd (omega arith)
+  whole (refused r) k h = never cc
 
   pub next-within : next ≤ length s
   unfolding firstAnswer

@@ -4,10 +4,11 @@ use mathlib.Core.Path.{_≡_}
 use mathlib.Core.List.{List, [], _∷_, _++_}
 use lib.ListN.{length}
 use lib.Dec.{ltb, eqb}
-use Rattle.zvt_rules.specs.Reading.{Reading, got, refused, pick}
+use Rattle.basics.specs.Choice.{pick}
+use Rattle.zvt_rules.specs.Reading.{Reading, got, refused}
 use Rattle.zvt_rules.specs.Message.{Message, firstOf}
 use Rattle.zvt_rules.specs.believed.Writing.{messageBytes}
-use Rattle.zvt_rules.specs.Text.{text, addAll, hexText}
+use Rattle.basics.specs.Text.{text, addAll, hexText}
 use Rattle.zvt_rules.specs.Listing.{startText, sizeText, messageText, okText, refusedText, linesFrom}
 use Rattle.zvt_rules.specs.declared.Outline.{Outline}
 use Rattle.listing.specs.declared.Line.{Line}

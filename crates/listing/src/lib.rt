@@ -10,8 +10,8 @@ ghost use Prim.Native.Nat.{_*_, _≤_};
 ghost use lib.ListN.{length};
 ghost use Rattle.io.specs.Counts.{Counts};
 ghost use Rattle.zvt_rules.specs.Message.{firstOf};
-ghost use Rattle.zvt_rules.specs.Buffers.{Whole};
-ghost use Rattle.zvt_rules.specs.Text.{text, addAll};
+ghost use Rattle.basics.specs.Buffers.{Whole};
+ghost use Rattle.basics.specs.Text.{text, addAll};
 ghost use Rattle.zvt_rules.specs.Listing.{startText, sizeText, endText, okText, refusedText, idsOf, listing};
 ghost use Rattle.listing.specs.Lines.{eachText, readText, nextOf, Added};
 

@@ -10,13 +10,11 @@ use lib.Seq.{take-at, drop-at}
 use Rattle.zvt_rules.specs.declared.Refusal.{Refusal}
 use Rattle.zvt_rules.specs.declared.Header.{Header}
 use Rattle.zvt_rules.specs.declared.Outline.{Outline}
-use Rattle.zvt_rules.specs.Reading.{Reading, got, refused, unplaced}
+use Rattle.zvt_rules.specs.Reading.{Reading, got, refused, unplaced, writtenLeaves}
 use Rattle.zvt_rules.specs.Message.{Heading, wholeHeader, Message, readOf, firstOf}
 use Rattle.zvt_rules.specs.believed.Writing.{messageBytes}
-use Rattle.zvt_rules.specs.Answers.{headerIn, asHeaderAnswer, headerAnswer, outlineOf, asReadAnswer, readAnswer}
-use Rattle.zvt_rules.specs.Answers.{asFirstAnswer, firstAnswer, shortened, asShortenAnswer, shortenAnswer, shortenLeaves}
-use Rattle.zvt_rules.specs.Buffers.{writtenLeaves}
-use Rattle.zvt_rules.proofs.Tests.{pick-test}
+use Rattle.zvt_rules.specs.Answers.{headerIn, asHeaderAnswer, headerAnswer, outlineOf, asReadAnswer, readAnswer, asFirstAnswer, firstAnswer, shortened, asShortenAnswer, shortenAnswer, shortenLeaves}
+use Rattle.basics.proofs.Tests.{pick-test, never}
 use Rattle.desk_rules.specs.declared.Desk.{Desk}
 use Rattle.desk_rules.specs.declared.Answer.{Answer}
 use Rattle.desk_rules.specs.declared.Reply.the-variants.{Written}
@@ -35,7 +33,7 @@ pub yes-same : {A : Type 0} {a b : A} → _≡_ {A = Said A} (yes a) (yes b) →
 yes-same e = cc
 
 pub no-yes : {A : Type 0} {n : Refusal} {a : A} → _≡_ {A = Said A} (no n) (yes a) → ⊥
-no-yes e = let z : _≡_ {A = ℕ} 0 1 = cc in omega arith
+no-yes e = never cc
 
 pub refuse-same : {r q : Refusal} → _≡_ {A = Decision} (refuse r) (refuse q) → r ≡ q
 refuse-same e = cc

@@ -34,15 +34,16 @@ use Rattle.zvt_rules.specs.declared.ToldAmount.{ToldAmount}
 use Rattle.zvt_rules.specs.declared.ToldAmount.the-variants.{Missing as no-amount, Amount}
 use Rattle.zvt_rules.specs.declared.ToldReceipt.{ToldReceipt}
 use Rattle.zvt_rules.specs.declared.ToldReceipt.the-variants.{Missing as no-receipt, Receipt}
-use Rattle.zvt_rules.specs.Reading.{unplaced, pick}
+use Rattle.basics.specs.Choice.{pick}
+use Rattle.zvt_rules.specs.Reading.{unplaced}
 use Rattle.zvt_rules.specs.Fields.{Field, fieldId}
 use Rattle.zvt_rules.specs.Message.{readOf}
 use Rattle.zvt_rules.specs.Answers.{headerAnswer, readAnswer}
 use Rattle.zvt_rules.specs.Listed.{firstIds}
 use Rattle.zvt_rules.specs.Heard.{toldAnswer, hearAnswer}
-use Rattle.zvt_rules.specs.believed.Grammar.{Bytes}
+use Rattle.basics.specs.believed.Lists.{Bytes}
 use Rattle.zvt_rules.specs.believed.Found.{Stands}
-use Rattle.zvt_rules.proofs.Tests.{by-test}
+use Rattle.basics.proofs.Tests.{by-test, never}
 use Rattle.zvt_rules.proofs.Found.{first-id-exactly}
 use Rattle.zvt_rules.proofs.HeardLaws.{heardBy, header-heard, body-refused-exactly}
 use Rattle.desk_rules.specs.declared.Lane.{Lane}
@@ -51,8 +52,7 @@ use Rattle.desk_rules.specs.declared.Desk.{Desk}
 use Rattle.desk_rules.specs.Numbers.{laneCount}
 use Rattle.desk_rules.specs.Lanes.{blankLine, idleLane}
 use Rattle.desk_rules.specs.Memory.{Valid, linesOfDesk, lineAnswer, laneAnswer}
-use Rattle.promises.specs.Answers.{Said, no, yes, headerSays, readSays, firstSays, shortSays, heardSays, toldSays, fieldSays}
-use Rattle.promises.specs.Answers.{codeSays, amountSays, receiptSays, lineSays, laneSays, At}
+use Rattle.promises.specs.Answers.{Said, no, yes, headerSays, readSays, firstSays, shortSays, heardSays, toldSays, fieldSays, codeSays, amountSays, receiptSays, lineSays, laneSays, At}
 use Rattle.promises.proofs.Answers.{no-same, yes-same, no-yes}
 
 -- ---- the case of an answer, by what it says
@@ -74,7 +74,7 @@ short-is (short-refused r) k = (λ e. absurd (no-yes e), ap shortSays)
 
 -- there is none, or it is this one
 none-some : {A : Type 0} {a : A} → _≡_ {A = Said (Option A)} (yes none) (yes (some a)) → ⊥
-none-some e = let z : _≡_ {A = ℕ} 0 1 = cc in omega arith
+none-some e = never cc
 
 some-same : {A : Type 0} {a b : A} → _≡_ {A = Said (Option A)} (yes (some a)) (yes (some b)) → a ≡ b
 some-same e = cc

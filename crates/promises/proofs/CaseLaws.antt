@@ -1,27 +1,21 @@
 -- The cases that are marked to be proved, all of one table, by one computation. Assumes nothing.
 use mathlib.Core.Path.{_≡_, refl}
-use Rattle.zvt_rules.specs.Reading.{unless, andThen, among}
-use Rattle.zvt_rules.specs.Objects.{secondTag, tagSize, formSize, oneByteLen, twoByteLen, lenOf, headWith, headOf, runBy, oneBy, runOf}
-use Rattle.zvt_rules.specs.Objects.{countObj, countObjs}
-use Rattle.zvt_rules.specs.Fields.{formatOf, unknown, digitsOf, unlessUndecimal, digitsIn, fieldId, countField, countFields, valueOf}
-use Rattle.zvt_rules.specs.Fields.{plainOf, containerOf, fieldBy, fieldOf, listBy, listOf}
+use Rattle.basics.specs.Lists.{among}
+use Rattle.zvt_rules.specs.Reading.{unless, andThen, writtenLeaves}
+use Rattle.zvt_rules.specs.Objects.{secondTag, tagSize, formSize, oneByteLen, twoByteLen, lenOf, headWith, headOf, runBy, oneBy, runOf, countObj, countObjs}
+use Rattle.zvt_rules.specs.Fields.{formatOf, unknown, digitsOf, unlessUndecimal, digitsIn, fieldId, countField, countFields, valueOf, plainOf, containerOf, fieldBy, fieldOf, listBy, listOf}
 use Rattle.zvt_rules.specs.Message.{longLength, lengthOf, headerWith, headerOf, layoutOf, bodyOf, messageOf, wholeHeader, readOf, countBody, countOf}
-use Rattle.zvt_rules.specs.believed.Writing.{lenBytes, sized, objBytes, runBytes, lengthIn, fieldBytes, listBytes, bodyBytes, lengthBytes, messageBytes, fieldValue}
-use Rattle.zvt_rules.specs.believed.Writing.{digitBytes}
-use Rattle.zvt_rules.specs.Shortest.{formFor, isShortest, shortObj, shortRun, shortField, shortList, shortBody, shortMessage}
-use Rattle.zvt_rules.specs.Shortest.{isShortObj, isShortRun, isShortField, isShortList, isShortBody, isShort, write, shorten}
+use Rattle.zvt_rules.specs.believed.Writing.{lenBytes, sized, objBytes, runBytes, lengthIn, fieldBytes, listBytes, bodyBytes, lengthBytes, messageBytes, fieldValue, digitBytes}
+use Rattle.zvt_rules.specs.Shortest.{formFor, isShortest, shortObj, shortRun, shortField, shortList, shortBody, shortMessage, isShortObj, isShortRun, isShortField, isShortList, isShortBody, isShort, write, shorten}
 use Rattle.zvt_rules.specs.Digits.{digitBytesOf, decimalFrom, numberOf}
 use Rattle.zvt_rules.specs.Values.{valueIn, codeOf, amountOf, receiptOf, codeIn, amountIn, receiptIn, statusIn, statusFields, bodyFields}
 use Rattle.zvt_rules.specs.Heard.{firstOf, toldIn}
 use Rattle.zvt_rules.specs.Answers.{outlineOf, asReadAnswer, readAnswer, shortened, asShortenAnswer, shortenAnswer, shortenLeaves}
-use Rattle.zvt_rules.specs.Buffers.{writtenLeaves}
 use Rattle.zvt_rules.specs.Listed.{listedAt, listedFrom, listedBody, listedMessage, namedListed, askedOf}
 use Rattle.zvt_rules.specs.Name.{upToZero, sizedName, nameIn, nameOf, nameAt, nameBytes, cardName}
 use Rattle.desk_rules.specs.Lanes.{receiptBy, lineAt, placeTaken}
 use Rattle.desk_rules.specs.Openings.{concerns, lastFrom, lastLine, commandOf, commandBytes}
-use Rattle.desk_rules.specs.Course.{heardWaiting, settledAs, completedBy, abortedBy, reportedBy, movedBy, afterBody, heardRunning}
-use Rattle.desk_rules.specs.Course.{heardBy, afterHeader, heard, openedBy}
-use Rattle.desk_rules.specs.Course.{laneOf, needsPlace, moves, answered, writes}
+use Rattle.desk_rules.specs.Course.{heardWaiting, settledAs, completedBy, abortedBy, reportedBy, movedBy, afterBody, heardRunning, heardBy, afterHeader, heard, openedBy, laneOf, needsPlace, moves, answered, writes}
 use Rattle.desk_rules.specs.Desk.{placesTaken, load, unlessRefused, decide}
 use Rattle.desk_rules.specs.Memory.{view, endedDesk, movedDesk, refusedAnswer, answerBy, answerOf, leavesBy, leavesOf}
 use Rattle.desk_rules.specs.Runs.{total}

@@ -13,7 +13,7 @@ use Rattle.zvt_rules.specs.Reading.{unplaced}
 use Rattle.zvt_rules.specs.Answers.{headerAnswer, readAnswer, firstAnswer, shortenAnswer, shortenLeaves}
 use Rattle.zvt_rules.specs.Listed.{fieldAnswer}
 use Rattle.zvt_rules.specs.Heard.{hearAnswer}
-use Rattle.zvt_rules.specs.believed.Grammar.{Bytes}
+use Rattle.basics.specs.believed.Lists.{Bytes}
 use Rattle.zvt_rules.specs.believed.Rows.{WholeNo, ReadNo, FirstNo, ShortNo}
 use Rattle.zvt_rules.proofs.RowMessages as rows
 use Rattle.desk_rules.specs.declared.Desk.{Desk}
@@ -25,10 +25,8 @@ use Rattle.desk_rules.specs.believed.Table.{Row}
 use Rattle.desk_rules.specs.Memory.{freshDesk, linesOfDesk, view, Valid, answerOf, leavesOf, closeAnswer, lineAnswer, laneAnswer}
 use Rattle.desk_rules.proofs.Rows.{table}
 use Rattle.desk_rules.proofs.Memory as memory
-use Rattle.promises.specs.Answers.{no, yes, Takes, headerSays, readSays, firstSays, shortSays, heardSays, toldSays, fieldSays}
-use Rattle.promises.specs.Answers.{answerSays, lineSays, laneSays, At, Open}
-use Rattle.promises.proofs.Answers.{header-says, read-says, first-says, short-says, short-leaves, short-beyond}
-use Rattle.promises.proofs.Answers.{decided-no, decided-yes, call-same, call-beyond, closing-no, closing-yes, closing-same}
+use Rattle.promises.specs.Answers.{no, yes, Takes, headerSays, readSays, firstSays, shortSays, heardSays, toldSays, fieldSays, answerSays, lineSays, laneSays, At, Open}
+use Rattle.promises.proofs.Answers.{header-says, read-says, first-says, short-says, short-leaves, short-beyond, decided-no, decided-yes, call-same, call-beyond, closing-no, closing-yes, closing-same}
 use Rattle.promises.proofs.TheFields.{refused-as-read}
 use Rattle.promises.proofs.Asked.{heard-no, heard-yes, told-no, lane-no, lane-yes, line-some, line-none}
 

@@ -9,10 +9,10 @@ use mathlib.Core.List.{List, [], _∷_, _++_}
 use Prim.Native.Nat.{ℕ, _<_, _≤_}
 use native.Mathlib.Omega.{arith}
 use lib.ListN.{length, take}
-use Rattle.zvt_rules.specs.Reading.{got, unless, andThen, among}
+use Rattle.basics.specs.Lists.{among}
+use Rattle.zvt_rules.specs.Reading.{got, unless, andThen}
 use Rattle.zvt_rules.specs.Fields.{Field, fieldId}
-use Rattle.zvt_rules.specs.Message.{bytes, Message, lengthOf, headerWith, headerOf, layoutOf, bodyOf, messageOf}
-use Rattle.zvt_rules.specs.Message.{wholeHeader, readOf, firstOf, countOf}
+use Rattle.zvt_rules.specs.Message.{bytes, Message, lengthOf, headerWith, headerOf, layoutOf, bodyOf, messageOf, wholeHeader, readOf, firstOf, countOf}
 use Rattle.zvt_rules.specs.Shortest.{shortMessage, isShort, write, shorten}
 use Rattle.zvt_rules.specs.Values.{statusOf}
 use Rattle.zvt_rules.specs.declared.Refusal.{Refusal}
@@ -26,7 +26,8 @@ use Rattle.zvt_rules.specs.Answers.{headerAnswer, outlineOf, readAnswer, firstA
 use Rattle.zvt_rules.specs.Heard.{toldAnswer, hearAnswer}
 use Rattle.zvt_rules.specs.Name.{own, between, nameAt, cardName, namePlace}
 use Rattle.zvt_rules.specs.believed.Writing.{messageBytes, fieldValue}
-use Rattle.zvt_rules.specs.believed.Grammar.{Bytes, MessageOk}
+use Rattle.basics.specs.believed.Lists.{Bytes}
+use Rattle.zvt_rules.specs.believed.Grammar.{MessageOk}
 use Rattle.zvt_rules.specs.believed.Shortest.{SameValues, Shortens}
 use Rattle.zvt_rules.specs.believed.Answers.{Framed, inBody, Reported, FirstReported, Over}
 use Rattle.zvt_rules.specs.believed.Values.{Is, Tells, TellsNumber}
@@ -50,12 +51,10 @@ use Rattle.desk_rules.specs.believed.Table.{Commands}
 use Rattle.desk_rules.specs.Memory.{view, laneFor, answerOf, leavesOf}
 use Rattle.desk_rules.proofs.Rows.{table}
 use Rattle.desk_rules.proofs.Commands as commands
-use Rattle.promises.specs.Answers.{no, yes, headerSays, readSays, firstSays, shortSays, heardSays, toldSays}
-use Rattle.promises.specs.Answers.{codeSays, amountSays, receiptSays, answerSays, Placed}
+use Rattle.promises.specs.Answers.{no, yes, headerSays, readSays, firstSays, shortSays, heardSays, toldSays, codeSays, amountSays, receiptSays, answerSays, Placed}
 use Rattle.promises.proofs.Answers.{header-says, header-gives, read-says, read-gives, first-says, short-says, decided-no, call-wrote, call-size}
 use Rattle.promises.proofs.Placing.{header-nowhere, body-rows, body-names, first-placed, short-placed, call-placed}
-use Rattle.promises.proofs.Asked.{header-is, read-is, first-is, short-is}
-use Rattle.promises.proofs.Asked.{code-is, amount-is, receipt-is, heard-yes, told-is}
+use Rattle.promises.proofs.Asked.{header-is, read-is, first-is, short-is, code-is, amount-is, receipt-is, heard-yes, told-is}
 
 -- ---- "read .. as PA00P015 13.11 lays them out"
 

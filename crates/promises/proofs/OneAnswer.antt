@@ -13,7 +13,7 @@ use Rattle.tape.proofs as tape
 use Rattle.replaying.proofs as replaying
 use Rattle.listing.proofs as listing
 use Rattle.buffers.proofs as buffers
-use Rattle.zvt_rules.specs.Text.{Text}
+use Rattle.basics.specs.Text.{Text}
 use Rattle.promises.specs.OneAnswer.{Only, itself, placed, nothing, contents}
 
 only : {A E X Y : Type 0} {answer : A → X} {lent : E → Y} {states : A → E → Type 0} (x : X) (y : Y)

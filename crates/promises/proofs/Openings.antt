@@ -7,8 +7,8 @@ use Prim.Native.Nat.{ℕ, suc, _<_}
 use native.Mathlib.Omega.{arith}
 use lib.ListN.{length, getD}
 use lib.Dec.{eqb}
-use Rattle.zvt_rules.specs.Reading.{pick}
-use Rattle.zvt_rules.proofs.Tests.{pick-under}
+use Rattle.basics.specs.Choice.{pick}
+use Rattle.basics.proofs.Tests.{pick-under}
 use Rattle.desk_rules.specs.Course.{Call, laneOf, opens}
 use Rattle.desk_rules.specs.Desk.{fresh, Accepted}
 use Rattle.desk_rules.specs.Runs.{having, callsOf}

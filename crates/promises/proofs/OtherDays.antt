@@ -7,8 +7,8 @@ use native.Mathlib.Omega.{arith}
 use lib.ListN.{length}
 use lib.Dec.{eqb}
 use borrow.Author.Tests.{lt-leb, le-ltb, eq-eqb, eqb-true}
-use Rattle.zvt_rules.specs.Reading.{pick}
-use Rattle.zvt_rules.proofs.Tests.{pick-test, pick-under}
+use Rattle.basics.specs.Choice.{pick}
+use Rattle.basics.proofs.Tests.{pick-test, pick-under, never}
 use Rattle.desk_rules.specs.declared.Desk.{Desk}
 use Rattle.desk_rules.specs.Numbers.{laneCount}
 use Rattle.desk_rules.specs.Course.{Call, laneOf, needsPlace, moves, writes}
@@ -151,12 +151,12 @@ dealt hand (c ∷ cs) = next c (hand (laneOf c)) ∷ dealt (leftBy (laneOf c) ha
 none : (ts : List DeskTurn) → callsIn ts ≡ [] → [] ≡ ts
 unfolding callsIn
 none [] e = refl
-none (t ∷ ts) e = absurd (let z : _≡_ {A = ℕ} 0 1 = cc in omega arith)
+none (t ∷ ts) e = never cc
 
 some : (c : Call) (ts : List DeskTurn) (cs : List Call) → callsIn ts ≡ c ∷ cs
     → (next c ts .call ≡ c) × (next c ts ∷ rest ts ≡ ts) × (callsIn (rest ts) ≡ cs)
 unfolding callsIn
-some c [] cs e = absurd (let z : _≡_ {A = ℕ} 0 1 = cc in omega arith)
+some c [] cs e = never cc
 some c (t ∷ ts) cs e = let q : t .call ≡ c = cc in let r : callsIn ts ≡ cs = cc in (q, refl, r)
 
 -- where each lane's turns are those of its calls, all of them are dealt, to the calls in that order

@@ -4,12 +4,13 @@ use mathlib.Core.Logic.{_↔_, _⊎_, inl, inr, ⊎-elim}
 use mathlib.Core.List.{List, [], _∷_, _++_}
 use Prim.Native.Nat.{ℕ}
 use native.Mathlib.Omega.{arith}
+use Rattle.basics.proofs.Tests.{never}
 use Rattle.zvt_rules.specs.declared.Refusal.{Refusal}
 use Rattle.zvt_rules.specs.declared.Place.the-variants.{Nowhere}
 use Rattle.zvt_rules.specs.Reading.{got, refused}
 use Rattle.zvt_rules.specs.Message.{Heading, wholeHeader, readOf, firstOf}
 use Rattle.zvt_rules.specs.Answers.{shortened}
-use Rattle.zvt_rules.specs.believed.Grammar.{Bytes}
+use Rattle.basics.specs.believed.Lists.{Bytes}
 use Rattle.zvt_rules.specs.believed.Rows.{FramedNo, ShortNo, unread, tight}
 use Rattle.zvt_rules.specs.believed.Faults.{Names, behind}
 use Rattle.zvt_rules.proofs.Readings.{got-not-refused}
@@ -64,7 +65,7 @@ module _ (P : Refusal → Type 0) (r : Refusal) where
 
   none-given : Given [] (refuse r) → P r
   unfolding Given
-  none-given e = absurd (let z : _≡_ {A = ℕ} 0 1 = cc in omega arith)
+  none-given e = never cc
 
 -- a row whose number names no place
 bare : {P : Type 0} (number : ℕ) (q : Refusal) → gives number P q → q .place ≡ Nowhere

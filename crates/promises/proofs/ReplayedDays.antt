@@ -10,8 +10,8 @@ use lib.Seq.{take-append-seam}
 use lib.Dec.{eqb}
 use borrow.Author.Tests.{eqb-true, eqb-false}
 use Rattle.zvt_rules.specs.declared.Refusal.{Refusal}
-use Rattle.zvt_rules.specs.believed.Grammar.{Bytes}
-use Rattle.zvt_rules.proofs.Tests.{by-test}
+use Rattle.basics.specs.believed.Lists.{Bytes}
+use Rattle.basics.proofs.Tests.{by-test, never}
 use Rattle.desk_rules.specs.declared.Desk.{Desk}
 use Rattle.desk_rules.specs.declared.Line.{Line}
 use Rattle.desk_rules.specs.declared.Answer.{Answer}
@@ -293,7 +293,7 @@ module _ (s : List ℕ) (b : Bytes s) where
   known-opening o = Iff·trans (to (openingIn s), λ e. ap openingSays e) (opens-exactly o s b)
     where
       to : (x : OpeningAnswer) → openingSays x ≡ yes (some o) → x ≡ opened o
-      to no-opening e = absurd (let z : _≡_ {A = ℕ} 0 1 = cc in omega arith)
+      to no-opening e = never cc
       to (opened q) e = cc
 
   pub its-bytes : (o : Opening) → Opens o s → s ≡ commandBytes o
@@ -304,4 +304,4 @@ module _ (s : List ℕ) (b : Bytes s) where
     where
       to : (x : OpeningAnswer) → openingSays x ≡ yes none → x ≡ no-opening
       to no-opening e = refl
-      to (opened q) e = absurd (let z : _≡_ {A = ℕ} 0 1 = cc in omega arith)
+      to (opened q) e = never cc

@@ -4,10 +4,9 @@ use mathlib.Core.Logic.{inl, inr, ⊎-elim}
 use mathlib.Core.List.{List, [], _∷_, map}
 use Prim.Native.Nat.{ℕ, zero, suc}
 use lib.ListN.{getD}
-use Rattle.zvt_rules.specs.believed.Grammar.{Bytes}
-use Rattle.zvt_rules.specs.believed.Values.{In}
+use Rattle.basics.specs.believed.Lists.{Bytes, In}
 use Rattle.zvt_rules.specs.declared.Status.{Status}
-use Rattle.zvt_rules.proofs.Lists.{in-none, in-first, in-more, in-left, in-right, Each, in-each}
+use Rattle.basics.proofs.Lists.{in-none, in-first, in-more, in-left, in-right, Each, in-each}
 use Rattle.zvt_rules.proofs.StatusLaws as status
 use Rattle.desk_rules.specs.declared.Line.{Line}
 use Rattle.desk_rules.specs.Course.{Call, message, NumbersFit}

@@ -8,9 +8,8 @@ use lib.ListN.{length, take, drop}
 use lib.Dec.{ltb}
 use Rattle.zvt_rules.specs.declared.Refusal.{Refusal}
 use Rattle.zvt_rules.specs.declared.Place.the-variants.{Nowhere}
-use Rattle.zvt_rules.specs.Reading.{Reading, got, refused, unplaced}
-use Rattle.zvt_rules.specs.Buffers.{writtenLeaves}
-use Rattle.zvt_rules.proofs.Tests.{pick-test}
+use Rattle.zvt_rules.specs.Reading.{Reading, got, refused, unplaced, writtenLeaves}
+use Rattle.basics.proofs.Tests.{pick-test}
 use Rattle.desk_rules.specs.declared.Reply.{Reply}
 use Rattle.desk_rules.specs.declared.Reply.the-variants.{Written, Refused}
 use Rattle.desk_rules.specs.declared.Answer.{Answer}
@@ -34,15 +33,13 @@ use Rattle.tape_rules.specs.Block.{mostNumber}
 use Rattle.tape_rules.specs.Tape.{blocksFor}
 use Rattle.tape_rules.specs.Good.{goodOf, heldAnswer}
 use Rattle.tape_rules.specs.Tails.{Tidy, changedPieces, changedBlocks, decideKeep}
-use Rattle.tape_rules.specs.Recording.{freshTaped, ValidTaped, blockAnswer, writtenAnswer, recordsOf, thenKeep, decideTaped, tapedAnswer, tapedOut, tapedRoom}
-use Rattle.tape_rules.specs.Recording.{heldBytes, closeTaped}
+use Rattle.tape_rules.specs.Recording.{freshTaped, ValidTaped, blockAnswer, writtenAnswer, recordsOf, thenKeep, decideTaped, tapedAnswer, tapedOut, tapedRoom, heldBytes, closeTaped}
 use Rattle.tape_rules.specs.believed.Tapes.{GoodBlocks}
 use Rattle.tape_rules.proofs.GoodLaws.{good-exactly}
 use Rattle.tape_rules.proofs.Taping.{taped-taken, taped-refused, taped-accepted, ten-blocks, tape-enough, closed, close-kept}
 use Rattle.promises.specs.Answers.{no, yes, replySays, answerSays, tapedSays, blockSays, Open}
 use Rattle.promises.specs.TapeDays.{ClosedRow, still-open, all-ended}
-use Rattle.promises.proofs.Answers.{no-same, yes-same, no-yes, refuse-same, said, said-no, said-yes}
-use Rattle.promises.proofs.Answers.{left-same, left-first, left-beyond, closing-no, closing-yes}
+use Rattle.promises.proofs.Answers.{no-same, yes-same, no-yes, refuse-same, said, said-no, said-yes, left-same, left-first, left-beyond, closing-no, closing-yes}
 
 -- ---- what is written into a buffer
 written-said : (x : Reading (List ℕ)) → replySays (writtenAnswer x) ≡ said length x

@@ -11,7 +11,7 @@ use lib.Dec.{ltb}
 use borrow.Author.Tests.{ltb-true, ltb-false}
 use Rattle.zvt_rules.specs.Reading.{got}
 use Rattle.zvt_rules.proofs.Readings.{got-same}
-use Rattle.zvt_rules.proofs.Tests.{by-test}
+use Rattle.basics.proofs.Tests.{by-test}
 use Rattle.desk_rules.specs.declared.Desk.{Desk}
 use Rattle.desk_rules.specs.declared.Reply.{Reply}
 use Rattle.desk_rules.specs.declared.Reply.the-variants.{Written}
@@ -28,8 +28,7 @@ use Rattle.tape_rules.specs.Recording.{freshTaped, ValidTaped, readTape}
 use Rattle.tape_rules.specs.Taping.{TapeTurn, Day, freshDay, decideTurn, afterTurn, tapedRun, keptIf, keptCalls}
 use Rattle.tape_rules.specs.believed.Blocks.{usedOf}
 use Rattle.tape_rules.specs.believed.Tapes.{blockAt, DrawnTape}
-use Rattle.tape_rules.specs.believed.Recorded.{Joined, and-then, CallRecords, of-opening, unanswered, answered-by, of-lost, DayRecords, EndsBehind}
-use Rattle.tape_rules.specs.believed.Recorded.{TapedRow, own, no-number, no-space, taken}
+use Rattle.tape_rules.specs.believed.Recorded.{Joined, and-then, CallRecords, of-opening, unanswered, answered-by, of-lost, DayRecords, EndsBehind, TapedRow, own, no-number, no-space, taken}
 use Rattle.tape_rules.specs.believed.Filed.{Filed, Played, over, refused-one, accepted-one}
 use Rattle.tape_rules.proofs.Masks.{Each}
 use Rattle.tape_rules.proofs.RecordLaws.{joined-once, records-exactly, payload-exactly}

@@ -9,7 +9,7 @@ use lib.ListN.{length, getD, length-append}
 use Rattle.zvt_rules.specs.declared.Refusal.{Refusal}
 use Rattle.zvt_rules.specs.declared.Outline.{Outline}
 use Rattle.zvt_rules.specs.declared.Span.{Span}
-use Rattle.zvt_rules.specs.Reading.{part}
+use Rattle.basics.specs.Lists.{part}
 use Rattle.zvt_rules.specs.Objects.{Form, Objs}
 use Rattle.zvt_rules.specs.Fields.{Field, plain, container, fieldId}
 use Rattle.zvt_rules.specs.Message.{headerSize, bytes, listed, Message}
@@ -17,10 +17,10 @@ use Rattle.zvt_rules.specs.Answers.{outlineOf, readAnswer}
 use Rattle.zvt_rules.specs.Listed.{fieldAnswer, handedBytes, handedPlace, firstIds, nowhere, spanOf, placesAnswer}
 use Rattle.zvt_rules.specs.Values.{bodyFields}
 use Rattle.zvt_rules.specs.believed.Writing.{runBytes, fieldValue}
-use Rattle.zvt_rules.specs.believed.Grammar.{Bytes}
+use Rattle.basics.specs.believed.Lists.{Bytes}
 use Rattle.zvt_rules.specs.believed.Values.{Is, Tells}
 use Rattle.zvt_rules.specs.believed.Found.{Stands, Follows, StandsBy, Lacks, Handed}
-use Rattle.zvt_rules.proofs.Lists.{in-none}
+use Rattle.basics.proofs.Lists.{in-none}
 use Rattle.zvt_rules.proofs.MessageBytes.{message-size}
 use Rattle.zvt_rules.proofs.Found as found
 use Rattle.zvt_rules.proofs.HeardLaws as heard

@@ -6,7 +6,7 @@ use Prim.Native.Nat.{ℕ, _*_, _≤_}
 use lib.ListN.{length, take}
 use lib.Seq.{take-append-seam}
 use denote.Ref.{now}
-use Rattle.zvt_rules.specs.believed.Grammar.{Bytes}
+use Rattle.basics.specs.believed.Lists.{Bytes}
 use Rattle.zvt_rules.specs.Listing.{listing}
 use Rattle.zvt_rules.specs.believed.Listing.{Listing}
 use Rattle.zvt_rules.proofs.Listing as rules

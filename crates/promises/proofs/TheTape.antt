@@ -11,13 +11,12 @@ use lib.ListN.{length, getD, take, drop, set, length-take, length-drop, drop-of-
 use lib.Seq.{ext-getD}
 use Rattle.zvt_rules.specs.declared.Refusal.{Refusal}
 use Rattle.zvt_rules.specs.declared.Place.the-variants.{Nowhere}
-use Rattle.zvt_rules.specs.Reading.{Reading, got, unplaced}
+use Rattle.zvt_rules.specs.Reading.{Reading, got, unplaced, writtenLeaves}
 use Rattle.zvt_rules.specs.Message.{Message, readOf}
-use Rattle.zvt_rules.specs.believed.Grammar.{Bytes}
+use Rattle.basics.specs.believed.Lists.{Bytes}
 use Rattle.zvt_rules.specs.Values.{statusOf}
 use Rattle.zvt_rules.specs.Answers.{readAnswer}
 use Rattle.zvt_rules.specs.Listed.{listedMessage, fieldAnswer, idsListed}
-use Rattle.zvt_rules.specs.Buffers.{writtenLeaves}
 use Rattle.zvt_rules.proofs.Readings.{then-stop}
 use Rattle.zvt_rules.proofs.MessageBytes.{read-sound}
 use Rattle.desk_rules.specs.declared.Phase.the-variants.{Idle}
@@ -34,8 +33,7 @@ use Rattle.tape_rules.specs.Block.{blockBytes, writeBlock, readBlock}
 use Rattle.tape_rules.specs.Records.{Record, masked, recorded}
 use Rattle.tape_rules.specs.declared.Held.{Held}
 use Rattle.tape_rules.specs.Good.{goodOf, heldAnswer}
-use Rattle.tape_rules.specs.Recording.{freshTaped, ValidTaped, blockAnswer, writtenAnswer, writeTape, readTape}
-use Rattle.tape_rules.specs.Recording.{tapedAnswer, tapedOut, tapedRoom, closeTaped}
+use Rattle.tape_rules.specs.Recording.{freshTaped, ValidTaped, blockAnswer, writtenAnswer, writeTape, readTape, tapedAnswer, tapedOut, tapedRoom, closeTaped}
 use Rattle.tape_rules.specs.Taping.{TapeTurn, Day, freshDay}
 use Rattle.tape_rules.specs.believed.Blocks.{usedOf, Drawn, Outside, Unplaced, WriteNo, BlockNo}
 use Rattle.tape_rules.specs.believed.Tapes.{pieceAt, blockAt, Pieces, DrawnTape, TapeWriteNo, TapeReadNo, GoodBlocks}

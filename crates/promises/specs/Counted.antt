@@ -6,7 +6,8 @@ use mathlib.Core.List.{List, [], _∷_, _++_}
 use Rattle.zvt_rules.specs.Fields.{Field, fieldId}
 use Rattle.zvt_rules.specs.Message.{Body}
 use Rattle.zvt_rules.specs.Values.{bodyFields}
-use Rattle.zvt_rules.specs.believed.Values.{In, Tells, TellsNumber}
+use Rattle.basics.specs.believed.Lists.{In}
+use Rattle.zvt_rules.specs.believed.Values.{Tells, TellsNumber}
 use Rattle.desk_rules.specs.declared.Kind.{Kind}
 use Rattle.desk_rules.specs.declared.Kind.the-variants.{Reversal}
 use Rattle.desk_rules.specs.declared.Outcome.the-variants.{Approved}

@@ -12,13 +12,14 @@ use Rattle.zvt_rules.specs.declared.Outline.{Outline}
 use Rattle.zvt_rules.specs.declared.ReadAnswer.the-variants.{Accepted, Refused}
 use Rattle.zvt_rules.specs.declared.FieldAnswer.{FieldAnswer}
 use Rattle.zvt_rules.specs.declared.FieldAnswer.the-variants.{Absent, Value, Refused as field-refused}
-use Rattle.zvt_rules.specs.Reading.{got, refused, part}
+use Rattle.basics.specs.Lists.{part}
+use Rattle.zvt_rules.specs.Reading.{got, refused}
 use Rattle.zvt_rules.specs.Message.{Message, readOf}
 use Rattle.zvt_rules.specs.Answers.{outlineOf, asReadAnswer, readAnswer}
 use Rattle.zvt_rules.specs.Listed.{askedOf, fieldAnswer, handedBytes, handedPlace, nowhere, spanOf, spansOf, placesAnswer}
-use Rattle.zvt_rules.specs.believed.Grammar.{Bytes}
+use Rattle.basics.specs.believed.Lists.{Bytes}
 use Rattle.zvt_rules.specs.believed.Found.{Stands, StandsBy}
-use Rattle.zvt_rules.proofs.Tests.{pick-false}
+use Rattle.basics.proofs.Tests.{pick-false}
 use Rattle.zvt_rules.proofs.Readings.{got-not-refused}
 use Rattle.zvt_rules.proofs.AnswerLaws.{read-refused-exactly}
 use Rattle.zvt_rules.proofs.Found.{value-exactly, refused-exactly, behind-password, in-body}

@@ -12,13 +12,14 @@ use Rattle.zvt_rules.specs.declared.Span.{Span}
 use Rattle.zvt_rules.specs.declared.Places.{Places}
 use Rattle.zvt_rules.specs.declared.Layout.{Layout}
 use Rattle.zvt_rules.specs.declared.Layout.the-variants.{Plain, List as FieldList, Secured}
-use Rattle.zvt_rules.specs.Reading.{Reading, got, refused, no, unless, andThen, part}
+use Rattle.basics.specs.Lists.{part}
+use Rattle.zvt_rules.specs.Reading.{Reading, got, refused, no, unless, andThen}
 use Rattle.zvt_rules.specs.Fields.{unlessUndecimal, Field, countFields, ListRead, listOf}
 use Rattle.zvt_rules.specs.Message.{listed, layoutOf, bodyOf, securedOf, countBody}
 use Rattle.zvt_rules.specs.declared.Header.{Header}
 use Rattle.zvt_rules.specs.believed.Writing.{listBytes, bodyBytes}
 use Rattle.zvt_rules.specs.Shortest.{shortList, shortBody}
-use Rattle.zvt_rules.specs.believed.Grammar.{Bytes}
+use Rattle.basics.specs.believed.Lists.{Bytes}
 use Rattle.zvt_rules.specs.Listed.{listedBody, namedListed, nowhere, spanOf, passwordIn}
 use Rattle.zvt_rules.proofs.Readings.{got-same, got-not-refused, unless-on, then-got, then-on, then-stop}
 use Rattle.zvt_rules.proofs.ObjectReading.{tail}

@@ -10,10 +10,11 @@ use borrow.Author.Tests.{leb-true}
 use Rattle.zvt_rules.specs.declared.Refusal.{Refusal}
 use Rattle.zvt_rules.specs.declared.Format.{Format}
 use Rattle.zvt_rules.specs.declared.Format.the-variants.{Unknown, Fixed, Digits, Container}
-use Rattle.zvt_rules.specs.Reading.{Reading, got, refused, no, unless, andThen, among, part}
+use Rattle.basics.specs.Lists.{among, part}
+use Rattle.zvt_rules.specs.Reading.{Reading, got, refused, no, unless, andThen}
 use Rattle.zvt_rules.specs.Fields.{formatOf, decimal, unlessUndecimal, holdsDigits, digitsIn, plain}
 use Rattle.zvt_rules.specs.Shortest.{shortField}
-use Rattle.zvt_rules.proofs.Tests.{pick-true, pick-false, allFrom, at-from}
+use Rattle.basics.proofs.Tests.{pick-true, pick-false, allFrom, at-from, never}
 use Rattle.zvt_rules.proofs.Readings.{then-on, then-stop, unless-then}
 use Rattle.zvt_rules.proofs.ObjectReading.{tail, len-in}
 use Rattle.zvt_rules.proofs.FieldReading.{digits-in}
@@ -38,11 +39,11 @@ decimals-then at (b ∷ s) t x = ap (unless (not (decimal b)) (no 6 at)) (decima
 pub decimals-got : (x : Reading (List ℕ)) → asDecimals x ≡ All → (t : List ℕ) × (x ≡ got t)
 unfolding asDecimals
 decimals-got (got t) e = (t, refl)
-decimals-got (refused r) e = absurd (let z : _≡_ {A = ℕ} 0 1 = cc in omega arith)
+decimals-got (refused r) e = never cc
 
 pub decimals-stopped : (x : Reading (List ℕ)) (r : Refusal) → asDecimals x ≡ decimals-refused r → x ≡ refused r
 unfolding asDecimals
-decimals-stopped (got t) r e = absurd (let z : _≡_ {A = ℕ} 0 1 = cc in omega arith)
+decimals-stopped (got t) r e = never cc
 decimals-stopped (refused q) r e = cc
 
 -- ---- a plain value
@@ -87,11 +88,11 @@ digits-few id d h e = leb-true d 3 (ap few (sym e) ∙ at-from (λ k. few (forma
 digits-got : (x : Reading ℕ) (v : ℕ) → asDigits x ≡ Number v → x ≡ got v
 unfolding asDigits
 digits-got (got w) v e = cc
-digits-got (refused r) v e = absurd (let z : _≡_ {A = ℕ} 0 1 = cc in omega arith)
+digits-got (refused r) v e = never cc
 
 digits-stopped : (x : Reading ℕ) (r : Refusal) → asDigits x ≡ digits-refused r → x ≡ refused r
 unfolding asDigits
-digits-stopped (got w) r e = absurd (let z : _≡_ {A = ℕ} 0 1 = cc in omega arith)
+digits-stopped (got w) r e = never cc
 digits-stopped (refused q) r e = cc
 
 -- a value that begins at a: all else is a matter of where it ends

@@ -9,16 +9,17 @@ use borrow.Author.Tests.{ltb-false}
 use Rattle.zvt_rules.specs.declared.Refusal.{Refusal}
 use Rattle.zvt_rules.specs.declared.Format.{Format}
 use Rattle.zvt_rules.specs.declared.Format.the-variants.{Unknown, Fixed, Digits, Container}
-use Rattle.zvt_rules.specs.Reading.{Reading, got, refused, no, unless, andThen, part}
+use Rattle.basics.specs.Lists.{part}
+use Rattle.zvt_rules.specs.Reading.{Reading, got, refused, no, unless, andThen}
 use Rattle.zvt_rules.specs.Limits.{deepest}
 use Rattle.zvt_rules.specs.Objects.{formSize, Len, lenOf, RunRead, runOf}
 use Rattle.zvt_rules.specs.Fields.{formatOf, unknown, digitsOf, digitsIn, plain, container, FieldRead, valueOf, plainOf, containerOf, fieldBy}
 use Rattle.zvt_rules.specs.believed.Writing.{runBytes, fieldBytes, fieldValue}
 use Rattle.zvt_rules.specs.Shortest.{formFor, shortRun, shortField}
-use Rattle.zvt_rules.specs.believed.Grammar.{Bytes}
+use Rattle.basics.specs.believed.Lists.{Bytes}
 use Rattle.zvt_rules.proofs.Readings.{got-same, got-not-refused, unless-got, unless-on, then-got, then-on, then-stop}
 use Rattle.zvt_rules.proofs.ObjectReading.{part-length}
-use Rattle.zvt_rules.proofs.Tests.{by-test}
+use Rattle.basics.proofs.Tests.{by-test, never}
 use Rattle.zvt_rules.proofs.ObjectBytes.{bytes-drop, bytes-part, run-sound}
 use Rattle.zvt_rules.proofs.FieldReading.{digits-got}
 use Rattle.zvt_rules.proofs.Lengths.{sized-size, len-sound}
@@ -47,11 +48,11 @@ both-stop (refused q) f g r h e = cc
 found : (x : Reading Bounds) (b : Bounds) → asBounds x ≡ bounds-read b → x ≡ got b
 unfolding asBounds
 found (got a) b e = cc
-found (refused r) b e = absurd (let z : _≡_ {A = ℕ} 0 1 = cc in omega arith)
+found (refused r) b e = never cc
 
 not-found : (x : Reading Bounds) (r : Refusal) → asBounds x ≡ bounds-refused r → x ≡ refused r
 unfolding asBounds
-not-found (got a) r e = absurd (let z : _≡_ {A = ℕ} 0 1 = cc in omega arith)
+not-found (got a) r e = never cc
 not-found (refused q) r e = cc
 
 module _ (at a v : ℕ) (run : Bool) (s : List ℕ) where
@@ -102,7 +103,7 @@ module _ (id n at : ℕ) (s : List ℕ) where
   by-plain Container b e h =
       let k = then-got (lenOf (at + 1) (drop 1 s)) _ b e in
       let i = value-found at (1 + formSize (k .0 .form)) (k .0 .value) true s b (k .2) in
-      absurd (let z : _≡_ {A = ℕ} 0 1 = cc in omega arith)
+      never cc
 
   -- a container's length, and its run still to be read
   pub record Contained (f : Format) (b : Bounds) : Type 0 where
@@ -120,11 +121,11 @@ module _ (id n at : ℕ) (s : List ℕ) where
   unfolding boundsBy fieldBy containerOf
   by-container Unknown b e h = absurd (got-not-refused (sym e))
   by-container (Fixed k) b e h =
-      let i = value-found at 1 k false s b e in absurd (let z : _≡_ {A = ℕ} 0 1 = cc in omega arith)
+      let i = value-found at 1 k false s b e in never cc
   by-container (Digits d) b e h =
       let k = then-got (digitsOf d 0 (at + 1) (drop 1 s)) _ b e in
       let i = value-found at (1 + d) (k .0) false s b (k .2) in
-      absurd (let z : _≡_ {A = ℕ} 0 1 = cc in omega arith)
+      never cc
   by-container Container b e h =
       let k = then-got (lenOf (at + 1) (drop 1 s)) _ b e in
       let i = value-found at (1 + formSize (k .0 .form)) (k .0 .value) true s b (k .2) in

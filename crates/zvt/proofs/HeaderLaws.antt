@@ -7,6 +7,7 @@ use native.Mathlib.Omega.{arith}
 use lib.ListN.{length, getD}
 use lib.Dec.{ltb}
 use borrow.Author.Tests.{lt-ltb, le-ltb, ne-eqb}
+use Rattle.basics.proofs.Tests.{never}
 use Rattle.zvt_rules.specs.declared.Refusal.{Refusal}
 use Rattle.zvt_rules.specs.Reading.{Reading, got, refused, unplaced, unless, andThen}
 use Rattle.zvt_rules.specs.Limits.{mostBody}
@@ -84,11 +85,11 @@ pub as-got : (x : Reading Heading) (h : Header) → inCode x ≡ header-read h
     → (m : Heading) × (x ≡ got m) × (headerIn m ≡ h)
 unfolding asHeader andThen
 as-got (got m) h e = (m, refl, cc)
-as-got (refused r) h e = absurd (let z : _≡_ {A = ℕ} 0 1 = cc in omega arith)
+as-got (refused r) h e = never cc
 
 pub as-stopped : (x : Reading Heading) (r : Refusal) → inCode x ≡ header-refused r → x ≡ refused r
 unfolding asHeader andThen
-as-stopped (got m) r e = absurd (let z : _≡_ {A = ℕ} 0 1 = cc in omega arith)
+as-stopped (got m) r e = never cc
 as-stopped (refused q) r e = cc
 
 -- a whole header is a header

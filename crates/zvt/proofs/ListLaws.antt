@@ -10,12 +10,14 @@ use lib.Seq.{getD-set-same, getD-set-other, getD-drop, drop-drop, length-take-le
 use lib.Dec.{eqb}
 use borrow.Author.Tests.{eqb-true, eqb-false}
 use Rattle.zvt_rules.specs.declared.Refusal.{Refusal}
-use Rattle.zvt_rules.specs.Reading.{got, among}
+use Rattle.basics.specs.Lists.{among}
+use Rattle.zvt_rules.specs.Reading.{got}
 use Rattle.zvt_rules.specs.Fields.{Field, fieldId, FieldRead, ListRead, fieldOf, listOf}
 use Rattle.zvt_rules.specs.believed.Writing.{fieldBytes, listBytes, fieldValue}
 use Rattle.zvt_rules.specs.Listed.{listedAt, listedFrom}
 use Rattle.zvt_rules.specs.Shortest.{shortField, shortList}
-use Rattle.zvt_rules.specs.believed.Grammar.{Bytes, FieldOk, ListOk}
+use Rattle.basics.specs.believed.Lists.{Bytes}
+use Rattle.zvt_rules.specs.believed.Grammar.{FieldOk, ListOk}
 use Rattle.zvt_rules.proofs.Readings.{then-on, then-stop}
 use Rattle.zvt_rules.proofs.ObjectReading.{tail}
 use Rattle.zvt_rules.proofs.ObjectBytes.{bytes-drop}

@@ -6,11 +6,13 @@ use native.Mathlib.Nat.{add-zero}
 use native.Mathlib.Omega.{arith}
 use lib.ListN.{length, getD, take, drop, length-drop}
 use lib.Seq.{length-take-le, take-add, take-take, drop-at, drop-drop, getD-take, getD-drop}
+use Rattle.basics.proofs.Tests.{never}
 use Rattle.zvt_rules.specs.declared.Refusal.{Refusal}
-use Rattle.zvt_rules.specs.Reading.{got, part}
+use Rattle.basics.specs.Lists.{part}
+use Rattle.zvt_rules.specs.Reading.{got}
 use Rattle.zvt_rules.specs.Fields.{Field, fieldId, listOf}
 use Rattle.zvt_rules.specs.believed.Writing.{fieldBytes, fieldValue}
-use Rattle.zvt_rules.specs.believed.Grammar.{Bytes}
+use Rattle.basics.specs.believed.Lists.{Bytes}
 use Rattle.zvt_rules.proofs.ObjectReading.{part-length}
 use Rattle.zvt_rules.proofs.ObjectBytes.{bytes-part}
 use Rattle.zvt_rules.proofs.FieldReading.{list-none}
@@ -108,13 +110,13 @@ module _ (at end : ℕ) (s : List ℕ) (b : Bytes s) (h : ListIn at end s) (n : 
 
   -- and are never refused
   pub first-never : (r : Refusal) → fieldBounds 0 (part at end s) ≡ bounds-refused r → ⊥
-  first-never r e = let z : _≡_ {A = ℕ} 0 1 = cc (first-in at end s b h (omega (arith, h .order)) .read) in omega arith
+  first-never r e = never (cc (first-in at end s b h (omega (arith, h .order)) .read))
 
 -- ---- what stands at a place says of the whole list
 pub field-here : {at e : ℕ} {s : List ℕ} {r : Step} {l : Listed} → StandsAt at e s r → r ≡ listed-field l → FieldHere at e s l
 field-here {l = l} (field {l = k} h) e = let same : k ≡ l = cc in rw same at h
-field-here (none h) e = absurd (let z : _≡_ {A = ℕ} 0 1 = cc in omega arith)
+field-here (none h) e = never cc
 
 pub none-here : {at e : ℕ} {s : List ℕ} {r : Step} → StandsAt at e s r → r ≡ End → listedIn at e s ≡ []
-none-here (field h) e = absurd (let z : _≡_ {A = ℕ} 0 1 = cc in omega arith)
+none-here (field h) e = never cc
 none-here (none h) e = h

@@ -7,13 +7,16 @@ use native.Mathlib.Omega.{arith}
 use lib.ListN.{length, replicate}
 use lib.Dec.{leb, eqb}
 use borrow.Author.Tests.{eq-eqb, ne-eqb, le-leb, lt-leb}
+use Rattle.basics.proofs.Tests.{never}
 use Rattle.zvt_rules.specs.declared.Refusal.{Refusal}
 use Rattle.zvt_rules.specs.declared.Layout.{Layout}
-use Rattle.zvt_rules.specs.Reading.{Reading, got, refused, andThen, part}
+use Rattle.basics.specs.Lists.{part}
+use Rattle.zvt_rules.specs.Reading.{Reading, got, refused, andThen}
 use Rattle.zvt_rules.specs.Message.{Heading, headerSize, start, end, layoutOf, Body, bodyOf, Message, messageOf, headerOf, countOf}
 use Rattle.zvt_rules.specs.believed.Writing.{bodyBytes, messageBytes}
 use Rattle.zvt_rules.specs.Shortest.{isShortBody, isShort}
-use Rattle.zvt_rules.specs.believed.Grammar.{Bytes, LayoutOk}
+use Rattle.basics.specs.believed.Lists.{Bytes}
+use Rattle.zvt_rules.specs.believed.Grammar.{LayoutOk}
 use Rattle.zvt_rules.proofs.Readings.{then-on, then-stop}
 use Rattle.zvt_rules.proofs.ObjectReading.{part-length}
 use Rattle.zvt_rules.proofs.ObjectBytes.{bytes-part}
@@ -63,8 +66,7 @@ spare-short l b ok = go (isShortBody b) refl
     go false f =
         ne-eqb (spareBody b) 0 λ n.
         let s : isShortBody b ≡ true = body-exactly l b ok .0 (omega (arith, body-shorter l b ok)) in
-        let z : _≡_ {A = ℕ} 0 1 = cc in
-        omega arith
+        never cc
 
 starts-at : (long : Bool) → eqb (headerSize long) 3 ≡ not long
 starts-at true = refl

@@ -9,8 +9,9 @@ use lib.ListN.{length, getD, drop, drop-of-length-le}
 use lib.Seq.{drop-cons}
 use lib.Dec.{eqb}
 use borrow.Author.Tests.{eq-eqb, ne-eqb}
-use Rattle.zvt_rules.specs.Reading.{Reading, got, refused, part}
-use Rattle.zvt_rules.proofs.Tests.{pick-test}
+use Rattle.basics.specs.Lists.{part}
+use Rattle.zvt_rules.specs.Reading.{Reading, got, refused}
+use Rattle.basics.proofs.Tests.{pick-test}
 use Rattle.zvt_rules.proofs.ObjectReading.{part-length}
 use Rattle.zvt_rules.specs.declared.Refusal.{Refusal}
 use Rattle.zvt_rules.specs.declared.Span.{Span}
@@ -18,7 +19,7 @@ use Rattle.zvt_rules.specs.declared.FieldAnswer.the-variants.{Absent, Value, Re
 use Rattle.zvt_rules.specs.Message.{Message, readOf}
 use Rattle.zvt_rules.specs.Listed.{askedOf, fieldAnswer}
 use Rattle.zvt_rules.specs.Name.{upToZero, own, between, sizedName, nameIn, nameOf, nameAt, nameBytes, cardName, namePlace}
-use Rattle.zvt_rules.specs.believed.Grammar.{Bytes}
+use Rattle.basics.specs.believed.Lists.{Bytes}
 use Rattle.zvt.specs.ValueSteps.{statusPair}
 use Rattle.zvt.proofs.ValueLaws.{pair-is}
 

@@ -6,10 +6,10 @@ use Prim.Native.Nat.{ℕ, _+_, _-_, _*_, _<_, _≤_}
 use native.Mathlib.Omega.{arith}
 use lib.ListN.{length, getD, take, drop, length-drop}
 use borrow.Author.Tests.{lt-ltb, le-ltb, ne-eqb}
+use Rattle.basics.proofs.Tests.{never}
 use Rattle.zvt_rules.specs.declared.Refusal.{Refusal}
 use Rattle.zvt_rules.specs.Reading.{Reading, got, refused, no, unless, andThen}
-use Rattle.zvt_rules.specs.Objects.{longTag, topBit, nested, formSize, secondTag, tagSize, Len, oneByteLen, twoByteLen, lenOf}
-use Rattle.zvt_rules.specs.Objects.{Head, headWith, headOf}
+use Rattle.zvt_rules.specs.Objects.{longTag, topBit, nested, formSize, secondTag, tagSize, Len, oneByteLen, twoByteLen, lenOf, Head, headWith, headOf}
 use Rattle.zvt_rules.specs.Shortest.{formFor}
 use Rattle.zvt.specs.declared.objects.TagRead.the-variants.{Size, Refused as tag-refused}
 use Rattle.zvt_rules.proofs.Readings.{then-on, then-stop, unless-then}
@@ -115,21 +115,21 @@ value-fits at tag a v run s h l = rw (le-ltb (length s) (a + v) (omega arith))
 pub tag-got : (x : Reading ℕ) (k : ℕ) → asTag x ≡ Size k → x ≡ got k
 unfolding asTag
 tag-got (got j) k e = cc
-tag-got (refused r) k e = absurd (let z : _≡_ {A = ℕ} 0 1 = cc in omega arith)
+tag-got (refused r) k e = never cc
 
 pub tag-stopped : (x : Reading ℕ) (r : Refusal) → asTag x ≡ tag-refused r → x ≡ refused r
 unfolding asTag
-tag-stopped (got j) r e = absurd (let z : _≡_ {A = ℕ} 0 1 = cc in omega arith)
+tag-stopped (got j) r e = never cc
 tag-stopped (refused q) r e = cc
 
 pub len-got : (x : Reading Len) (size v : ℕ) → asLen x ≡ len-read size v → (l : Len) × (x ≡ got l) × (formSize (l .form) ≡ size) × (l .value ≡ v)
 unfolding asLen
 len-got (got l) size v e = (l, refl, cc, cc)
-len-got (refused r) size v e = absurd (let z : _≡_ {A = ℕ} 0 1 = cc in omega arith)
+len-got (refused r) size v e = never cc
 
 pub len-stopped : (x : Reading Len) (r : Refusal) → asLen x ≡ len-refused r → x ≡ refused r
 unfolding asLen
-len-stopped (got l) r e = absurd (let z : _≡_ {A = ℕ} 0 1 = cc in omega arith)
+len-stopped (got l) r e = never cc
 len-stopped (refused q) r e = cc
 
 -- a length that was read in what is left from k on

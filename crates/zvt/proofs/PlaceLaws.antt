@@ -7,15 +7,18 @@ use native.Mathlib.Nat.{add-zero}
 use native.Mathlib.Omega.{arith}
 use lib.ListN.{length, take, drop, length-append, length-take}
 use lib.Seq.{drop-append-seam, drop-drop}
+use Rattle.basics.proofs.Tests.{never}
 use Rattle.zvt_rules.specs.declared.Refusal.{Refusal}
 use Rattle.zvt_rules.specs.declared.Layout.{Layout}
 use Rattle.zvt_rules.specs.declared.Layout.the-variants.{Plain, List as FieldList, Secured}
-use Rattle.zvt_rules.specs.Reading.{Reading, got, refused, part}
+use Rattle.basics.specs.Lists.{part}
+use Rattle.zvt_rules.specs.Reading.{Reading, got, refused}
 use Rattle.zvt_rules.specs.Fields.{Field, listOf}
-use Rattle.zvt_rules.specs.Buffers.{Whole}
+use Rattle.basics.specs.Buffers.{Whole}
 use Rattle.zvt_rules.specs.Message.{headerSize, layoutOf, Body, bytes, listed, Message, readOf, firstOf}
 use Rattle.zvt_rules.specs.believed.Writing.{listBytes, bodyBytes, lengthBytes, messageBytes}
-use Rattle.zvt_rules.specs.believed.Grammar.{Bytes, FieldsOk, LayoutOk, MessageOk}
+use Rattle.basics.specs.believed.Lists.{Bytes}
+use Rattle.zvt_rules.specs.believed.Grammar.{FieldsOk, LayoutOk, MessageOk}
 use Rattle.zvt_rules.proofs.ObjectReading.{tail}
 use Rattle.zvt_rules.proofs.ObjectBytes.{bytes-part}
 use Rattle.zvt_rules.proofs.FieldBytes.{list-complete}
@@ -67,7 +70,7 @@ accepted s x h = go (readOf s) refl h
   where
     go : (y : Reading Message) → readOf s ≡ y → asReadAnswer y ≡ Accepted x → (m : Message) × (readOf s ≡ got m) × (outlineOf m ≡ x)
     go (got m) q g = (m, q, cc)
-    go (refused f) q g = absurd (let z : _≡_ {A = ℕ} 0 1 = cc in omega arith)
+    go (refused f) q g = never cc
 
 -- ---- where the list lies, by the layout of the body
 unfoldable pub listBy : ℕ → ℕ → Layout → Span

@@ -9,14 +9,15 @@ use lib.ListN.{length, getD, take, drop, length-append, length-drop}
 use lib.Seq.{drop-drop, length-take-le}
 use borrow.Author.Tests.{le-leb, lt-leb, eq-eqb, ne-eqb}
 use Rattle.zvt_rules.specs.declared.Refusal.{Refusal}
-use Rattle.zvt_rules.specs.Reading.{Reading, got, refused, no, unless, andThen, part}
+use Rattle.basics.specs.Lists.{part}
+use Rattle.zvt_rules.specs.Reading.{Reading, got, refused, no, unless, andThen}
 use Rattle.zvt_rules.specs.Limits.{mostObjects}
-use Rattle.zvt_rules.specs.Objects.{nested, Form, formSize, Head, from, to, headOf}
-use Rattle.zvt_rules.specs.Objects.{Obj, Objs, more, OneRead, RunRead, leafOf, branchOf, oneOf, runOf}
+use Rattle.zvt_rules.specs.Objects.{nested, Form, formSize, Head, from, to, headOf, Obj, Objs, more, OneRead, RunRead, leafOf, branchOf, oneOf, runOf}
 use Rattle.zvt_rules.specs.believed.Writing.{objBytes, runBytes}
 use Rattle.zvt_rules.specs.Shortest.{formFor, shortObj, shortRun}
-use Rattle.zvt_rules.specs.believed.Grammar.{Bytes, FormOk, ObjOk, RunOk}
-use Rattle.zvt_rules.proofs.Tests.{pick-true, pick-false}
+use Rattle.basics.specs.believed.Lists.{Bytes}
+use Rattle.zvt_rules.specs.believed.Grammar.{FormOk, ObjOk, RunOk}
+use Rattle.basics.proofs.Tests.{pick-true, pick-false, never}
 use Rattle.zvt_rules.proofs.Readings.{then-on, then-stop}
 use Rattle.zvt_rules.proofs.ObjectReading.{tail, part-length, head-got, head-in, inside, one-in, run-none, run-step, one-step}
 use Rattle.zvt_rules.proofs.Lengths.{object-size, len-sound, form-shorter}
@@ -35,11 +36,11 @@ pub part-got : {A : Type 0} (f : A → Tally) (x : Reading A) (P : Tally → Typ
     → (t : Tally) → asPart f x ≡ Part t → P t
 unfolding asPart
 part-got f (got a) P h t e = subst P (let g : f a ≡ t = cc in g) (h a refl)
-part-got f (refused r) P h t e = absurd (let z : _≡_ {A = ℕ} 0 1 = cc in omega arith)
+part-got f (refused r) P h t e = never cc
 
 pub part-stopped : {A : Type 0} (f : A → Tally) (x : Reading A) (r : Refusal) → asPart f x ≡ part-refused r → x ≡ refused r
 unfolding asPart
-part-stopped f (got a) r e = absurd (let z : _≡_ {A = ℕ} 0 1 = cc in omega arith)
+part-stopped f (got a) r e = never cc
 part-stopped f (refused q) r e = cc
 
 abbrev boundsFrom : List ℕ → Reading Head → BoundsRead
@@ -49,11 +50,11 @@ bounds-got : (s : List ℕ) (x : Reading Head) (P : Bounds → Type 0) → ((h :
     → (b : Bounds) → boundsFrom s x ≡ bounds-read b → P b
 unfolding asBounds andThen
 bounds-got s (got h) P f b e = subst P (let g : boundsOf s h ≡ b = cc in g) (f h refl)
-bounds-got s (refused r) P f b e = absurd (let z : _≡_ {A = ℕ} 0 1 = cc in omega arith)
+bounds-got s (refused r) P f b e = never cc
 
 bounds-stopped : (s : List ℕ) (x : Reading Head) (r : Refusal) → boundsFrom s x ≡ bounds-refused r → x ≡ refused r
 unfolding asBounds andThen
-bounds-stopped s (got h) r e = absurd (let z : _≡_ {A = ℕ} 0 1 = cc in omega arith)
+bounds-stopped s (got h) r e = never cc
 bounds-stopped s (refused q) r e = cc
 
 -- ---- the bytes saved

@@ -12,7 +12,7 @@ use Rattle.zvt_rules.specs.Fields.{listOf}
 use Rattle.zvt_rules.specs.Message.{Body, bytes, bodyOf, securedOf}
 use Rattle.zvt_rules.specs.believed.Writing.{bodyBytes}
 use Rattle.zvt_rules.specs.Shortest.{shortBody}
-use Rattle.zvt_rules.specs.believed.Grammar.{Bytes}
+use Rattle.basics.specs.believed.Lists.{Bytes}
 use Rattle.zvt_rules.proofs.Readings.{got-same, unless-got, then-got}
 use Rattle.zvt_rules.proofs.ObjectBytes.{bytes-drop}
 use Rattle.zvt_rules.proofs.FieldReading.{undecimal-got}

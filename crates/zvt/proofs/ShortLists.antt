@@ -8,16 +8,19 @@ use lib.ListN.{length, getD, take, drop}
 use lib.Seq.{take-suc}
 use lib.Dec.{eqb}
 use borrow.Author.Tests.{le-ltb}
+use Rattle.basics.proofs.Tests.{never}
 use Rattle.zvt_rules.specs.declared.Refusal.{Refusal}
 use Rattle.zvt_rules.specs.declared.Format.{Format}
 use Rattle.zvt_rules.specs.declared.Format.the-variants.{Unknown, Fixed, Digits, Container}
-use Rattle.zvt_rules.specs.Reading.{got, unless, part, among}
+use Rattle.basics.specs.Lists.{part, among}
+use Rattle.zvt_rules.specs.Reading.{got, unless}
 use Rattle.zvt_rules.specs.Limits.{mostObjects}
 use Rattle.zvt_rules.specs.Objects.{Form, formSize, Objs}
 use Rattle.zvt_rules.specs.Fields.{formatOf, digitsOf, Field, plain, container, fieldId, countFields, FieldRead, ListRead, fieldBy, fieldOf, listOf}
 use Rattle.zvt_rules.specs.believed.Writing.{sized, fieldBytes, listBytes, fieldValue}
 use Rattle.zvt_rules.specs.Shortest.{shortField, shortList}
-use Rattle.zvt_rules.specs.believed.Grammar.{Bytes, ListOk}
+use Rattle.basics.specs.believed.Lists.{Bytes}
+use Rattle.zvt_rules.specs.believed.Grammar.{ListOk}
 use Rattle.zvt_rules.proofs.Readings.{got-same, got-not-refused, then-got, then-on}
 use Rattle.zvt_rules.proofs.ObjectBytes.{bytes-drop, bytes-part, run-sound}
 use Rattle.zvt_rules.proofs.FieldReading.{plain-got, container-got, field-got, list-none, list-step}
@@ -86,7 +89,7 @@ plain-at s a v o l h e = (
     within = h;
     value = ap (λ (x : FieldRead). fieldValue (x .field)) e;
     plainly = λ _. ap (λ (x : FieldRead). x .field) e;
-    run = λ t. absurd (let z : _≡_ {A = ℕ} 0 1 = cc in omega arith);
+    run = λ t. never cc;
   },
 )
 
@@ -116,7 +119,7 @@ field-at s Container o bs e =
         order = omega arith;
         within = p .3;
         value = ap (λ (x : FieldRead). fieldValue (x .field)) (p .5) ∙ run-sound 4 0 (0 + a) value (p .1) vs (p .4) .0;
-        plainly = λ t. absurd (let z : _≡_ {A = ℕ} 0 1 = cc in omega arith);
+        plainly = λ t. never cc;
         run = λ _. (l .form, p .1 .objs, ap (λ (x : FieldRead). x .field) (p .5), alone);
       },
     )

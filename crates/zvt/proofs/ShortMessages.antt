@@ -7,11 +7,12 @@ use lib.ListN.{length, take, drop, length-append}
 use lib.Seq.{length-take-le}
 use borrow.Author.Tests.{lt-ltb, le-ltb}
 use Rattle.zvt_rules.specs.declared.Refusal.{Refusal}
-use Rattle.zvt_rules.specs.Reading.{Reading, got, refused, unplaced, unless, part}
+use Rattle.basics.specs.Lists.{part}
+use Rattle.zvt_rules.specs.Reading.{Reading, got, refused, unplaced, unless, writtenLeaves}
 use Rattle.zvt_rules.specs.Message.{Heading, start, end, layoutOf, Body, bodyOf, messageOf, wholeHeader, readOf}
 use Rattle.zvt_rules.specs.believed.Writing.{bodyBytes, messageBytes}
 use Rattle.zvt_rules.specs.Shortest.{shortBody, shortMessage, write, shorten}
-use Rattle.zvt_rules.specs.believed.Grammar.{Bytes}
+use Rattle.basics.specs.believed.Lists.{Bytes}
 use Rattle.zvt_rules.proofs.Readings.{then-on, then-stop}
 use Rattle.zvt_rules.proofs.ObjectReading.{part-length}
 use Rattle.zvt_rules.proofs.ObjectBytes.{bytes-part}
@@ -28,7 +29,7 @@ use Rattle.zvt_rules.specs.Answers.{headerIn, shortened, asShortenAnswer, short
 use Rattle.zvt.specs.HeaderSteps.{wholeAnswer}
 use Rattle.zvt.specs.BodySteps.{spareBody, bodyTally, bodyAnswer, bodyIn}
 use Rattle.zvt.specs.WritingSteps.{back, Put, BodyReads, headerBytes, headerLayout, bodyPart, shortMessageOf}
-use Rattle.zvt_rules.specs.Buffers.{front, writtenLeaves}
+use Rattle.basics.specs.Buffers.{front}
 use Rattle.zvt.proofs.RunLaws.{part-got}
 use Rattle.zvt.proofs.HeaderLaws.{as-got, whole-first}
 use Rattle.zvt.proofs.MessageLaws as message

@@ -6,13 +6,17 @@ use mathlib.Core.Logic.{⊎-elim}
 use Prim.Native.Nat.{ℕ, _+_, _-_, _<_, _≤_}
 use native.Mathlib.Omega.{arith}
 use lib.ListN.{length, getD, take, drop}
+use Rattle.basics.proofs.Tests.{never}
 use Rattle.zvt_rules.specs.declared.Refusal.{Refusal}
-use Rattle.zvt_rules.specs.Reading.{got, pick, part}
+use Rattle.basics.specs.Choice.{pick}
+use Rattle.basics.specs.Lists.{part}
+use Rattle.zvt_rules.specs.Reading.{got}
 use Rattle.zvt_rules.specs.Limits.{mostObjects, deepest}
 use Rattle.zvt_rules.specs.Objects.{nested, Head, from, to, Obj, leaf, branch, Objs, none, more, OneRead, RunRead, runOf, countObjs}
 use Rattle.zvt_rules.specs.believed.Writing.{lenBytes, sized, objBytes, runBytes}
 use Rattle.zvt_rules.specs.Shortest.{formFor, shortObj, shortRun}
-use Rattle.zvt_rules.specs.believed.Grammar.{Bytes, ObjOk, RunOk}
+use Rattle.basics.specs.believed.Lists.{Bytes}
+use Rattle.zvt_rules.specs.believed.Grammar.{ObjOk, RunOk}
 use Rattle.zvt_rules.proofs.Readings.{then-on}
 use Rattle.zvt_rules.proofs.ObjectReading.{Inside, head-in, one-got, run-none, run-got}
 use Rattle.zvt_rules.proofs.ObjectBytes.{bytes-drop, bytes-part, one-sound, run-sound, run-complete}
@@ -88,7 +92,7 @@ object-short s h o b =
     ⊎-elim (λ x.
     let a = run-alone 3 1 (0 + from h) value (x .1 .0) (bytes-part (from h) (to h) s b) (omega arith) (omega arith) (x .1 .1) in
     subst (ObjectShort s h) (x .1 .2) (refl, λ _. a .reads, rw (x .0, a .short) (value-short tag (runBytes (shortRun (x .1 .0 .objs))))))
-    (λ x. subst (ObjectShort s h) (x .1) (refl, λ t. absurd (let z : _≡_ {A = ℕ} 0 1 = cc in omega arith), rw (x .0) (value-short tag value)))
+    (λ x. subst (ObjectShort s h) (x .1) (refl, λ t. never cc, rw (x .0) (value-short tag value)))
 
 pub first-object : (s : List ℕ) → Bytes s → RunReads s → 0 < length s → (b : Bounds) × (headAnswer 0 s ≡ bounds-read b) × FirstObject s b
 unfolding RunReads headAnswer asBounds boundsOf runBytes shortRun
@@ -130,7 +134,7 @@ pub bounds-are : {P : Bounds → Type 0} (x : BoundsRead) → (b : Bounds) × (x
 bounds-are x f b e = let same : f .0 ≡ b = cc in rw same at (f .2)
 
 pub bounds-never : {P : Bounds → Type 0} (x : BoundsRead) → (b : Bounds) × (x ≡ bounds-read b) × P b → (r : Refusal) → x ≡ bounds-refused r → ⊥
-bounds-never x f r e = let z : _≡_ {A = ℕ} 0 1 = cc in omega arith
+bounds-never x f r e = never cc
 
 pub object-in : (s : List ℕ) (b : Bounds) → Bytes s → RunReads s → 0 < length s → headAnswer 0 s ≡ bounds-read b → FirstObject s b
 object-in s b bs r l = bounds-are _ (first-object s bs r l) b

@@ -5,7 +5,7 @@ use native.Mathlib.Omega.{arith}
 use lib.ListN.{getD}
 use mir.Val.{Fits}
 use mir.Syntax.{w8}
-use Rattle.zvt_rules.specs.believed.Grammar.{Bytes}
+use Rattle.basics.specs.believed.Lists.{Bytes}
 
 pub bytes-known : (s : List ℕ) → ((i : ℕ) → Fits w8 (getD s i 0)) → Bytes s
 unfolding Bytes

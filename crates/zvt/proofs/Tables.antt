@@ -8,7 +8,7 @@ use lib.Dec.{eqb}
 use borrow.Author.Tests.{eqb-true}
 use mir.Val.{hasKey}
 use types.Run.{OneOf, hit}
-use Rattle.zvt_rules.proofs.Tests.{by-test, allFrom, at-from}
+use Rattle.basics.proofs.Tests.{by-test, allFrom, at-from}
 
 -- a test holds of every number of a list
 unfoldable pub allIn : (ℕ → Bool) → List ℕ → Bool

@@ -17,7 +17,8 @@ use Rattle.zvt_rules.specs.declared.ToldCode.the-variants.{Missing, Code}
 use Rattle.zvt_rules.specs.Reading.{got}
 use Rattle.zvt_rules.specs.Message.{headerSize, layoutOf, Body, bytes, listed, Message, wholeHeader, readOf}
 use Rattle.zvt_rules.specs.believed.Writing.{bodyBytes, messageBytes}
-use Rattle.zvt_rules.specs.believed.Grammar.{Bytes, LayoutOk, MessageOk}
+use Rattle.basics.specs.believed.Lists.{Bytes}
+use Rattle.zvt_rules.specs.believed.Grammar.{LayoutOk, MessageOk}
 use Rattle.zvt_rules.specs.Answers.{headerIn, outlineOf}
 use Rattle.zvt_rules.specs.Values.{statusOf}
 use Rattle.zvt_rules.specs.Heard.{firstOf, toldIn, toldAnswer, asHearAnswer, hearAnswer}

@@ -15,16 +15,17 @@ use Rattle.zvt_rules.specs.declared.ToldAmount.the-variants.{Missing as no-amou
 use Rattle.zvt_rules.specs.declared.ToldReceipt.the-variants.{Missing as no-receipt}
 use Rattle.zvt_rules.specs.declared.FieldAnswer.{FieldAnswer}
 use Rattle.zvt_rules.specs.declared.FieldAnswer.the-variants.{Absent, Value, Refused as field-refused}
-use Rattle.zvt_rules.specs.Reading.{Reading, got, refused, part, among}
+use Rattle.basics.specs.Lists.{part, among}
+use Rattle.zvt_rules.specs.Reading.{Reading, got, refused}
 use Rattle.zvt_rules.specs.Fields.{formatOf, holdsDigits, Field, plain, container, fieldId}
 use Rattle.zvt_rules.specs.Message.{layoutOf, Body, bytes, listed, Message, readOf}
 use Rattle.zvt_rules.specs.Listed.{fieldAnswer, spanOf}
 use Rattle.zvt_rules.specs.Values.{Found, missing, found, valueIn, codeOf, amountOf, receiptOf, codeIn, amountIn, receiptIn, statusIn, isStatus, bodyFields, statusFields, statusOf}
 use Rattle.zvt_rules.specs.believed.Writing.{messageBytes, fieldValue}
-use Rattle.zvt_rules.specs.believed.Grammar.{Bytes, Decimals, SizeOk, FieldOk, ListOk, FieldsOk, LayoutOk, MessageOk}
-use Rattle.zvt_rules.specs.believed.Values.{In}
+use Rattle.basics.specs.believed.Lists.{Bytes, In}
+use Rattle.zvt_rules.specs.believed.Grammar.{Decimals, SizeOk, FieldOk, ListOk, FieldsOk, LayoutOk, MessageOk}
 use Rattle.zvt_rules.specs.believed.Found.{Stands, StandsBy, Lacks}
-use Rattle.zvt_rules.proofs.Tests.{pick-true, pick-false}
+use Rattle.basics.proofs.Tests.{pick-true, pick-false, never}
 use Rattle.zvt_rules.proofs.Readings.{got-same, got-not-refused}
 use Rattle.zvt_rules.proofs.ObjectReading.{part-length}
 use Rattle.zvt_rules.proofs.MessageBytes.{read-sound}
@@ -54,7 +55,7 @@ Placed k p s v digits = Sized k p s × (valueAt p s ≡ v) × (digits ≡ true �
 -- a field of bytes in a fixed number is no container
 fixed-plain : (id k : ℕ) → formatOf id ≡ Fixed k → id ≡ 0x06 → ⊥
 unfolding formatOf among
-fixed-plain id k f e = let q : Container ≡ Fixed k = rw e at f in let z : _≡_ {A = ℕ} 0 1 = cc in omega arith
+fixed-plain id k f e = let q : Container ≡ Fixed k = rw e at f in never cc
 
 holds : (f : Field) (id k : ℕ) → formatOf id ≡ Fixed k → FieldOk f → fieldId f ≡ id → (length (fieldValue f) ≡ k) × (holdsDigits id ≡ true → Decimals (fieldValue f))
 unfolding FieldOk SizeOk fieldId fieldValue

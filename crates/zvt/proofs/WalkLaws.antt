@@ -10,20 +10,22 @@ use lib.ListN.{length, getD, drop, set, replicate, length-drop}
 use lib.Dec.{eqb}
 use borrow.Author.Tests.{lt-ltb, eqb-true, eq-eqb}
 use Rattle.zvt_rules.specs.declared.Refusal.{Refusal}
-use Rattle.zvt_rules.specs.Reading.{got, among}
-use Rattle.zvt_rules.specs.Buffers.{front, Whole}
-use Rattle.zvt_rules.specs.Text.{Text, text, addOne, addAll}
+use Rattle.basics.specs.Lists.{among}
+use Rattle.zvt_rules.specs.Reading.{got}
+use Rattle.basics.specs.Buffers.{front, Whole}
+use Rattle.basics.specs.Text.{Text, text, addOne, addAll}
 use Rattle.zvt_rules.specs.Fields.{Field, fieldId, ListRead, listOf}
 use Rattle.zvt_rules.specs.believed.Writing.{fieldBytes}
-use Rattle.zvt_rules.specs.believed.Grammar.{Bytes, ListOk}
+use Rattle.basics.specs.believed.Lists.{Bytes}
+use Rattle.zvt_rules.specs.believed.Grammar.{ListOk}
 use Rattle.zvt_rules.specs.declared.Listed.{Listed}
 use Rattle.zvt_rules.specs.declared.Span.{Span}
 use Rattle.zvt_rules.specs.declared.FieldAnswer.{FieldAnswer}
 use Rattle.zvt_rules.specs.declared.FieldAnswer.the-variants.{Absent, Value, Refused as field-refused}
 use Rattle.zvt_rules.specs.Listed.{listedAt, listedFrom, namedListed, idsListed, nowhere, spanOf}
-use Rattle.zvt_rules.proofs.Tests.{by-test, pick-true, pick-false, true-false}
+use Rattle.basics.proofs.Tests.{by-test, pick-true, pick-false, true-false}
 use Rattle.zvt_rules.proofs.Readings.{got-same, got-not-refused}
-use Rattle.zvt_rules.proofs.Text.{put-whole}
+use Rattle.basics.proofs.Text.{put-whole}
 use Rattle.zvt_rules.proofs.FieldReading.{list-none}
 use Rattle.zvt_rules.proofs.FieldBytes.{list-sound}
 use Rattle.zvt_rules.proofs.Found.{not-absent}

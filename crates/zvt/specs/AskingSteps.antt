@@ -7,7 +7,7 @@ use Rattle.zvt_rules.specs.declared.Span.{Span}
 use Rattle.zvt_rules.specs.declared.FieldAnswer.{FieldAnswer}
 use Rattle.zvt_rules.specs.declared.FieldAnswer.the-variants.{Absent, Value}
 use Rattle.zvt_rules.specs.declared.ReadAnswer.the-variants.{Refused}
-use Rattle.zvt_rules.specs.Reading.{pick}
+use Rattle.basics.specs.Choice.{pick}
 use Rattle.zvt_rules.specs.Answers.{readAnswer}
 use Rattle.zvt_rules.specs.Listed.{placesAnswer}
 use Rattle.zvt.specs.declared.asking.MessageFound.{MessageFound}

@@ -8,7 +8,8 @@ use lib.Dec.{leb, eqb}
 use Rattle.zvt_rules.specs.declared.Layout.{Layout}
 use Rattle.zvt_rules.specs.declared.Refusal.{Refusal}
 use Rattle.zvt_rules.specs.declared.Places.{Places}
-use Rattle.zvt_rules.specs.Reading.{got, part}
+use Rattle.basics.specs.Lists.{part}
+use Rattle.zvt_rules.specs.Reading.{got}
 use Rattle.zvt_rules.specs.Message.{Body, bodyOf, securedOf, layoutOf, countBody}
 use Rattle.zvt_rules.specs.believed.Writing.{bodyBytes}
 use Rattle.zvt_rules.specs.Shortest.{shortBody}

@@ -10,11 +10,12 @@ use Rattle.zvt_rules.specs.declared.Listed.{Listed}
 use Rattle.zvt_rules.specs.declared.Outline.{Outline}
 use Rattle.zvt_rules.specs.declared.ReadAnswer.the-variants.{Accepted}
 use Rattle.zvt_rules.specs.declared.Span.{Span}
-use Rattle.zvt_rules.specs.Reading.{Reading, got, refused, part}
+use Rattle.basics.specs.Lists.{part}
+use Rattle.zvt_rules.specs.Reading.{Reading, got, refused}
 use Rattle.zvt_rules.specs.Limits.{mostBody}
 use Rattle.zvt_rules.specs.Fields.{Field as field-of, ListRead, listOf}
 use Rattle.zvt_rules.specs.Message.{readOf}
-use Rattle.zvt_rules.specs.believed.Grammar.{Bytes}
+use Rattle.basics.specs.believed.Lists.{Bytes}
 use Rattle.zvt_rules.specs.Answers.{readAnswer}
 use Rattle.zvt_rules.specs.Listed.{listedFrom, listedMessage}
 use Rattle.zvt.specs.declared.list.Step.{Step}

@@ -6,8 +6,10 @@ use mathlib.Core.List.{List, [], _∷_}
 use lib.ListN.{length, getD}
 use lib.Dec.{eqb}
 use Rattle.zvt_rules.specs.declared.Span.{Span}
-use Rattle.zvt_rules.specs.Reading.{pick, part}
-use Rattle.zvt_rules.specs.believed.Grammar.{Bytes, Decimals}
+use Rattle.basics.specs.Choice.{pick}
+use Rattle.basics.specs.Lists.{part}
+use Rattle.basics.specs.believed.Lists.{Bytes}
+use Rattle.zvt_rules.specs.believed.Grammar.{Decimals}
 use Rattle.zvt_rules.specs.Values.{Found, missing, found}
 use Rattle.zvt_rules.specs.Listed.{placesAnswer}
 

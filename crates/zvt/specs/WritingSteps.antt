@@ -5,7 +5,9 @@ use mathlib.Core.List.{List, [], _∷_, _++_}
 use lib.ListN.{length, take}
 use lib.Dec.{leb}
 use Rattle.zvt_rules.specs.declared.Layout.{Layout}
-use Rattle.zvt_rules.specs.Reading.{Reading, got, refused, pick, part}
+use Rattle.basics.specs.Choice.{pick}
+use Rattle.basics.specs.Lists.{part}
+use Rattle.zvt_rules.specs.Reading.{Reading, got, refused}
 use Rattle.zvt_rules.specs.Limits.{deepest}
 use Rattle.zvt_rules.specs.Objects.{RunRead, runOf}
 use Rattle.zvt_rules.specs.Fields.{ListRead, listOf}

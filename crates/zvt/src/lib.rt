@@ -30,7 +30,7 @@ use zvt_rules::Status;
 ghost use mathlib.Core.Path.{_≡_};
 ghost use lib.ListN.{length};
 ghost use Rattle.zvt_rules.specs.Answers.{headerAnswer, readAnswer, firstAnswer, shortenAnswer, shortenLeaves};
-ghost use Rattle.zvt_rules.specs.Buffers.{Whole};
+ghost use Rattle.basics.specs.Buffers.{Whole};
 ghost use Rattle.zvt_rules.specs.Digits.{digitBytesOf, numberOf};
 ghost use Rattle.zvt_rules.specs.Heard.{hearAnswer};
 ghost use Rattle.zvt_rules.specs.Listed.{fieldAnswer, handedBytes, handedPlace, firstIds, placesAnswer};

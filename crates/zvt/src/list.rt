@@ -15,7 +15,7 @@ ghost use mathlib.Core.Path.{_≡_};
 ghost use Prim.Native.Nat.{_≤_};
 ghost use lib.ListN.{length};
 ghost use Rattle.zvt.specs.ListSteps.{ListIn, ListOf, StandsAt, Was, listedIn, refusedFirst};
-ghost use Rattle.zvt_rules.specs.Buffers.{Whole};
+ghost use Rattle.basics.specs.Buffers.{Whole};
 ghost use Rattle.zvt_rules.specs.Listed.{idsListed, listedMessage};
 ghost use Rattle.zvt_rules.specs.Message.{readOf};
 

@@ -12,7 +12,7 @@ ghost use mathlib.Core.Path.{_≡_};
 ghost use mathlib.Core.Bool.{true};
 ghost use Prim.Native.Nat.{_+_, _<_, _≤_};
 ghost use lib.ListN.{length};
-ghost use Rattle.zvt_rules.specs.Reading.{part};
+ghost use Rattle.basics.specs.Lists.{part};
 ghost use Rattle.zvt_rules.specs.Limits.{mostBody};
 ghost use Rattle.zvt_rules.specs.believed.Writing.{lenBytes};
 ghost use Rattle.zvt_rules.specs.Shortest.{formFor};

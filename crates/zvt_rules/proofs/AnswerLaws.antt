@@ -16,20 +16,22 @@ use Rattle.zvt_rules.specs.declared.HeaderAnswer.the-variants.{Header as
 use Rattle.zvt_rules.specs.declared.ReadAnswer.the-variants.{Accepted, Refused}
 use Rattle.zvt_rules.specs.declared.FirstAnswer.the-variants.{Accepted as first-accepted, Refused as first-refused}
 use Rattle.zvt_rules.specs.declared.ShortenAnswer.the-variants.{Written, Refused as short-refused}
-use Rattle.zvt_rules.specs.Reading.{Reading, got, refused, unplaced, unless, part}
-use Rattle.zvt_rules.specs.Buffers.{front, writtenLeaves}
+use Rattle.basics.specs.Lists.{part}
+use Rattle.zvt_rules.specs.Reading.{Reading, got, refused, unplaced, unless, writtenLeaves}
+use Rattle.basics.specs.Buffers.{front}
 use Rattle.zvt_rules.specs.Objects.{Obj, leaf, branch, Objs, none, more, countObj, countObjs}
 use Rattle.zvt_rules.specs.Fields.{Field, plain, container, countField, countFields}
 use Rattle.zvt_rules.specs.Message.{Heading, headerSize, start, end, headerOf, Body, bytes, listed, Message, wholeHeader, readOf, firstOf, countBody, countOf}
 use Rattle.zvt_rules.specs.believed.Writing.{bodyBytes, lengthBytes, messageBytes}
 use Rattle.zvt_rules.specs.Shortest.{isShort, write, shorten}
-use Rattle.zvt_rules.specs.believed.Grammar.{Bytes, LengthOk, MessageOk}
+use Rattle.basics.specs.believed.Lists.{Bytes}
+use Rattle.zvt_rules.specs.believed.Grammar.{LengthOk, MessageOk}
 use Rattle.zvt_rules.specs.Answers.{headerIn, asHeaderAnswer, headerAnswer, outlineOf, asReadAnswer, readAnswer, asFirstAnswer, firstAnswer, shortened, asShortenAnswer, shortenAnswer, shortenLeaves}
 use Rattle.zvt_rules.specs.believed.Values.{Is}
 use Rattle.zvt_rules.specs.believed.Shortest.{Shortens}
 use Rattle.zvt_rules.specs.believed.Answers.{Framed, inObj, inRun, inList, inBody, Reported, FirstReported, Over}
 use Rattle.zvt_rules.proofs.Readings.{got-same, got-not-refused, unless-got, unless-on, then-got, then-on, then-stop}
-use Rattle.zvt_rules.proofs.Tests.{by-test, same-test}
+use Rattle.basics.proofs.Tests.{by-test, same-test, never}
 use Rattle.zvt_rules.proofs.ObjectReading.{part-length}
 use Rattle.zvt_rules.proofs.FieldReading.{header-in}
 use Rattle.zvt_rules.proofs.MessageBytes.{lengthBytes-size, header-sound, header-complete, first-sound, first-complete, read-sound, read-complete, message-size}
@@ -117,7 +119,7 @@ header-exactly s h b = (to (wholeHeader s) refl, λ f. rw (frame-read f, frame-s
   where
     to : (x : Reading Heading) → wholeHeader s ≡ x → asHeaderAnswer x ≡ header-got h → Framed s (h .class) (h .instruction) (h .start) (h .length)
     to (got k) e q = let same : headerIn k ≡ h = cc in rw (← same) (read-frame s k b e)
-    to (refused f) e q = absurd (let z : _≡_ {A = ℕ} 0 1 = cc in omega arith)
+    to (refused f) e q = never cc
 
 -- ---- what is read
 framed : (s : List ℕ) (m : Message) → Is s m → Framed s (m .class) (m .instruction) (headerSize (m .long)) (length (bodyBytes (m .body)))
@@ -161,7 +163,7 @@ read-exactly s o b = (to (readOf s) refl, from)
   where
     to : (x : Reading Message) → readOf s ≡ x → asReadAnswer x ≡ Accepted o → Reported s o
     to (got m) e q = let same : outlineOf m ≡ o = cc in rw (← same) (reported s m (read-sound s m b e))
-    to (refused f) e q = absurd (let z : _≡_ {A = ℕ} 0 1 = cc in omega arith)
+    to (refused f) e q = never cc
 
     from : Reported s o → asReadAnswer (readOf s) ≡ Accepted o
     from r =
@@ -181,7 +183,7 @@ first-exactly s o next b = (to (firstOf s) refl, from)
         let same : outlineOf m ≡ o = cc in
         let ends : n ≡ next = cc in
         (take n s, drop n s, sym (take-append-drop n s), sym ends ∙ ap length (k .0), rw (← same) (reported (take n s) m k))
-    to (refused f) e q = absurd (let z : _≡_ {A = ℕ} 0 1 = cc in omega arith)
+    to (refused f) e q = never cc
 
     from : FirstReported s o next → asFirstAnswer (firstOf s) ≡ first-accepted o next
     from (front, rest, e, ends, r) =
@@ -200,17 +202,17 @@ module _ {A B : Type 0} (say : Reading A → B) (no : Refusal → B) (other : (a
 pub header-refused-exactly : (s : List ℕ) (r : Refusal) → (headerAnswer s ≡ header-refused r) ↔ (wholeHeader s ≡ refused r)
 unfolding headerAnswer asHeaderAnswer
 header-refused-exactly s r =
-    refused-by asHeaderAnswer header-refused (λ a r e. let z : _≡_ {A = ℕ} 0 1 = cc in omega arith) (λ f. refl) (λ r q e. cc) (wholeHeader s) r
+    refused-by asHeaderAnswer header-refused (λ a r e. never cc) (λ f. refl) (λ r q e. cc) (wholeHeader s) r
 
 pub read-refused-exactly : (s : List ℕ) (r : Refusal) → (readAnswer s ≡ Refused r) ↔ (readOf s ≡ refused r)
 unfolding readAnswer asReadAnswer
 read-refused-exactly s r =
-    refused-by asReadAnswer Refused (λ a r e. let z : _≡_ {A = ℕ} 0 1 = cc in omega arith) (λ f. refl) (λ r q e. cc) (readOf s) r
+    refused-by asReadAnswer Refused (λ a r e. never cc) (λ f. refl) (λ r q e. cc) (readOf s) r
 
 pub first-refused-exactly : (s : List ℕ) (r : Refusal) → (firstAnswer s ≡ first-refused r) ↔ (firstOf s ≡ refused r)
 unfolding firstAnswer asFirstAnswer
 first-refused-exactly s r =
-    refused-by asFirstAnswer first-refused (λ a r e. let z : _≡_ {A = ℕ} 0 1 = cc in omega arith) (λ f. refl) (λ r q e. cc) (firstOf s) r
+    refused-by asFirstAnswer first-refused (λ a r e. never cc) (λ f. refl) (λ r q e. cc) (firstOf s) r
 
 -- ---- shortening
 module _ (room : ℕ) (s : List ℕ) (b : Bytes s) where
@@ -241,7 +243,7 @@ module _ (room : ℕ) (s : List ℕ) (b : Bytes s) where
       to : (x : Reading (List ℕ)) → shortened room s ≡ x → asShortenAnswer x ≡ Written k
           → (w : List ℕ) × Shortens s w × (length w ≤ room) × (length w ≡ k)
       to (got w) e q = let h = fits-exactly w .0 e in (w, h .0, h .1, cc)
-      to (refused f) e q = absurd (let z : _≡_ {A = ℕ} 0 1 = cc in omega arith)
+      to (refused f) e q = never cc
 
   -- R37: "header, body, 11". R38: "shortening needs as many as it writes"
   pub shorten-refused-exactly : (r : Refusal)
@@ -250,7 +252,7 @@ module _ (room : ℕ) (s : List ℕ) (b : Bytes s) where
   unfolding shortenAnswer asShortenAnswer
   shorten-refused-exactly r =
       Iff·trans
-      (refused-by asShortenAnswer short-refused (λ a r e. let z : _≡_ {A = ℕ} 0 1 = cc in omega arith) (λ f. refl) (λ r q e. cc) (shortened room s) r)
+      (refused-by asShortenAnswer short-refused (λ a r e. never cc) (λ f. refl) (λ r q e. cc) (shortened room s) r)
       (by (readOf s) refl, ⊎-elim (stops r) λ (w, k, h, e). lacks w k h ∙ ap refused e)
     where
       tight : (w : List ℕ) → Shortens s w → shortened room s ≡ refused r → (room < length w) × (unplaced 11 ≡ r)

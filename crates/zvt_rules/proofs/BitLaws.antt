@@ -9,7 +9,7 @@ use borrow.Author.Tests.{le-leb, eqb-true}
 use Rattle.zvt_rules.specs.Objects.{longTag, topBit, nested}
 use Rattle.zvt_rules.specs.Fields.{lengthDigit, decimal}
 use Rattle.zvt_rules.specs.believed.Digits.{bit, byteOf, TagBits, Halves, LengthDigit}
-use Rattle.zvt_rules.proofs.Tests.{leb-test, eqb-test, and-test, same-test, allFrom, at-from}
+use Rattle.basics.proofs.Tests.{leb-test, eqb-test, and-test, same-test, allFrom, at-from}
 
 -- ---- the bits of a tag
 bit-low : (b : Bool) → bit b ≤ 1

@@ -12,7 +12,7 @@ use borrow.Author.Tests.{le-leb}
 use Rattle.zvt_rules.specs.Fields.{decimal}
 use Rattle.zvt_rules.specs.believed.Grammar.{Decimals}
 use Rattle.zvt_rules.specs.Digits.{twoDigits, digitBytesOf, decimalFrom, numberOf}
-use Rattle.zvt_rules.proofs.Tests.{leb-test, and-test}
+use Rattle.basics.proofs.Tests.{leb-test, and-test}
 
 pub digits-size : (k n : ℕ) → length (digitBytesOf k n) ≡ k
 unfolding digitBytesOf

@@ -14,11 +14,12 @@ use Rattle.zvt_rules.specs.Fields.{Field, plain, container}
 use Rattle.zvt_rules.specs.Message.{headerSize, layoutOf, Body, bytes, listed, Message, readOf}
 use Rattle.zvt_rules.specs.believed.Writing.{lenBytes, bodyBytes, lengthBytes, messageBytes}
 use Rattle.zvt_rules.specs.Shortest.{formFor, isShortest, shortObj, shortRun, shortField, shortList, shortBody, shortMessage, isShort, write, shorten}
-use Rattle.zvt_rules.specs.believed.Grammar.{Bytes, FormOk, LengthOk, MessageOk}
+use Rattle.basics.specs.believed.Lists.{Bytes}
+use Rattle.zvt_rules.specs.believed.Grammar.{FormOk, LengthOk, MessageOk}
 use Rattle.zvt_rules.specs.believed.Digits.{SaysBody, SaysLength}
 use Rattle.zvt_rules.specs.believed.Shortest.{formlessObj, formlessRun, formlessField, formlessBody, SameValues, Fewest, Shortens}
 use Rattle.zvt_rules.proofs.Readings.{got-same, then-got, then-on}
-use Rattle.zvt_rules.proofs.Tests.{by-test}
+use Rattle.basics.proofs.Tests.{by-test}
 use Rattle.zvt_rules.proofs.Spelling.{length-said, body-said}
 use Rattle.zvt_rules.proofs.Lengths.{lenBytes-size, formFor-ok, form-shorter, form-kept, form-strict, formFor-shortest}
 use Rattle.zvt_rules.proofs.MessageBytes.{message-size, read-sound, read-complete}

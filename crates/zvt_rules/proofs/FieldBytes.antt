@@ -11,14 +11,16 @@ use lib.Dec.{eqb}
 use borrow.Author.Tests.{le-leb, le-ltb, eqb-true}
 use Rattle.zvt_rules.specs.declared.Format.{Format}
 use Rattle.zvt_rules.specs.declared.Format.the-variants.{Unknown, Fixed, Digits, Container}
-use Rattle.zvt_rules.specs.Reading.{Reading, got, part, among}
+use Rattle.basics.specs.Lists.{part, among}
+use Rattle.zvt_rules.specs.Reading.{Reading, got}
 use Rattle.zvt_rules.specs.Limits.{mostObjects, deepest}
 use Rattle.zvt_rules.specs.Objects.{Form, formSize, lenOf, Objs, countObjs, RunRead, runOf}
 use Rattle.zvt_rules.specs.Fields.{formatOf, unknown, lengthDigit, digitsOf, unlessUndecimal, holdsDigits, digitsIn, Field, plain, container, fieldId, countField, FieldRead, valueOf, plainOf, containerOf, fieldBy, fieldOf, countFields, ListRead, listOf}
 use Rattle.zvt_rules.specs.believed.Writing.{lenBytes, sized, runBytes, digitBytes, lengthIn, fieldBytes, listBytes}
-use Rattle.zvt_rules.specs.believed.Grammar.{Bytes, RunOk, Decimals, FormOk, SizeOk, FieldOk, ListOk}
+use Rattle.basics.specs.believed.Lists.{Bytes}
+use Rattle.zvt_rules.specs.believed.Grammar.{RunOk, Decimals, FormOk, SizeOk, FieldOk, ListOk}
 use Rattle.zvt_rules.proofs.Readings.{got-same, got-not-refused, unless-got, unless-on, then-got, then-on}
-use Rattle.zvt_rules.proofs.Tests.{pick-test, allFrom, at-from}
+use Rattle.basics.proofs.Tests.{pick-test, allFrom, at-from}
 use Rattle.zvt_rules.proofs.FieldReading.{digit-in, digits-last, digits-in, plain-got, container-got, field-got, field-in, list-none, list-step}
 use Rattle.zvt_rules.proofs.ObjectReading.{part-length}
 use Rattle.zvt_rules.proofs.Lengths.{lenBytes-size, len-sound, len-written}

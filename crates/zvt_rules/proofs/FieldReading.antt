@@ -12,14 +12,15 @@ use lib.Dec.{ltb}
 use borrow.Author.Tests.{ltb-false, not-false}
 use Rattle.zvt_rules.specs.declared.Format.{Format}
 use Rattle.zvt_rules.specs.declared.Format.the-variants.{Unknown, Fixed, Digits, Container}
-use Rattle.zvt_rules.specs.Reading.{Reading, got, refused, no, unless, andThen, part, among}
+use Rattle.basics.specs.Lists.{part, among}
+use Rattle.zvt_rules.specs.Reading.{Reading, got, refused, no, unless, andThen}
 use Rattle.zvt_rules.specs.Limits.{mostBody, deepest}
 use Rattle.zvt_rules.specs.Objects.{formSize, Len, lenOf, RunRead, runOf}
 use Rattle.zvt_rules.specs.Fields.{formatOf, unknown, lengthDigit, digitsOf, decimal, unlessUndecimal, digitsIn, holdsDigits, plain, container, FieldRead, valueOf, plainOf, containerOf, fieldBy, fieldOf, listBy, listOf}
 use Rattle.zvt_rules.specs.Message.{BodyLength, lengthOf, Heading, headerSize, end, headerWith, headerOf}
 use Rattle.zvt_rules.specs.believed.Grammar.{Decimals}
 use Rattle.zvt_rules.proofs.Readings.{got-same, got-not-refused, unless-got, unless-on, then-got, then-alike}
-use Rattle.zvt_rules.proofs.Tests.{pick-test, leb-test, and-test}
+use Rattle.basics.proofs.Tests.{pick-test, leb-test, and-test, never}
 
 -- ---- length digits, from the i-th on
 pub digit-in : (b : ℕ) → lengthDigit b ≡ true → (0xF0 ≤ b) × (b ≤ 0xF9)
@@ -120,7 +121,7 @@ unfolding digitsIn
 digits-got id at s x a =
     pick-test (λ y. y ≡ got a → (holdsDigits id ≡ true → Decimals s) × (x ≡ got a)) (holdsDigits id)
     (λ _ e. let k = undecimal-got at s x a e in (λ _. k .0, k .1))
-    (λ t e. (λ y. absurd (let z : _≡_ {A = ℕ} 0 1 = cc in omega arith), e))
+    (λ t e. (λ y. never cc, e))
 
 pub plain-got : (id n at a v : ℕ) (s : List ℕ) (o : FieldRead) → plainOf id n at a v s ≡ got o
     → (a + v ≤ length s) × (holdsDigits id ≡ true → Decimals (part a (a + v) s)) × (o ≡ record { field = plain id (part a (a + v) s); size = a + v; count = n })

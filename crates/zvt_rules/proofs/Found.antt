@@ -14,19 +14,20 @@ use Rattle.zvt_rules.specs.declared.Span.{Span}
 use Rattle.zvt_rules.specs.declared.Listed.{Listed}
 use Rattle.zvt_rules.specs.declared.FieldAnswer.{FieldAnswer}
 use Rattle.zvt_rules.specs.declared.FieldAnswer.the-variants.{Absent, Value, Refused as field-refused}
-use Rattle.zvt_rules.specs.Reading.{Reading, got, refused, part, among}
+use Rattle.basics.specs.Lists.{part, among}
+use Rattle.zvt_rules.specs.Reading.{Reading, got, refused}
 use Rattle.zvt_rules.specs.Fields.{formatOf, Field, plain, container, fieldId}
 use Rattle.zvt_rules.specs.Message.{headerSize, layoutOf, Body, bytes, listed, Message, readOf, firstOf}
 use Rattle.zvt_rules.specs.believed.Writing.{sized, lenBytes, runBytes, lengthIn, fieldBytes, listBytes, bodyBytes, lengthBytes, messageBytes, fieldValue}
-use Rattle.zvt_rules.specs.believed.Grammar.{Bytes, ListOk, FieldsOk, MessageOk}
+use Rattle.basics.specs.believed.Lists.{Bytes, In}
+use Rattle.zvt_rules.specs.believed.Grammar.{ListOk, FieldsOk, MessageOk}
 use Rattle.zvt_rules.specs.Values.{bodyFields}
-use Rattle.zvt_rules.specs.Listed.{listedAt, nextAt, listedFrom, listAt, listedBody, bodyAt, listedMessage, namedListed, askedOf, fieldAnswer, handedBytes, handedPlace}
-use Rattle.zvt_rules.specs.Listed.{idsListed, firstIds, passwordIn, passwordSpan}
+use Rattle.zvt_rules.specs.Listed.{listedAt, nextAt, listedFrom, listAt, listedBody, bodyAt, listedMessage, namedListed, askedOf, fieldAnswer, handedBytes, handedPlace, idsListed, firstIds, passwordIn, passwordSpan}
 use Rattle.zvt_rules.specs.believed.Found.{Stands, Follows, StandsBy, Lacks, Handed}
-use Rattle.zvt_rules.specs.believed.Values.{In, Is, Tells}
-use Rattle.zvt_rules.proofs.Tests.{by-test, pick-true, pick-false, pick-test, neither}
+use Rattle.zvt_rules.specs.believed.Values.{Is, Tells}
+use Rattle.basics.proofs.Tests.{by-test, pick-true, pick-false, pick-test, neither, never}
 use Rattle.zvt_rules.proofs.Readings.{got-same}
-use Rattle.zvt_rules.proofs.Lists.{in-none, in-first, in-more}
+use Rattle.basics.proofs.Lists.{in-none, in-first, in-more}
 use Rattle.zvt_rules.proofs.MessageBytes.{first-exactly, read-complete, read-exactly, lengthBytes-size}
 use Rattle.zvt_rules.proofs.ObjectBytes.{bytes-part}
 use Rattle.zvt_rules.proofs.MessageShort.{fields-ok}
@@ -90,13 +91,13 @@ value-same : {p q : Span} → Value p ≡ Value q → p ≡ q
 value-same e = cc
 
 pub not-absent : {X : Type 0} {p : Span} → Absent ≡ Value p → X
-not-absent e = absurd (let z : _≡_ {A = ℕ} 0 1 = cc in omega arith)
+not-absent e = never cc
 
 not-refused : {X : Type 0} {r : Refusal} {p : Span} → field-refused r ≡ Value p → X
-not-refused e = absurd (let z : _≡_ {A = ℕ} 0 1 = cc in omega arith)
+not-refused e = never cc
 
 absent-refused : {X : Type 0} {r : Refusal} → Absent ≡ field-refused r → X
-absent-refused e = absurd (let z : _≡_ {A = ℕ} 0 1 = cc in omega arith)
+absent-refused e = never cc
 
 -- the field that an answer is of
 abbrev Split : ℕ → ℕ → List Field → Span → Type 0
@@ -154,8 +155,8 @@ never-refused id (l ∷ ls) r e =
 -- ---- of a message
 -- nothing is not a list with a field in it
 no-field : (before : List Field) (f : Field) (behind : List Field) → [] ≡ before ++ (f ∷ behind) → ⊥
-no-field [] f behind e = let z : _≡_ {A = ℕ} 0 1 = cc in omega arith
-no-field (g ∷ before) f behind e = let z : _≡_ {A = ℕ} 0 1 = cc in omega arith
+no-field [] f behind e = never cc
+no-field (g ∷ before) f behind e = never cc
 
 -- the value's place is fixed by what stands behind it
 same-place : (m : Message) (at : ℕ) (f : Field) (behind : List Field) (s front : List ℕ) (p : Span) → Placed m at f behind → s ≡ messageBytes m
@@ -221,7 +222,7 @@ module _ (s : List ℕ) (b : Bytes s) where
 
       there : (x : Reading Message) → readOf s ≡ x → askedOf id x ≡ Value p → StandsBy s id p
       there (got m) r e = in-body m r (m .body) refl e
-      there (refused r) q e = absurd (let z : _≡_ {A = ℕ} 0 1 = cc in omega arith)
+      there (refused r) q e = never cc
 
   -- Absent is answered exactly where the message is accepted and its list has no such field: F9.
   pub absent-exactly : (id : ℕ) → (fieldAnswer id s ≡ Absent) ↔ Lacks s id

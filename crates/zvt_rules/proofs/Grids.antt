@@ -10,13 +10,13 @@ use lib.Dec.{eqb}
 use borrow.Author.Tests.{eqb-true, eq-eqb}
 use Rattle.zvt_rules.specs.declared.Layout.{Layout}
 use Rattle.zvt_rules.specs.declared.Layout.the-variants.{Plain, List as FieldList, Secured}
-use Rattle.zvt_rules.specs.Reading.{among}
+use Rattle.basics.specs.Lists.{among}
 use Rattle.zvt_rules.specs.Fields.{formatOf, holdsDigits}
 use Rattle.zvt_rules.specs.Message.{layoutOf}
 use Rattle.zvt_rules.specs.believed.Grids.{··, says, ids, lists, secured, LaidOut}
-use Rattle.zvt_rules.specs.believed.Values.{In}
-use Rattle.zvt_rules.proofs.Tests.{true-false, pick-test, pick-false, or-test, no-for}
-use Rattle.zvt_rules.proofs.Lists.{in-none, in-first, in-more, Each, in-each}
+use Rattle.basics.specs.believed.Lists.{In}
+use Rattle.basics.proofs.Tests.{true-false, pick-test, pick-false, or-test, no-for}
+use Rattle.basics.proofs.Lists.{in-none, in-first, in-more, Each, in-each}
 
 -- what f says of k numbers from a on
 unfoldable pub drawn : {A : Type 0} → (ℕ → A) → ℕ → ℕ → List A

@@ -7,6 +7,7 @@ use Prim.Native.Nat.{ℕ, zero, suc, _+_, _-_, _<_}
 use native.Mathlib.Omega.{arith}
 use lib.ListN.{length, getD, drop}
 use lib.Seq.{take-append-seam}
+use Rattle.basics.proofs.Tests.{never}
 use Rattle.zvt_rules.specs.declared.Refusal.{Refusal}
 use Rattle.zvt_rules.specs.declared.Span.{Span}
 use Rattle.zvt_rules.specs.declared.FieldAnswer.{FieldAnswer}
@@ -20,11 +21,12 @@ use Rattle.zvt_rules.specs.declared.ToldAnswer.{ToldAnswer}
 use Rattle.zvt_rules.specs.declared.ToldAnswer.the-variants.{Told, Refused as body-refused}
 use Rattle.zvt_rules.specs.declared.HearAnswer.{HearAnswer}
 use Rattle.zvt_rules.specs.declared.HearAnswer.the-variants.{Heard, Refused as unheard}
-use Rattle.zvt_rules.specs.Reading.{Reading, got, refused, part}
+use Rattle.basics.specs.Lists.{part}
+use Rattle.zvt_rules.specs.Reading.{Reading, got, refused}
 use Rattle.zvt_rules.specs.Fields.{Field}
 use Rattle.zvt_rules.specs.Message.{Heading, headerSize, wholeHeader, Body, bytes, listed, Message, readOf}
 use Rattle.zvt_rules.specs.believed.Writing.{listBytes, bodyBytes, lengthBytes, messageBytes}
-use Rattle.zvt_rules.specs.believed.Grammar.{Bytes}
+use Rattle.basics.specs.believed.Lists.{Bytes}
 use Rattle.zvt_rules.specs.believed.Values.{Is}
 use Rattle.zvt_rules.specs.Values.{statusIn, statusFields, statusOf}
 use Rattle.zvt_rules.specs.Answers.{headerIn, asHeaderAnswer, headerAnswer, asReadAnswer, readAnswer}
@@ -53,7 +55,7 @@ unfolding toldAnswer readAnswer asReadAnswer
 body-refused-exactly s r = go (readOf s)
   where
     go : (x : Reading Message) → (toldAnswer x ≡ body-refused r) ↔ (asReadAnswer x ≡ Refused r)
-    go (got m) = (λ e. absurd (let z : _≡_ {A = ℕ} 0 1 = cc in omega arith), λ e. absurd (let z : _≡_ {A = ℕ} 0 1 = cc in omega arith))
+    go (got m) = (λ e. never cc, λ e. never cc)
     go (refused f) = (λ e. cc, λ e. cc)
 
 told-by : (s : List ℕ) (t : ToldBody) → toldAnswer (readOf s) ≡ Told t → (m : Message) × (readOf s ≡ got m) × (toldIn m ≡ t)
@@ -62,13 +64,13 @@ told-by s t e = go (readOf s) refl e
   where
     go : (x : Reading Message) → readOf s ≡ x → toldAnswer x ≡ Told t → (m : Message) × (readOf s ≡ got m) × (toldIn m ≡ t)
     go (got m) q h = (m, q, cc)
-    go (refused f) q h = absurd (let z : _≡_ {A = ℕ} 0 1 = cc in omega arith)
+    go (refused f) q h = never cc
 
 begins : (x : Body) (c : ℕ) → firstOf x ≡ Code c → (w : List ℕ) × (x ≡ bytes (c ∷ w))
 unfolding firstOf
-begins (bytes []) c e = absurd (let z : _≡_ {A = ℕ} 0 1 = cc in omega arith)
+begins (bytes []) c e = never cc
 begins (bytes (b ∷ w)) c e = (w, cc)
-begins (listed password fs) c e = absurd (let z : _≡_ {A = ℕ} 0 1 = cc in omega arith)
+begins (listed password fs) c e = never cc
 
 module _ (s : List ℕ) (t : ToldBody) (e : toldAnswer (readOf s) ≡ Told t) where
   pub status-heard : t .status ≡ statusOf s
@@ -117,11 +119,11 @@ nowhere-exactly id s b = (λ e p st. some p st (ap spanOf (sym (value-exactly s 
 password-none : (at : ℕ) (x : Body)
     → (passwordIn at x ≡ record { from = 0; to = 0 }) ↔ ((password : List ℕ) (fs : List Field) → x ≡ listed password fs → password ≡ [])
 unfolding passwordIn
-password-none at (bytes s) = (λ e w fs q. absurd (let z : _≡_ {A = ℕ} 0 1 = cc in omega arith), λ h. refl)
+password-none at (bytes s) = (λ e w fs q. never cc, λ h. refl)
 password-none at (listed [] fs) = (λ e w gs q. cc, λ h. refl)
 password-none at (listed (b ∷ w) fs) = (
   λ e. absurd (omega (arith, ap (λ (p : Span). p .to) e)),
-  λ h. absurd (let q = h (b ∷ w) fs refl in let z : _≡_ {A = ℕ} 0 1 = cc in omega arith),
+  λ h. absurd (let q = h (b ∷ w) fs refl in never cc),
 )
 
 pub no-password-exactly : (ids s : List ℕ) → Bytes s

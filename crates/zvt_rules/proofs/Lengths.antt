@@ -11,8 +11,9 @@ use Rattle.zvt_rules.specs.Reading.{Reading, got}
 use Rattle.zvt_rules.specs.Objects.{Form, bare, one, two, formSize, Len, oneByteLen, twoByteLen, lenOf}
 use Rattle.zvt_rules.specs.believed.Writing.{lenBytes, sized}
 use Rattle.zvt_rules.specs.Shortest.{formFor, isShortest}
-use Rattle.zvt_rules.specs.believed.Grammar.{Bytes, FormOk}
-use Rattle.zvt_rules.proofs.Tests.{pick-test}
+use Rattle.basics.specs.believed.Lists.{Bytes}
+use Rattle.zvt_rules.specs.believed.Grammar.{FormOk}
+use Rattle.basics.proofs.Tests.{pick-test}
 use Rattle.zvt_rules.proofs.Readings.{got-same, got-not-refused}
 
 -- ---- what is written is read, and what is read was written

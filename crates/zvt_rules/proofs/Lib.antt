@@ -1,11 +1,8 @@
 -- The laws of the definitions, by subject.
 pub mod Readings
-pub mod Tests
-pub mod Lists
 pub mod Grids
 pub mod BitLaws
 pub mod Limits
-pub mod Text
 pub mod ObjectReading
 pub mod Lengths
 pub mod ObjectShort

@@ -3,9 +3,9 @@ use mathlib.Core.Path.{_≡_, refl}
 use mathlib.Core.List.{List, [], _∷_}
 use Prim.Native.Nat.{ℕ, zero, suc}
 use lib.ListN.{replicate}
-use Rattle.zvt_rules.specs.Reading.{got, refused, no, unplaced, unless, andThen, among}
-use Rattle.zvt_rules.specs.Objects.{secondTag, tagSize, formSize, oneByteLen, twoByteLen, lenOf}
-use Rattle.zvt_rules.specs.Objects.{headWith, headOf, runBy, oneBy, runOf, countObj, countObjs}
+use Rattle.basics.specs.Lists.{among}
+use Rattle.zvt_rules.specs.Reading.{got, refused, no, unplaced, unless, andThen}
+use Rattle.zvt_rules.specs.Objects.{secondTag, tagSize, formSize, oneByteLen, twoByteLen, lenOf, headWith, headOf, runBy, oneBy, runOf, countObj, countObjs}
 use Rattle.zvt_rules.specs.Fields.{formatOf, unknown, fieldId, countField, countFields, valueOf, containerOf, fieldBy, fieldOf, listBy, listOf}
 use Rattle.zvt_rules.specs.Message.{longLength, lengthOf, headerWith, headerOf, layoutOf, bodyOf, Message, messageOf, wholeHeader, readOf}
 

@@ -10,13 +10,16 @@ use lib.ListN.{length}
 use lib.Seq.{drop-append-seam}
 use borrow.Author.Tests.{eq-eqb, ne-eqb}
 use Rattle.zvt_rules.specs.declared.Listed.{Listed}
-use Rattle.zvt_rules.specs.Reading.{Reading, got, refused, pick, among}
+use Rattle.basics.specs.Choice.{pick}
+use Rattle.basics.specs.Lists.{among}
+use Rattle.zvt_rules.specs.Reading.{Reading, got, refused}
 use Rattle.zvt_rules.specs.Fields.{Field, fieldId}
 use Rattle.zvt_rules.specs.Message.{headerSize, layoutOf, Body, bytes, listed, Message, readOf}
 use Rattle.zvt_rules.specs.believed.Writing.{fieldBytes, listBytes}
-use Rattle.zvt_rules.specs.believed.Grammar.{Bytes, ListOk, FieldsOk, MessageOk}
+use Rattle.basics.specs.believed.Lists.{Bytes}
+use Rattle.zvt_rules.specs.believed.Grammar.{ListOk, FieldsOk, MessageOk}
 use Rattle.zvt_rules.specs.Listed.{listedFrom, listedBody, listedMessage, idsListed}
-use Rattle.zvt_rules.proofs.Tests.{pick-test}
+use Rattle.basics.proofs.Tests.{pick-test}
 use Rattle.zvt_rules.proofs.ObjectBytes.{bytes-drop}
 use Rattle.zvt_rules.proofs.FieldBytes.{begins}
 use Rattle.zvt_rules.proofs.MessageBytes.{read-sound}

@@ -15,19 +15,20 @@ use Rattle.zvt_rules.specs.Fields.{Field, plain, container, fieldId}
 use Rattle.zvt_rules.specs.Message.{headerSize, Body, bytes, listed, Message, firstOf}
 use Rattle.zvt_rules.specs.believed.Writing.{fieldBytes, listBytes, bodyBytes, messageBytes}
 use Rattle.zvt_rules.specs.Shortest.{isShort}
-use Rattle.zvt_rules.specs.believed.Grammar.{Bytes, MessageOk}
+use Rattle.basics.specs.believed.Lists.{Bytes}
+use Rattle.zvt_rules.specs.believed.Grammar.{MessageOk}
 use Rattle.zvt_rules.specs.Values.{bodyFields}
-use Rattle.zvt_rules.specs.Text.{hexText, decimalText}
+use Rattle.basics.specs.Text.{hexText, decimalText}
 use Rattle.zvt_rules.specs.Listing.{idsText, bodyIds, formText, startText, sizeText, messageText, endText, okText, refusedText, lineAnd, linesFrom, listing}
-use Rattle.zvt_rules.specs.believed.Text.{ascii}
+use Rattle.basics.specs.believed.Text.{ascii}
 use Rattle.zvt_rules.specs.believed.Listing.{words, Ids, Form, Line, Last, Lists, Listing}
-use Rattle.zvt_rules.proofs.Tests.{by-test, true-false, pick-test}
+use Rattle.basics.proofs.Tests.{by-test, true-false, pick-test}
 use Rattle.zvt_rules.proofs.ObjectBytes.{bytes-drop, bytes-take}
 use Rattle.zvt_rules.proofs.MessageBytes.{first-sound, first-complete, message-size}
 use Rattle.zvt_rules.proofs.MessageShort.{short-exactly}
 use Rattle.zvt_rules.proofs.Numbers.{first-numbers}
 use Rattle.zvt_rules.proofs.Found.{list-ends}
-use Rattle.zvt_rules.proofs.Text.{hex-only, hex-is, decimal-exactly, decimal-one, decimal-more}
+use Rattle.basics.proofs.Text.{hex-only, hex-is, decimal-exactly, decimal-one, decimal-more}
 
 -- ---- the lines from a place on
 passed : (count left : ℕ) (s : List ℕ) → linesFrom count left s ≡ linesFrom count 0 (drop left s)

@@ -11,13 +11,15 @@ use lib.Dec.{ltb, eqb}
 use borrow.Author.Tests.{eqb-true, eqb-false, ltb-false, le-ltb, ne-eqb}
 use Rattle.zvt_rules.specs.declared.Layout.{Layout}
 use Rattle.zvt_rules.specs.declared.Layout.the-variants.{Plain, List as FieldList, Secured}
-use Rattle.zvt_rules.specs.Reading.{Reading, got, part}
+use Rattle.basics.specs.Lists.{part}
+use Rattle.zvt_rules.specs.Reading.{Reading, got}
 use Rattle.zvt_rules.specs.Limits.{mostBody, mostMessage, mostObjects}
 use Rattle.zvt_rules.specs.Fields.{Field, countFields, ListRead, listOf}
 use Rattle.zvt_rules.specs.Message.{BodyLength, longLength, lengthOf, Heading, headerSize, start, end, headerWith, headerOf, layoutOf, Body, bytes, listed, securedOf, bodyOf, Message, messageOf, firstOf, wholeHeader, readOf, countBody, countOf}
 use Rattle.zvt_rules.specs.believed.Writing.{listBytes, bodyBytes, lengthBytes, messageBytes}
-use Rattle.zvt_rules.specs.believed.Grammar.{Bytes, FieldsOk, LayoutOk, LengthOk, MessageOk}
-use Rattle.zvt_rules.proofs.Tests.{pick-test}
+use Rattle.basics.specs.believed.Lists.{Bytes}
+use Rattle.zvt_rules.specs.believed.Grammar.{FieldsOk, LayoutOk, LengthOk, MessageOk}
+use Rattle.basics.proofs.Tests.{pick-test, never}
 use Rattle.zvt_rules.proofs.Readings.{got-same, got-not-refused, unless-got, unless-on, then-got, then-on}
 use Rattle.zvt_rules.proofs.ObjectReading.{part-length}
 use Rattle.zvt_rules.proofs.ObjectBytes.{bytes-drop, bytes-part}
@@ -36,7 +38,7 @@ long-sound (x ∷ (y ∷ s)) l b e =
     let i : x < 256 = b 0 in
     let low : (y * 256 + x) % 256 ≡ x = omega arith in
     let high : (y * 256 + x) / 256 ≡ y = omega arith in
-    subst (Written (0xFF ∷ (x ∷ (y ∷ s)))) (got-same e) (cc, λ f. absurd (let z : _≡_ {A = ℕ} 0 1 = cc in omega arith))
+    subst (Written (0xFF ∷ (x ∷ (y ∷ s)))) (got-same e) (cc, λ f. never cc)
 
 pub length-sound : (s : List ℕ) (l : BodyLength) → Bytes s → lengthOf s ≡ got l → Written s l
 unfolding lengthOf lengthBytes Bytes

@@ -18,9 +18,10 @@ use Rattle.zvt_rules.specs.Message.{headerSize, layoutOf, Body, bytes, l
 use Rattle.zvt_rules.specs.believed.Writing.{listBytes, bodyBytes, messageBytes}
 use Rattle.zvt_rules.specs.Shortest.{shortList, shortBody, shortMessage, isShortBody, isShort, write, shorten}
 use Rattle.zvt_rules.specs.believed.Shortest.{formlessBody, SameValues}
-use Rattle.zvt_rules.specs.believed.Grammar.{Bytes, ListOk, FieldsOk, LayoutOk, LengthOk, MessageOk}
+use Rattle.basics.specs.believed.Lists.{Bytes}
+use Rattle.zvt_rules.specs.believed.Grammar.{ListOk, FieldsOk, LayoutOk, LengthOk, MessageOk}
 use Rattle.zvt_rules.proofs.Readings.{got-same, then-got, then-on}
-use Rattle.zvt_rules.proofs.Tests.{by-test}
+use Rattle.basics.proofs.Tests.{by-test}
 use Rattle.zvt_rules.proofs.FieldReading.{header-most}
 use Rattle.zvt_rules.proofs.FieldShort.{list-shorter, list-short-ok, list-count, list-same, list-short, list-kept, list-strict}
 use Rattle.zvt_rules.proofs.MessageBytes.{message-size, read-sound, read-complete}

@@ -12,17 +12,18 @@ use borrow.Author.Tests.{eqb-true, eqb-false, ne-eqb}
 use Rattle.zvt_rules.specs.declared.Span.{Span}
 use Rattle.zvt_rules.specs.declared.FieldAnswer.{FieldAnswer}
 use Rattle.zvt_rules.specs.declared.FieldAnswer.the-variants.{Absent, Value, Refused as field-refused}
-use Rattle.zvt_rules.specs.Reading.{Reading, got, refused, part}
+use Rattle.basics.specs.Lists.{part}
+use Rattle.zvt_rules.specs.Reading.{Reading, got, refused}
 use Rattle.zvt_rules.specs.Fields.{Field, fieldId}
 use Rattle.zvt_rules.specs.Message.{Message, readOf}
 use Rattle.zvt_rules.specs.believed.Writing.{listBytes, bodyBytes, lengthBytes, messageBytes, fieldValue}
-use Rattle.zvt_rules.specs.believed.Grammar.{Bytes}
+use Rattle.basics.specs.believed.Lists.{Bytes}
 use Rattle.zvt_rules.specs.Values.{isStatus}
 use Rattle.zvt_rules.specs.Listed.{askedOf, fieldAnswer}
 use Rattle.zvt_rules.specs.Name.{upToZero, NameAt, own, between, sizedName, nameIn, nameOf, nameAt, nameBytes, cardName, namePlace}
 use Rattle.zvt_rules.specs.believed.Found.{Stands, StandsBy}
 use Rattle.zvt_rules.specs.believed.Names.{UpToZero, Holds, Shown}
-use Rattle.zvt_rules.proofs.Tests.{by-test, pick-test, eqb-test, and-test}
+use Rattle.basics.proofs.Tests.{by-test, pick-test, eqb-test, and-test, never}
 use Rattle.zvt_rules.proofs.Found.{value-exactly, found-part, stands-read}
 
 -- ---- up to a zero byte
@@ -78,11 +79,11 @@ name-stands front value behind name (n, k) =
 sized-at : (x k a e : ℕ) → sizedName x k ≡ between a e → (0 < k) × (x ≡ a) × (x + k ≡ e)
 unfolding sizedName
 sized-at x k a e h =
-    by-test (eqb k 0) (λ t. absurd (let z : _≡_ {A = ℕ} 0 1 = cc (rw t at h) in omega arith))
+    by-test (eqb k 0) (λ t. never (cc (rw t at h)))
     (λ t. let n = eqb-false k 0 t in (omega arith, cc (rw t at h), cc (rw t at h)))
 
 not-own : {a e : ℕ} → own ≡ between a e → ⊥
-not-own h = let z : _≡_ {A = ℕ} 0 1 = cc in omega arith
+not-own h = never cc
 
 module _ (s : List ℕ) (b : Bytes s) where
   holds-at : (name : List ℕ) (from : ℕ) → Holds s name from
@@ -119,10 +120,10 @@ module _ (s : List ℕ) (b : Bytes s) where
   at-holds a e h = by-reading (readOf s) refl h
     where
       by-reading : (x : Reading Message) → readOf s ≡ x → nameOf s x ≡ between a e → (name : List ℕ) × Holds s name a × (a + length name ≡ e)
-      by-reading (refused f) r h = absurd (let z : _≡_ {A = ℕ} 0 1 = cc in omega arith)
+      by-reading (refused f) r h = never cc
       by-reading (got m) r h =
           by-test (isStatus m) (λ t. holds-found m a e r t (askedOf 0x8B (got m)) refl (rw t at h))
-          (λ t. absurd (let z : _≡_ {A = ℕ} 0 1 = cc (rw t at h) in omega arith))
+          (λ t. never (cc (rw t at h)))
 
   -- The name that is answered, and where it lies, are what is shown, and nothing else is: M13 to M15.
   pub shown-exactly : (till name : List ℕ) (p q r : ℕ × ℕ)

@@ -12,15 +12,16 @@ use Rattle.zvt_rules.specs.declared.Format.{Format}
 use Rattle.zvt_rules.specs.declared.Format.the-variants.{Unknown, Fixed, Digits, Container}
 use Rattle.zvt_rules.specs.declared.Layout.{Layout}
 use Rattle.zvt_rules.specs.declared.Layout.the-variants.{Plain, List as FieldList, Secured}
-use Rattle.zvt_rules.specs.Reading.{Reading, got, refused, no as no-at, pick, unless, andThen, part}
-use Rattle.zvt_rules.specs.Objects.{longTag, nested, secondTag, tagSize, oneByteLen, twoByteLen, lenOf}
-use Rattle.zvt_rules.specs.Objects.{from, to, headWith, headOf, runBy, oneBy, runOf, oneOf}
+use Rattle.basics.specs.Choice.{pick}
+use Rattle.basics.specs.Lists.{part}
+use Rattle.zvt_rules.specs.Reading.{Reading, got, refused, no as no-at, unless, andThen}
+use Rattle.zvt_rules.specs.Objects.{longTag, nested, secondTag, tagSize, oneByteLen, twoByteLen, lenOf, from, to, headWith, headOf, runBy, oneBy, runOf, oneOf}
 use Rattle.zvt_rules.specs.Fields.{digitsOf, unlessUndecimal, holdsDigits, digitsIn, valueOf, plainOf, containerOf, fieldBy, fieldOf, listBy, listOf}
 use Rattle.zvt_rules.specs.Message.{longLength, lengthOf, headerWith, headerOf, securedOf, bodyOf, messageOf, wholeHeader, firstOf, readOf}
 use Rattle.zvt_rules.proofs.Readings.{got-not-refused}
 use Rattle.zvt_rules.proofs.ObjectReading.{part-length, head-in, one-in, run-none, run-step, one-step}
 use Rattle.zvt_rules.proofs.FieldReading.{field-in, list-none, list-step}
-use Rattle.zvt_rules.proofs.Tests.{pick-test, between, or-test, eqb-test}
+use Rattle.basics.proofs.Tests.{pick-test, between, or-test, eqb-test}
 
 abbrev Low : Refusal → Type 0
 Low r = (leb 1 (r .number) && leb (r .number) 10) || eqb (r .number) 22 ≡ true

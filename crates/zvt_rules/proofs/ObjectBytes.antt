@@ -9,14 +9,14 @@ use native.Mathlib.Omega.{arith}
 use lib.ListN.{length, getD, take, drop, length-append, length-drop, take-append-drop}
 use lib.Seq.{getD-drop, take-add, take-append-seam, drop-append-seam, drop-append-add, drop-at}
 use borrow.Author.Tests.{lt-leb, ne-eqb, le-ltb}
-use Rattle.zvt_rules.specs.Reading.{Reading, got, no, unless, part}
+use Rattle.basics.specs.Lists.{part}
+use Rattle.zvt_rules.specs.Reading.{Reading, got, no, unless}
 use Rattle.zvt_rules.specs.Limits.{mostObjects}
-use Rattle.zvt_rules.specs.Objects.{longTag, topBit, nested, secondTag, tagSize, Form, formSize, lenOf, Head, from, to, headWith}
-use Rattle.zvt_rules.specs.Objects.{headOf, Obj, leaf, branch, Objs, none, more, OneRead, RunRead, runOf, oneOf}
-use Rattle.zvt_rules.specs.Objects.{countObj, countObjs}
+use Rattle.zvt_rules.specs.Objects.{longTag, topBit, nested, secondTag, tagSize, Form, formSize, lenOf, Head, from, to, headWith, headOf, Obj, leaf, branch, Objs, none, more, OneRead, RunRead, runOf, oneOf, countObj, countObjs}
 use Rattle.zvt_rules.specs.believed.Writing.{lenBytes, sized, objBytes, runBytes}
-use Rattle.zvt_rules.specs.believed.Grammar.{Bytes, TagOk, FormOk, ObjOk, RunOk}
-use Rattle.zvt_rules.proofs.Tests.{pick-test, pick-true, pick-false}
+use Rattle.basics.specs.believed.Lists.{Bytes}
+use Rattle.zvt_rules.specs.believed.Grammar.{TagOk, FormOk, ObjOk, RunOk}
+use Rattle.basics.proofs.Tests.{pick-test, pick-true, pick-false}
 use Rattle.zvt_rules.proofs.Readings.{got-same, got-not-refused, unless-got, then-on}
 use Rattle.zvt_rules.proofs.ObjectReading.{part-length, head-got, head-in, inside, one-got, one-in, run-none, run-step, one-step, run-got}
 use Rattle.zvt_rules.proofs.Lengths.{lenBytes-size, object-size, len-written, len-sound}

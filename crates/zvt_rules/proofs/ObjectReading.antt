@@ -9,12 +9,12 @@ use lib.ListN.{length, getD, take, drop, length-take, length-drop}
 use lib.Seq.{take-all}
 use lib.Dec.{ltb, leb, eqb}
 use borrow.Author.Tests.{ltb-false, leb-false, eqb-false}
-use Rattle.zvt_rules.specs.Reading.{Reading, got, no, pick, unless, andThen, part}
+use Rattle.basics.specs.Choice.{pick}
+use Rattle.basics.specs.Lists.{part}
+use Rattle.zvt_rules.specs.Reading.{Reading, got, no, unless, andThen}
 use Rattle.zvt_rules.specs.Limits.{mostObjects}
-use Rattle.zvt_rules.specs.Objects.{longTag, topBit, nested, secondTag, tagSize, formSize, Len, oneByteLen, twoByteLen, lenOf}
-use Rattle.zvt_rules.specs.Objects.{Head, from, to, headWith, headOf, Obj, none, more}
-use Rattle.zvt_rules.specs.Objects.{OneRead, RunRead, leafOf, branchOf, runBy, oneBy, runOf, oneOf}
-use Rattle.zvt_rules.proofs.Tests.{pick-test}
+use Rattle.zvt_rules.specs.Objects.{longTag, topBit, nested, secondTag, tagSize, formSize, Len, oneByteLen, twoByteLen, lenOf, Head, from, to, headWith, headOf, Obj, none, more, OneRead, RunRead, leafOf, branchOf, runBy, oneBy, runOf, oneOf}
+use Rattle.basics.proofs.Tests.{pick-test}
 use Rattle.zvt_rules.proofs.Readings.{got-same, got-not-refused, unless-got, then-got, then-alike}
 
 -- a part up to the end is what is left

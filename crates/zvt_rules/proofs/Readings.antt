@@ -1,8 +1,7 @@
 -- What is known of a reading that gave something, step by step. Assumes nothing.
 use mathlib.Core.Path.{_≡_, refl, sym}
 use mathlib.Core.Bool.{Bool, true, false}
-use Prim.Native.Nat.{ℕ}
-use native.Mathlib.Omega.{arith}
+use Rattle.basics.proofs.Tests.{never}
 use Rattle.zvt_rules.specs.declared.Refusal.{Refusal}
 use Rattle.zvt_rules.specs.Reading.{Reading, got, refused, unless, andThen}
 
@@ -12,7 +11,7 @@ got-same e = cc
 
 -- it is not refused
 pub got-not-refused : {A : Type 0} {a : A} {r : Refusal} → _≡_ {A = Reading A} (got a) (refused r) → ⊥
-got-not-refused e = let z : _≡_ {A = ℕ} 0 1 = cc in omega arith
+got-not-refused e = never cc
 
 -- the test did not hold
 pub unless-got : {A : Type 0} (t : Bool) (r : Refusal) (x : Reading A) (a : A) → unless t r x ≡ got a → (t ≡ false) × (x ≡ got a)

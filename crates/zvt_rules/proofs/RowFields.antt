@@ -12,21 +12,23 @@ use borrow.Author.Tests.{lt-ltb, ltb-true, ltb-false, not-true, not-false}
 use Rattle.zvt_rules.specs.declared.Refusal.{Refusal}
 use Rattle.zvt_rules.specs.declared.Format.{Format}
 use Rattle.zvt_rules.specs.declared.Format.the-variants.{Unknown, Fixed, Digits, Container}
-use Rattle.zvt_rules.specs.Reading.{Reading, got, refused, no, unless, among}
+use Rattle.basics.specs.Lists.{among}
+use Rattle.zvt_rules.specs.Reading.{Reading, got, refused, no, unless}
 use Rattle.zvt_rules.specs.Objects.{Form, formSize, lenOf, runOf}
 use Rattle.zvt_rules.specs.Fields.{formatOf, unknown, lengthDigit, digitsOf, decimal, unlessUndecimal, holdsDigits, digitsIn, Field, plain, fieldId, countField, valueOf, plainOf, containerOf, fieldBy, fieldOf, listOf}
 use Rattle.zvt_rules.specs.believed.Writing.{lenBytes, sized, digitBytes, lengthIn, fieldBytes}
-use Rattle.zvt_rules.specs.believed.Grammar.{Bytes, FormOk, Decimals, SizeOk, FieldOk}
+use Rattle.basics.specs.believed.Lists.{Bytes}
+use Rattle.zvt_rules.specs.believed.Grammar.{FormOk, Decimals, SizeOk, FieldOk}
 use Rattle.zvt_rules.specs.believed.Digits.{Number, Says}
 use Rattle.zvt_rules.specs.believed.Rows.{Cut, RunNo, New, Undecimal, ListNo, noField, twice, short, noDigit, undecimal, sizedIn, inside, behind}
-use Rattle.zvt_rules.proofs.Tests.{by-test, pick-true, leb-test, leb-fails, and-test, nand-test, fails}
+use Rattle.basics.proofs.Tests.{by-test, pick-true, leb-test, leb-fails, and-test, nand-test, fails, never}
 use Rattle.zvt_rules.proofs.Readings.{unless-on, then-on, then-stop}
 use Rattle.zvt_rules.proofs.ObjectReading.{part-length}
 use Rattle.zvt_rules.proofs.Lengths.{lenBytes-size, len-sound, len-written}
 use Rattle.zvt_rules.proofs.ObjectBytes.{bytes-drop, bytes-part}
 use Rattle.zvt_rules.proofs.FieldReading.{digits-in, value-in, field-in, field-got, list-none, list-step}
 use Rattle.zvt_rules.proofs.FieldBytes.{digitBytes-size, digits-written, digits-sound, cut, value-back, back-within, back, field-by, six, container-id, begins, field-sound, field-complete}
-use Rattle.zvt_rules.proofs.Lists.{among-exactly}
+use Rattle.basics.proofs.Lists.{among-exactly}
 use Rattle.zvt_rules.proofs.RowReadings.{Told, is, not, told-unless, moved, placed, told-pick, told-then, told-as, filled}
 use Rattle.zvt_rules.proofs.RowObjects.{SizedRead, sized-read, len-told, value-short, run-refused, run-told}
 
@@ -46,9 +48,9 @@ new-test seen id = fails (among-exactly seen id)
 unknown-test : (f : Format) → (unknown f ≡ true) ↔ (f ≡ Unknown)
 unfolding unknown
 unknown-test Unknown = (λ e. refl, λ e. refl)
-unknown-test (Fixed k) = (λ e. absurd (false≢true e), λ e. absurd (let z : _≡_ {A = ℕ} 0 1 = cc in omega arith))
-unknown-test (Digits d) = (λ e. absurd (false≢true e), λ e. absurd (let z : _≡_ {A = ℕ} 0 1 = cc in omega arith))
-unknown-test Container = (λ e. absurd (false≢true e), λ e. absurd (let z : _≡_ {A = ℕ} 0 1 = cc in omega arith))
+unknown-test (Fixed k) = (λ e. absurd (false≢true e), λ e. never cc)
+unknown-test (Digits d) = (λ e. absurd (false≢true e), λ e. never cc)
+unknown-test Container = (λ e. absurd (false≢true e), λ e. never cc)
 
 -- ---- what a row says is refused
 -- the first byte that is not decimal

@@ -12,14 +12,16 @@ use borrow.Author.Tests.{ltb-true, ltb-false, lt-ltb, le-ltb, eqb-true, ne-eqb}
 use Rattle.zvt_rules.specs.declared.Refusal.{Refusal}
 use Rattle.zvt_rules.specs.declared.Layout.{Layout}
 use Rattle.zvt_rules.specs.declared.Layout.the-variants.{Plain, List as FieldList, Secured}
-use Rattle.zvt_rules.specs.Reading.{Reading, got, refused, no, unplaced, unless, andThen, part}
+use Rattle.basics.specs.Lists.{part}
+use Rattle.zvt_rules.specs.Reading.{Reading, got, refused, no, unplaced, unless, andThen}
 use Rattle.zvt_rules.specs.Message.{BodyLength, longLength, lengthOf, Heading, headerSize, start, end, headerWith, headerOf, layoutOf, securedOf, bodyOf, Message, messageOf, firstOf, wholeHeader, readOf}
 use Rattle.zvt_rules.specs.believed.Writing.{lengthBytes, messageBytes}
 use Rattle.zvt_rules.specs.Shortest.{write, shorten}
 use Rattle.zvt_rules.specs.Answers.{shortened}
-use Rattle.zvt_rules.specs.believed.Grammar.{Bytes, LengthOk, MessageOk}
+use Rattle.basics.specs.believed.Lists.{Bytes}
+use Rattle.zvt_rules.specs.believed.Grammar.{LengthOk, MessageOk}
 use Rattle.zvt_rules.specs.believed.Rows.{SecuredNo, short, undecimal, behind, BodyNo, framed, HeaderNo, tooLong, WholeNo, header, leftOver, FramedNo, ReadNo, FirstNo, ShortNo, unread, tight}
-use Rattle.zvt_rules.proofs.Tests.{pick-test}
+use Rattle.basics.proofs.Tests.{pick-test}
 use Rattle.zvt_rules.proofs.Readings.{got-same, got-not-refused, unless-on, unless-got, then-got, then-on, then-stop}
 use Rattle.zvt_rules.proofs.ObjectReading.{part-length}
 use Rattle.zvt_rules.proofs.ObjectBytes.{bytes-drop, bytes-part}

@@ -11,13 +11,14 @@ use lib.Seq.{drop-append-seam, length-take-le}
 use lib.Dec.{ltb, leb, eqb}
 use borrow.Author.Tests.{lt-leb, le-leb, ne-eqb, lt-ltb, le-ltb, eq-eqb, eqb-true, eqb-false, ltb-true, ltb-false, leb-true, leb-false}
 use Rattle.zvt_rules.specs.declared.Refusal.{Refusal}
-use Rattle.zvt_rules.specs.Reading.{got, refused, no, unless, part}
-use Rattle.zvt_rules.specs.Objects.{longTag, topBit, nested, secondTag, tagSize, Form, bare, one, two, formSize, Len, oneByteLen, twoByteLen, lenOf}
-use Rattle.zvt_rules.specs.Objects.{from, to, headWith, headOf, Obj, runOf, oneOf, countObj}
+use Rattle.basics.specs.Lists.{part}
+use Rattle.zvt_rules.specs.Reading.{got, refused, no, unless}
+use Rattle.zvt_rules.specs.Objects.{longTag, topBit, nested, secondTag, tagSize, Form, bare, one, two, formSize, Len, oneByteLen, twoByteLen, lenOf, from, to, headWith, headOf, Obj, runOf, oneOf, countObj}
 use Rattle.zvt_rules.specs.believed.Writing.{lenBytes, sized, objBytes}
-use Rattle.zvt_rules.specs.believed.Grammar.{Bytes, TagOk, FormOk, ObjOk}
+use Rattle.basics.specs.believed.Lists.{Bytes}
+use Rattle.zvt_rules.specs.believed.Grammar.{TagOk, FormOk, ObjOk}
 use Rattle.zvt_rules.specs.believed.Rows.{SizedNo, short, wrong, Room, RunNo, tooMany, tooDeep, tagShort, tagWrong, sizedIn, inside, behind}
-use Rattle.zvt_rules.proofs.Tests.{pick-true}
+use Rattle.basics.proofs.Tests.{pick-true}
 use Rattle.zvt_rules.proofs.Readings.{then-on, then-stop}
 use Rattle.zvt_rules.proofs.ObjectReading.{part-length, tag-in, len-in, head-in, one-in, run-none, run-step, one-step}
 use Rattle.zvt_rules.proofs.Lengths.{lenBytes-size, len-sound, len-written}

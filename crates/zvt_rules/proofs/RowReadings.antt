@@ -7,7 +7,8 @@ use Prim.Native.Nat.{ℕ, _+_, _-_, _<_, _≤_}
 use native.Mathlib.Omega.{arith}
 use lib.ListN.{length, take, drop, replicate, length-append, length-drop, length-replicate, take-append-drop}
 use Rattle.zvt_rules.specs.declared.Refusal.{Refusal}
-use Rattle.zvt_rules.specs.Reading.{Reading, got, refused, no, pick, unless, andThen}
+use Rattle.basics.specs.Choice.{pick}
+use Rattle.zvt_rules.specs.Reading.{Reading, got, refused, no, unless, andThen}
 use Rattle.zvt_rules.specs.believed.Rows.{Cut}
 use Rattle.zvt_rules.proofs.Readings.{got-not-refused}
 

@@ -13,18 +13,20 @@ use Rattle.zvt_rules.specs.declared.Format.the-variants.{Unknown, Fixed,
 use Rattle.zvt_rules.specs.declared.ToldCode.the-variants.{Code}
 use Rattle.zvt_rules.specs.declared.ToldAmount.the-variants.{Amount}
 use Rattle.zvt_rules.specs.declared.ToldReceipt.the-variants.{Receipt}
-use Rattle.zvt_rules.specs.Reading.{Reading, got, refused, among}
+use Rattle.basics.specs.Lists.{among}
+use Rattle.zvt_rules.specs.Reading.{Reading, got, refused}
 use Rattle.zvt_rules.specs.Fields.{formatOf, holdsDigits, Field, plain, container, fieldId}
 use Rattle.zvt_rules.specs.Message.{layoutOf, Body, bytes, listed, Message, readOf}
 use Rattle.zvt_rules.specs.believed.Writing.{lenBytes, sized, runBytes, lengthIn, fieldBytes, fieldValue}
-use Rattle.zvt_rules.specs.believed.Grammar.{Bytes, SizeOk, FieldOk, ListOk, FieldsOk, LayoutOk, MessageOk}
+use Rattle.basics.specs.believed.Lists.{Bytes, In}
+use Rattle.zvt_rules.specs.believed.Grammar.{SizeOk, FieldOk, ListOk, FieldsOk, LayoutOk, MessageOk}
 use Rattle.zvt_rules.specs.Digits.{numberOf}
 use Rattle.zvt_rules.specs.Values.{isStatus, Found, missing, found, valueIn, codeOf, amountOf, receiptOf, codeIn, amountIn, receiptIn, statusIn, bodyFields, statusFields, statusOf}
 use Rattle.zvt_rules.specs.believed.Digits.{Spells}
-use Rattle.zvt_rules.specs.believed.Values.{In, Tells, TellsNumber}
+use Rattle.zvt_rules.specs.believed.Values.{Tells, TellsNumber}
 use Rattle.zvt_rules.specs.believed.Found.{Leads}
-use Rattle.zvt_rules.proofs.Tests.{pick-true, pick-false, pick-test, neither}
-use Rattle.zvt_rules.proofs.Lists.{in-none, in-first, in-more}
+use Rattle.basics.proofs.Tests.{pick-true, pick-false, pick-test, neither, never}
+use Rattle.basics.proofs.Lists.{in-none, in-first, in-more}
 use Rattle.zvt_rules.proofs.Spelling.{spells-exactly, digits-say, said-once, length-said}
 use Rattle.zvt_rules.proofs.FieldBytes.{digitBytes-size}
 use Rattle.zvt_rules.proofs.MessageBytes.{read-sound, read-complete}
@@ -60,7 +62,7 @@ value-behind (container form os) ok =
 
 -- ---- what is found by an id
 not-found : {X : Type 0} {value : List ℕ} → _≡_ {A = Found} missing (found value) → X
-not-found e = absurd (let z : _≡_ {A = ℕ} 0 1 = cc in omega arith)
+not-found e = never cc
 
 -- the value of the first field with that id
 pub found-exactly : (id : ℕ) (fs : List Field) (value : List ℕ) → (valueIn id fs ≡ found value) ↔ First id fs value
@@ -194,12 +196,12 @@ Numbered x n = (value : List ℕ) × (x ≡ found value) × (numberOf value ≡ 
 
 amount-from : (x : Found) (n : ℕ) → (amountOf x ≡ Amount n) ↔ Numbered x n
 unfolding amountOf Numbered
-amount-from missing n = (λ e. absurd (let z : _≡_ {A = ℕ} 0 1 = cc in omega arith), λ k. not-found (k .1))
+amount-from missing n = (λ e. never cc, λ k. not-found (k .1))
 amount-from (found value) n = (λ e. (value, refl, cc), λ k. let e = k .1 in let f = k .2 in cc)
 
 receipt-from : (x : Found) (n : ℕ) → (receiptOf x ≡ Receipt n) ↔ Numbered x n
 unfolding receiptOf Numbered
-receipt-from missing n = (λ e. absurd (let z : _≡_ {A = ℕ} 0 1 = cc in omega arith), λ k. not-found (k .1))
+receipt-from missing n = (λ e. never cc, λ k. not-found (k .1))
 receipt-from (found value) n = (λ e. (value, refl, cc), λ k. let e = k .1 in let f = k .2 in cc)
 
 module _ (s : List ℕ) (b : Bytes s) where
@@ -218,7 +220,7 @@ module _ (s : List ℕ) (b : Bytes s) where
   code-exactly c = (to (valueIn 0x27 (statusFields (readOf s))) refl, λ k. rw (in-status s 0x27 (c ∷ []) b (λ e. omega arith) .1 k))
     where
       to : (x : Found) → valueIn 0x27 (statusFields (readOf s)) ≡ x → codeOf x ≡ Code c → Tells s 0x27 (c ∷ [])
-      to missing e h = absurd (let z : _≡_ {A = ℕ} 0 1 = cc in omega arith)
+      to missing e h = never cc
       to (found value) e h =
           let k = in-status s 0x27 value b (λ e. omega arith) .0 e in
           let first : getD value 0 0 ≡ c = cc in

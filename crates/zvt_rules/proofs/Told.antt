@@ -8,14 +8,16 @@ use lib.Dec.{eqb}
 use borrow.Author.Tests.{eqb-true}
 use Rattle.zvt_rules.specs.declared.Layout.{Layout}
 use Rattle.zvt_rules.specs.declared.Layout.the-variants.{Plain, List as FieldList, Secured}
-use Rattle.zvt_rules.specs.Reading.{got, among}
+use Rattle.basics.specs.Lists.{among}
+use Rattle.zvt_rules.specs.Reading.{got}
 use Rattle.zvt_rules.specs.Fields.{formatOf, Field, plain, container, fieldId}
 use Rattle.zvt_rules.specs.Message.{Body, bytes, listed, Message, readOf, layoutOf}
-use Rattle.zvt_rules.specs.believed.Grammar.{Bytes, SizeOk, FieldOk, ListOk, FieldsOk, LayoutOk, MessageOk}
+use Rattle.basics.specs.believed.Lists.{Bytes}
+use Rattle.zvt_rules.specs.believed.Grammar.{SizeOk, FieldOk, ListOk, FieldsOk, LayoutOk, MessageOk}
 use Rattle.zvt_rules.specs.Values.{Found, missing, found, valueIn, bodyFields}
 use Rattle.zvt_rules.specs.Digits.{numberOf}
 use Rattle.zvt_rules.specs.believed.Writing.{fieldValue}
-use Rattle.zvt_rules.proofs.Tests.{pick-test}
+use Rattle.basics.proofs.Tests.{pick-test}
 use Rattle.zvt_rules.proofs.DigitLaws.{number-below}
 use Rattle.zvt_rules.proofs.MessageBytes.{read-sound}
 

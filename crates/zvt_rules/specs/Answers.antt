@@ -13,8 +13,7 @@ use Rattle.zvt_rules.specs.declared.FirstAnswer.{FirstAnswer}
 use Rattle.zvt_rules.specs.declared.FirstAnswer.the-variants.{Accepted as first-accepted, Refused as first-refused}
 use Rattle.zvt_rules.specs.declared.ShortenAnswer.{ShortenAnswer}
 use Rattle.zvt_rules.specs.declared.ShortenAnswer.the-variants.{Written, Refused as short-refused}
-use Rattle.zvt_rules.specs.Reading.{Reading, got, refused, unplaced, unless, andThen}
-use Rattle.zvt_rules.specs.Buffers.{writtenLeaves}
+use Rattle.zvt_rules.specs.Reading.{Reading, got, refused, unplaced, unless, andThen, writtenLeaves}
 use Rattle.zvt_rules.specs.Message.{Heading, headerSize, start, wholeHeader, Message, readOf, firstOf, countOf}
 use Rattle.zvt_rules.specs.believed.Writing.{bodyBytes, messageBytes}
 use Rattle.zvt_rules.specs.Shortest.{isShort, shorten}

@@ -7,7 +7,9 @@ use lib.ListN.{length, getD, drop}
 use lib.Dec.{ltb, leb}
 use Rattle.zvt_rules.specs.declared.Format.{Format}
 use Rattle.zvt_rules.specs.declared.Format.the-variants.{Unknown, Fixed, Digits, Container}
-use Rattle.zvt_rules.specs.Reading.{Reading, got, refused, no, pick, unless, andThen, part, among}
+use Rattle.basics.specs.Choice.{pick}
+use Rattle.basics.specs.Lists.{part, among}
+use Rattle.zvt_rules.specs.Reading.{Reading, got, refused, no, unless, andThen}
 use Rattle.zvt_rules.specs.Limits.{deepest}
 use Rattle.zvt_rules.specs.Objects.{Form, formSize, lenOf, Objs, countObjs, runOf}
 

@@ -2,7 +2,6 @@
 -- a reader to believe.
 pub mod Reading
 pub mod Limits
-pub mod Buffers
 pub mod Objects
 pub mod Fields
 pub mod Message
@@ -13,6 +12,5 @@ pub mod Answers
 pub mod Heard
 pub mod Listed
 pub mod Name
-pub mod Text
 pub mod Listing
 pub mod believed

@@ -4,12 +4,13 @@ use mathlib.Core.Bool.{Bool, true, false}
 use mathlib.Core.List.{List, [], _∷_, _++_}
 use lib.ListN.{length}
 use lib.Dec.{ltb}
-use Rattle.zvt_rules.specs.Reading.{Reading, got, refused, pick}
+use Rattle.basics.specs.Choice.{pick}
+use Rattle.zvt_rules.specs.Reading.{Reading, got, refused}
 use Rattle.zvt_rules.specs.Fields.{Field, fieldId}
 use Rattle.zvt_rules.specs.Message.{Message, Body, bytes, listed, firstOf}
 use Rattle.zvt_rules.specs.believed.Writing.{bodyBytes, messageBytes}
 use Rattle.zvt_rules.specs.Shortest.{isShort}
-use Rattle.zvt_rules.specs.Text.{hexText, decimalText}
+use Rattle.basics.specs.Text.{hexText, decimalText}
 
 -- M17: "the ids of the fields in order"; "one blank stands between words"
 unfoldable pub idsText : List Field → List ℕ

@@ -6,7 +6,9 @@ use lib.ListN.{length, take, drop}
 use lib.Dec.{ltb, eqb}
 use Rattle.zvt_rules.specs.declared.Layout.{Layout}
 use Rattle.zvt_rules.specs.declared.Layout.the-variants.{Plain, List as FieldList, Secured}
-use Rattle.zvt_rules.specs.Reading.{Reading, got, refused, no, unplaced, pick, unless, andThen, part, among}
+use Rattle.basics.specs.Choice.{pick}
+use Rattle.basics.specs.Lists.{part, among}
+use Rattle.zvt_rules.specs.Reading.{Reading, got, refused, no, unplaced, unless, andThen}
 use Rattle.zvt_rules.specs.Limits.{mostBody}
 use Rattle.zvt_rules.specs.Fields.{Field, countFields, unlessUndecimal, listOf}
 

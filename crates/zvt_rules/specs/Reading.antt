@@ -1,9 +1,8 @@
 -- What a reading gives: the thing read, or why it is refused. Definitions only.
-use Prim.Native.Nat.{ℕ, _-_}
-use mathlib.Core.Bool.{Bool, true, false, _||_}
-use mathlib.Core.List.{List, [], _∷_}
-use lib.ListN.{take, drop}
-use lib.Dec.{eqb}
+use Prim.Native.Nat.{ℕ}
+use mathlib.Core.Bool.{Bool, true, false}
+use mathlib.Core.List.{List}
+use Rattle.basics.specs.Buffers.{front}
 use Rattle.zvt_rules.specs.declared.Refusal.{Refusal}
 use Rattle.zvt_rules.specs.declared.Place.the-variants.{Nowhere, At}
 
@@ -19,11 +18,6 @@ no number at = record { number = number; place = At at }
 abbrev pub unplaced : ℕ → Refusal
 unplaced number = record { number = number; place = Nowhere }
 
--- the one or the other, by a test
-abbrev pub pick : {A : Type 0} → Bool → A → A → A
-pick true a b = a
-pick false a b = b
-
 -- refused where the test holds, else as what follows says
 unfoldable pub unless : {A : Type 0} → Bool → Refusal → Reading A → Reading A
 unless true r x = refused r
@@ -34,11 +28,8 @@ unfoldable pub andThen : {A B : Type 0} → Reading A → (A → Reading B) → 
 andThen (got a) f = f a
 andThen (refused r) f = refused r
 
--- from place a up to, not including, place e
-abbrev pub part : ℕ → ℕ → List ℕ → List ℕ
-part a e s = take (e - a) (drop a s)
-
--- one of a list of numbers
-unfoldable pub among : List ℕ → ℕ → Bool
-among [] x = false
-among (k ∷ ks) x = eqb k x || among ks x
+-- what is left in a buffer that is lent for what was read. R32: "A refusal leaves the desk and all lent buffers as they were." R33:
+-- "Success leaves the bytes of a lent buffer behind those written as they were."
+unfoldable pub writtenLeaves : Reading (List ℕ) → List ℕ → List ℕ
+writtenLeaves (got w) out = front w out
+writtenLeaves (refused r) out = out

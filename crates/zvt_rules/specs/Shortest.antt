@@ -4,7 +4,8 @@ use mathlib.Core.Bool.{Bool, true, not, _&&_, _||_}
 use mathlib.Core.List.{List, [], _∷_}
 use lib.ListN.{length}
 use lib.Dec.{ltb, leb}
-use Rattle.zvt_rules.specs.Reading.{Reading, got, pick, andThen}
+use Rattle.basics.specs.Choice.{pick}
+use Rattle.zvt_rules.specs.Reading.{Reading, got, andThen}
 use Rattle.zvt_rules.specs.Objects.{Form, bare, one, two, Obj, leaf, branch, Objs, none, more}
 use Rattle.zvt_rules.specs.Fields.{Field, plain, container}
 use Rattle.zvt_rules.specs.Message.{Body, bytes, listed, Message, readOf}

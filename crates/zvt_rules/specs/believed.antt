@@ -10,5 +10,4 @@ pub mod Rows
 pub mod Faults
 pub mod Found
 pub mod Names
-pub mod Text
 pub mod Listing

@@ -4,7 +4,7 @@ use mathlib.Core.Path.{_≡_, refl, sym, _∙_}
 use lib.ListN.{length, drop}
 use borrow.Author.Needs.{needs}
 use native.Mathlib.Omega.{arith}
-use Rattle.zvt_rules.specs.Text.{text, addAll}
+use Rattle.basics.specs.Text.{text, addAll}
 use Rattle.buffers.proofs.TextLaws.{addAll-step, addAll-none, goes-on}
 use Rattle.buffers.proofs.add_all.Statement.{statement}
 use Rattle.buffers.proofs.add_all.Tie as tie

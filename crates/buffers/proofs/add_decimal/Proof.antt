@@ -2,7 +2,7 @@
 use mathlib.Core.Path.{_∙_, ap}
 use mathlib.Core.List.{List}
 use Prim.Native.Nat.{ℕ}
-use Rattle.zvt_rules.specs.Text.{text, addAll}
+use Rattle.basics.specs.Text.{text, addAll}
 use Rattle.buffers.proofs.TextLaws.{decimals}
 use borrow.Author.Needs.{needs}
 use Rattle.buffers.proofs.add_decimal.Statement.{statement}

@@ -1,5 +1,5 @@
 -- `buffers::add_hex`: the two digits. Assumes nothing.
-use Rattle.zvt_rules.specs.Text.{hexText}
+use Rattle.basics.specs.Text.{hexText}
 use borrow.Author.Needs.{needs}
 use Rattle.buffers.proofs.add_hex.Statement.{statement}
 use Rattle.buffers.proofs.add_hex.Tie as tie

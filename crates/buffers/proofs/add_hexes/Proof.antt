@@ -4,7 +4,7 @@ use mathlib.Core.Path.{_≡_, refl, sym, _∙_}
 use lib.ListN.{length, drop}
 use borrow.Author.Needs.{needs}
 use native.Mathlib.Omega.{arith}
-use Rattle.zvt_rules.specs.Text.{text, addAll, hexes}
+use Rattle.basics.specs.Text.{text, addAll, hexes}
 use Rattle.buffers.proofs.TextLaws.{hex-step, hex-none, goes-on}
 use Rattle.buffers.proofs.add_hexes.Statement.{statement}
 use Rattle.buffers.proofs.add_hexes.Tie as tie

@@ -9,7 +9,7 @@ use Rattle.zvt_rules.specs.declared.Status.{Status}
 use Rattle.zvt_rules.specs.Reading.{got, unplaced}
 use Rattle.zvt_rules.specs.Message.{Body, bytes, Message, readOf}
 use Rattle.zvt_rules.specs.Values.{missing, found, valueIn, bodyFields}
-use Rattle.zvt_rules.specs.believed.Grammar.{Bytes}
+use Rattle.basics.specs.believed.Lists.{Bytes}
 use Rattle.desk_rules.specs.declared.Kind.{Kind}
 use Rattle.desk_rules.specs.declared.Kind.the-variants.{Sale}
 use Rattle.desk_rules.specs.declared.Outcome.the-variants.{Unclear}

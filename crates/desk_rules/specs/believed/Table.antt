@@ -15,7 +15,7 @@ use Rattle.zvt_rules.specs.Reading.{Reading, got, refused, no, unplaced}
 use Rattle.zvt_rules.specs.Fields.{Field, plain}
 use Rattle.zvt_rules.specs.Message.{Heading, wholeHeader, bytes, listed, Message, readOf}
 use Rattle.zvt_rules.specs.Digits.{numberOf}
-use Rattle.zvt_rules.specs.believed.Values.{In}
+use Rattle.basics.specs.believed.Lists.{In}
 use Rattle.desk_rules.specs.declared.Kind.the-variants.{Sale}
 use Rattle.desk_rules.specs.declared.Phase.{Phase}
 use Rattle.desk_rules.specs.declared.Phase.the-variants.{Idle, Waiting, Running}

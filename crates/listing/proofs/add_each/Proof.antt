@@ -4,7 +4,7 @@ use mathlib.Core.Path.{_≡_, refl, sym, ap, _∙_}
 use lib.ListN.{length, drop}
 use native.Mathlib.Omega.{arith}
 use borrow.Author.Needs.{needs}
-use Rattle.zvt_rules.specs.Text.{Text, text, addAll}
+use Rattle.basics.specs.Text.{Text, text, addAll}
 use Rattle.listing.specs.Lines.{eachText}
 use Rattle.buffers.proofs.TextLaws.{addAll-room}
 use Rattle.listing.proofs.LineLaws.{each-step, each-none}

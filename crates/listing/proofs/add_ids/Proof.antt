@@ -4,7 +4,7 @@ use mathlib.Core.List.{List}
 use Prim.Native.Nat.{ℕ}
 use lib.Seq.{length-take-le}
 use borrow.Author.Needs.{needs}
-use Rattle.zvt_rules.specs.Text.{text, addAll}
+use Rattle.basics.specs.Text.{text, addAll}
 use Rattle.listing.proofs.LineLaws.{ids-fit, ids-told}
 use Rattle.listing.proofs.add_ids.Statement.{statement}
 use Rattle.listing.proofs.add_ids.Tie as tie

@@ -7,7 +7,7 @@ use lib.ListN.{length, drop}
 use native.Mathlib.Omega.{arith}
 use borrow.Author.Needs.{needs}
 use Rattle.zvt.proofs.Slices.{bytes-known}
-use Rattle.zvt_rules.specs.Text.{Text, text, addAll}
+use Rattle.basics.specs.Text.{Text, text, addAll}
 use Rattle.zvt_rules.specs.Listing.{listing}
 use Rattle.buffers.proofs.TextLaws.{addAll-room}
 use Rattle.listing.specs.Lines.{linesOf, Added}

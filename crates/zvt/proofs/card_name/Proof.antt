@@ -6,7 +6,7 @@ use native.Mathlib.Omega.{arith}
 use lib.ListN.{length}
 use borrow.Author.Tests.{not-true, not-false}
 use borrow.Author.Needs.{needs}
-use Rattle.zvt_rules.specs.believed.Grammar.{Bytes}
+use Rattle.basics.specs.believed.Lists.{Bytes}
 use Rattle.zvt_rules.specs.declared.FieldAnswer.the-variants.{Value}
 use Rattle.zvt_rules.specs.Listed.{fieldAnswer}
 use Rattle.zvt.specs.ValueSteps.{statusPair}

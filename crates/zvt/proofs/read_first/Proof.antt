@@ -9,7 +9,7 @@ use borrow.Author.Needs.{needs}
 use Rattle.zvt_rules.specs.Reading.{got}
 use Rattle.zvt_rules.specs.Message.{Message, headerOf, firstOf}
 use Rattle.zvt_rules.specs.Answers.{outlineOf, asFirstAnswer, firstAnswer}
-use Rattle.zvt_rules.specs.believed.Grammar.{Bytes}
+use Rattle.basics.specs.believed.Lists.{Bytes}
 use Rattle.zvt_rules.specs.believed.Writing.{messageBytes}
 use Rattle.zvt.proofs.HeaderLaws.{first-within}
 use Rattle.zvt.proofs.Slices.{bytes-known}

@@ -13,7 +13,8 @@ use Rattle.zvt_rules.specs.Message.{Message}
 use Rattle.zvt_rules.specs.Values.{bodyFields}
 use Rattle.zvt_rules.specs.believed.Writing.{listBytes, fieldValue}
 use Rattle.zvt_rules.specs.believed.Digits.{Says, SaysLength}
-use Rattle.zvt_rules.specs.believed.Values.{In, Is}
+use Rattle.basics.specs.believed.Lists.{In}
+use Rattle.zvt_rules.specs.believed.Values.{Is}
 
 -- F6: "the part of the message that holds the field's value": field number k, from 0, of the message that s is. The fields behind it stand
 -- behind its value, and nothing more. F8: "For field 06 the part is the run of its objects, as sent, without the container's length."

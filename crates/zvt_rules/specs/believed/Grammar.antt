@@ -9,15 +9,11 @@ use Rattle.zvt_rules.specs.declared.Format.{Format}
 use Rattle.zvt_rules.specs.declared.Format.the-variants.{Unknown, Fixed, Digits, Container}
 use Rattle.zvt_rules.specs.declared.Layout.{Layout}
 use Rattle.zvt_rules.specs.declared.Layout.the-variants.{Plain, List as FieldList, Secured}
-use Rattle.zvt_rules.specs.Reading.{among}
+use Rattle.basics.specs.Lists.{among}
 use Rattle.zvt_rules.specs.Objects.{longTag, topBit, nested, Form, bare, one, two, Obj, leaf, branch, Objs, none, more}
 use Rattle.zvt_rules.specs.Fields.{formatOf, decimal, holdsDigits, Field, plain, container, fieldId, countFields}
 use Rattle.zvt_rules.specs.Message.{layoutOf, Body, bytes, listed, Message}
 use Rattle.zvt_rules.specs.believed.Writing.{runBytes, bodyBytes}
-
--- every element a byte: what a slice of bytes is
-unfoldable pub Bytes : List ℕ → Type 0
-Bytes s = (i : ℕ) → getD s i 0 < 256
 
 -- O3: "A tag has two bytes where the low five bits of its first byte are ones, else one." O4: "A second tag byte with its top bit
 -- set is refused". O5: "Bit 20 (hex) of the first tag byte, and nothing else, makes the value a run of objects again"

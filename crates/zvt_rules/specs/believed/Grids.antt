@@ -7,7 +7,7 @@ use Rattle.zvt_rules.specs.declared.Format.{Format}
 use Rattle.zvt_rules.specs.declared.Format.the-variants.{Unknown, Fixed, Digits, Container}
 use Rattle.zvt_rules.specs.declared.Layout.{Layout}
 use Rattle.zvt_rules.specs.declared.Layout.the-variants.{Plain, List as FieldList, Secured}
-use Rattle.zvt_rules.specs.believed.Values.{In}
+use Rattle.basics.specs.believed.Lists.{In}
 
 -- unknown; so many bytes (fF is 15); so many bytes of decimal digits; two or three length digits; the container
 pub data Cell : Type 0 where

@@ -12,7 +12,7 @@ use Rattle.zvt_rules.specs.believed.Writing.{bodyBytes, messageBytes}
 use Rattle.zvt_rules.specs.Shortest.{write}
 use Rattle.zvt_rules.specs.believed.Grammar.{MessageOk}
 use Rattle.zvt_rules.specs.Values.{bodyFields}
-use Rattle.zvt_rules.specs.believed.Text.{ascii, Hex, Decimal}
+use Rattle.basics.specs.believed.Text.{ascii, Hex, Decimal}
 
 -- M17: "one blank stands between words, none behind the last"
 unfoldable pub words : List (List ℕ) → List ℕ

@@ -20,7 +20,7 @@ use Rattle.zvt_rules.specs.Message.{layoutOf}
 use Rattle.zvt_rules.specs.believed.Writing.{lenBytes, sized, objBytes, lengthIn, fieldBytes, lengthBytes}
 use Rattle.zvt_rules.specs.believed.Grammar.{TagOk, FormOk, ObjOk, Decimals, SizeOk, FieldOk, LengthOk}
 use Rattle.zvt_rules.specs.believed.Digits.{Says}
-use Rattle.zvt_rules.specs.believed.Values.{In}
+use Rattle.basics.specs.believed.Lists.{In}
 use Rattle.zvt_rules.specs.believed.Shortest.{Shortens}
 
 -- R1: "the bytes end before a thing that they began": s is the front of that thing, and something of it is missing

@@ -1,17 +1,14 @@
--- What stands in a list, and what a status information tells, by the bytes that say it. Definitions only.
+-- Which message bytes are, and what a status information tells, by the bytes that say it. Definitions only.
 use mathlib.Core.Path.{_≡_}
 use mathlib.Core.Bool.{Bool}
 use mathlib.Core.List.{List, [], _∷_, _++_}
 use Prim.Native.Nat.{ℕ}
+use Rattle.basics.specs.believed.Lists.{In}
 use Rattle.zvt_rules.specs.Fields.{Field, plain}
 use Rattle.zvt_rules.specs.Message.{listed, Message}
 use Rattle.zvt_rules.specs.believed.Writing.{messageBytes}
 use Rattle.zvt_rules.specs.believed.Grammar.{MessageOk}
 use Rattle.zvt_rules.specs.believed.Digits.{Spells}
-
--- x stands in a list
-abbrev pub In : {A : Type 0} → A → List A → Type 0
-In {A} x xs = (before : List A) × (after : List A) × (xs ≡ before ++ (x ∷ after))
 
 -- the bytes s are the message m, which keeps the limits
 abbrev pub Is : List ℕ → Message → Type 0

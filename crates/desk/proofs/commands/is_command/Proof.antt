@@ -6,8 +6,8 @@ use Prim.Native.Nat.{ℕ, _≤_}
 use native.Mathlib.Omega.{arith}
 use lib.ListN.{length, take, length-append}
 use lib.Seq.{take-at, length-take-le}
-use Rattle.zvt_rules.specs.Buffers.{front}
-use Rattle.zvt_rules.proofs.Tests.{same-test}
+use Rattle.basics.specs.Buffers.{front}
+use Rattle.basics.proofs.Tests.{same-test}
 use Rattle.desk_rules.specs.declared.Opening.{Opening}
 use Rattle.desk_rules.specs.Openings.{commandBytes, commandSize, same}
 use Rattle.desk_rules.proofs.Commands.{command-size, size-most}

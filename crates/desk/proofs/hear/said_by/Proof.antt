@@ -4,7 +4,7 @@ use mathlib.Core.Logic.{inl, inr}
 use mathlib.Core.List.{[], _∷_}
 use Prim.Native.Nat.{ℕ}
 use types.Run.{OneOf}
-use Rattle.zvt_rules.specs.Reading.{among}
+use Rattle.basics.specs.Lists.{among}
 use Rattle.desk_rules.specs.Course.{runningPairs}
 use Rattle.desk.specs.Hear.{saidBy}
 use Rattle.desk.proofs.HearLaws.{passing-said, none-said}

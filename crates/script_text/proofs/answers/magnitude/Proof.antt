@@ -10,6 +10,7 @@ use lib.Dec.{T}
 use mir.Syntax.{w64}
 use mir.Val.{SFits, Fits, toZ, ofZ}
 use mir.ValLaws.{toZ-ofZ}
+use Rattle.basics.proofs.Tests.{never}
 use Rattle.script_text.proofs.answers.magnitude.Statement.{statement}
 use Rattle.script_text.proofs.answers.magnitude.Tie as tie
 
@@ -63,8 +64,7 @@ not-negative : (z : ℤ) → SFits w64 z → ltZ (back z) (pos 0) ≡ false → 
 not-negative (pos n) f t = rw (toZ-ofZ w64 (pos n) f) (tt, record { fits = omega (arith, f .sfits) })
 not-negative (negsuc k) f t =
     let t′ : ltZ (negsuc k) (pos 0) ≡ false = rw (toZ-ofZ w64 (negsuc k) f) at t in
-    let z : _≡_ {A = ℕ} 0 1 = cc in
-    absurd (omega arith)
+    never cc
 
 add-above : tie.Need-add-above
 add-above c = negative (c .before .args .n) (c .before .fits .n) (c .if1 .taken) .above-fits

@@ -1,7 +1,7 @@
 -- `zvt::asking::answer_at` meets its contract. Assumes nothing.
 use mathlib.Core.Path.{sym}
 use borrow.Author.Tests.{eq-eqb, ne-eqb}
-use Rattle.zvt_rules.proofs.Tests.{pick-true, pick-false}
+use Rattle.basics.proofs.Tests.{pick-true, pick-false}
 use Rattle.zvt.specs.AskingSteps.{answerAt}
 use Rattle.zvt.proofs.asking.answer_at.Statement.{statement}
 use Rattle.zvt.proofs.asking.answer_at.Tie as tie

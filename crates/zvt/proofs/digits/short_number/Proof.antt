@@ -5,7 +5,7 @@ use native.Mathlib.Omega.{arith}
 use lib.ListN.{length}
 use borrow.Author.Needs.{needs}
 use Rattle.zvt_rules.specs.Digits.{decimalFrom, numberOf}
-use Rattle.zvt_rules.specs.believed.Grammar.{Bytes}
+use Rattle.basics.specs.believed.Lists.{Bytes}
 use Rattle.zvt.proofs.Slices.{bytes-known}
 use Rattle.zvt.proofs.digits.short_number.Statement.{statement}
 use Rattle.zvt.proofs.digits.short_number.Tie as tie

@@ -2,7 +2,7 @@
 use mathlib.Core.Path.{sym}
 use borrow.Author.Tests.{eq-eqb, ne-eqb}
 use Rattle.zvt_rules.specs.Listed.{spanOf}
-use Rattle.zvt_rules.proofs.Tests.{pick-true, pick-false}
+use Rattle.basics.proofs.Tests.{pick-true, pick-false}
 use Rattle.zvt.specs.FieldSteps.{noted}
 use Rattle.zvt.proofs.fields.noted.Statement.{statement}
 use Rattle.zvt.proofs.fields.noted.Tie as tie

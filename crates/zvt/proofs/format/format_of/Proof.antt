@@ -6,9 +6,10 @@ use native.Mathlib.Omega.{arith}
 use lib.Dec.{eqb}
 use Rattle.zvt_rules.specs.declared.Format.{Format}
 use Rattle.zvt_rules.specs.declared.Format.the-variants.{Unknown, Fixed, Digits, Container}
-use Rattle.zvt_rules.specs.Reading.{among, pick}
+use Rattle.basics.specs.Choice.{pick}
+use Rattle.basics.specs.Lists.{among}
 use Rattle.zvt_rules.specs.Fields.{formatOf}
-use Rattle.zvt_rules.proofs.Tests.{allFrom}
+use Rattle.basics.proofs.Tests.{allFrom}
 use Rattle.zvt.proofs.Tables.{allIn, anyOf, Table, keyed, ranged}
 use Rattle.zvt.proofs.format.format_of.Statement.{statement}
 use Rattle.zvt.proofs.format.format_of.Tie as tie

@@ -5,9 +5,10 @@ use mathlib.Core.List.{List, [], _∷_}
 use Prim.Native.Nat.{ℕ}
 use native.Mathlib.Omega.{arith}
 use lib.Dec.{eqb}
-use Rattle.zvt_rules.specs.Reading.{among, pick}
+use Rattle.basics.specs.Choice.{pick}
+use Rattle.basics.specs.Lists.{among}
 use Rattle.zvt_rules.specs.Fields.{holdsDigits}
-use Rattle.zvt_rules.proofs.Tests.{allFrom}
+use Rattle.basics.proofs.Tests.{allFrom}
 use Rattle.zvt.proofs.Tables.{allIn, anyOf, Table, keyed, ranged}
 use Rattle.zvt.proofs.format.holds_digits.Statement.{statement}
 use Rattle.zvt.proofs.format.holds_digits.Tie as tie

@@ -8,9 +8,9 @@ use borrow.Author.Needs.{needs}
 use borrow.Author.Tests.{lt-leb, le-ltb, not-true, ne-eqb}
 use types.Run.{OneOf}
 use Rattle.zvt_rules.specs.declared.Layout.the-variants.{Plain, List as FieldList, Secured}
-use Rattle.zvt_rules.specs.Reading.{among}
+use Rattle.basics.specs.Lists.{among}
 use Rattle.zvt_rules.specs.Message.{layoutOf}
-use Rattle.zvt_rules.proofs.Tests.{pick-true, pick-false, allFrom, at-from}
+use Rattle.basics.proofs.Tests.{pick-true, pick-false, allFrom, at-from}
 use Rattle.zvt.proofs.Tables.{allIn, at-key, NoneOf, anyOf, not-any}
 use Rattle.zvt.proofs.format.layout_of.Statement.{statement}
 use Rattle.zvt.proofs.format.layout_of.Tie as tie

@@ -5,7 +5,7 @@ use Prim.Native.Nat.{_+_, _-_, _<_}
 use native.Mathlib.Omega.{arith}
 use lib.ListN.{length, length-set}
 use borrow.Author.Needs.{needs}
-use Rattle.zvt_rules.specs.Text.{text, addAll}
+use Rattle.basics.specs.Text.{text, addAll}
 use Rattle.zvt_rules.specs.Listed.{idsListed}
 use Rattle.zvt.specs.ListSteps.{FieldHere, ListIn, listedIn}
 use Rattle.zvt.proofs.ListedLaws.{field-here, none-here}

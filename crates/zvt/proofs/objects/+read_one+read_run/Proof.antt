@@ -9,14 +9,13 @@ use borrow.Author.Needs.{needs}
 use borrow.Author.Tests.{not-true, not-false}
 use borrow.Fn.Kinds.{In}
 use borrow.Fn.PlainCycle.{Measures, is, falls, and}
-use Rattle.zvt_rules.specs.believed.Grammar.{Bytes}
+use Rattle.basics.specs.believed.Lists.{Bytes}
 use Rattle.zvt.specs.ObjectSteps.{headAnswer, runAnswer}
 use Rattle.zvt.specs.declared.objects.Bounds.{Bounds}
 use Rattle.zvt.specs.declared.objects.BoundsRead.the-variants.{Bounds as bounds-read}
 use Rattle.zvt.specs.declared.objects.PartRead.the-variants.{Part}
 use Rattle.zvt.proofs.Slices.{bytes-known}
-use Rattle.zvt.proofs.RunLaws.{runFrom, GoesOn, run-begins, run-ends, run-stops, run-goes-on}
-use Rattle.zvt.proofs.RunLaws.{one-full, one-deep, value-in, Answered, one-no-head, one-leaf, one-no-inner, one-branch}
+use Rattle.zvt.proofs.RunLaws.{runFrom, GoesOn, run-begins, run-ends, run-stops, run-goes-on, one-full, one-deep, value-in, Answered, one-no-head, one-leaf, one-no-inner, one-branch}
 use Rattle.zvt.proofs.objects.read_one.Reads as read-one
 use Rattle.zvt.proofs.objects.read_one.Kinds as read-one-kinds
 use Rattle.zvt.proofs.objects.+read_one+read_run.Lts-read_one as read-one-lts

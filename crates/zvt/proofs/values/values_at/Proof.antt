@@ -4,7 +4,7 @@ use Prim.Native.Nat.{ℕ, _<_}
 use native.Mathlib.Omega.{arith}
 use borrow.Author.Needs.{needs}
 use Rattle.zvt_rules.specs.declared.Format.the-variants.{Fixed}
-use Rattle.zvt_rules.specs.Reading.{among}
+use Rattle.basics.specs.Lists.{among}
 use Rattle.zvt_rules.specs.Fields.{formatOf, holdsDigits}
 use Rattle.zvt_rules.specs.Message.{readOf}
 use Rattle.zvt_rules.specs.Listed.{fieldAnswer, spanOf, spansOf, placesAnswer}

@@ -6,7 +6,7 @@ use Prim.Native.Nat.{ℕ}
 use native.Mathlib.Omega.{arith}
 use lib.ListN.{take}
 use lib.Seq.{length-take-le}
-use Rattle.zvt_rules.specs.Reading.{part}
+use Rattle.basics.specs.Lists.{part}
 use Rattle.zvt_rules.proofs.ObjectReading.{part-length}
 use Rattle.zvt.specs.declared.objects.Bounds.{Bounds}
 use Rattle.zvt.specs.WritingSteps.{valueBytes, shortRunOf, shortFieldOf}

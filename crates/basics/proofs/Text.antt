@@ -10,12 +10,13 @@ use lib.ListN.{length, getD, take, drop, set, length-set, take-append-drop, drop
 use lib.Seq.{take-nil, take-all, take-suc-set, drop-set-lt}
 use lib.Dec.{ltb, eqb}
 use borrow.Author.Tests.{eqb-true, lt-ltb, le-ltb, ltb-true, ltb-false}
-use Rattle.zvt_rules.specs.Reading.{pick, part}
-use Rattle.zvt_rules.specs.Buffers.{front}
-use Rattle.zvt_rules.specs.Text.{text, addOne, addAll, hexDigit, hexText, hexes, bytesText, hexValue, decimalBy, decimalText}
-use Rattle.zvt_rules.specs.believed.Grammar.{Bytes}
-use Rattle.zvt_rules.specs.believed.Text.{ascii, digit, Hex, Says, Decimal}
-use Rattle.zvt_rules.proofs.Tests.{by-test, pick-alike, allFrom, at-from}
+use Rattle.basics.specs.Choice.{pick}
+use Rattle.basics.specs.Lists.{part}
+use Rattle.basics.specs.Buffers.{front}
+use Rattle.basics.specs.Text.{text, addOne, addAll, hexDigit, hexText, hexes, bytesText, hexValue, decimalBy, decimalText}
+use Rattle.basics.specs.believed.Lists.{Bytes}
+use Rattle.basics.specs.believed.Text.{ascii, digit, Hex, Says, Decimal}
+use Rattle.basics.proofs.Tests.{by-test, pick-alike, allFrom, at-from, never}
 
 -- ---- a second writing of what no rule of messages says: bytes as a script has them, and text in a buffer
 
@@ -169,7 +170,7 @@ pub bytes-text-exactly : (s w : List ℕ) → Bytes s → BytesText s w ↔ (w �
 unfolding BytesText Hexes bytesText
 bytes-text-exactly [] w h = (⊎-elim (λ k. k .1) (λ k. absurd (omega (arith, k .0))), λ e. inl (refl, e))
 bytes-text-exactly (b ∷ s) w h = (
-  ⊎-elim (λ k. let z : _≡_ {A = ℕ} 0 1 = cc (k .0) in absurd (omega arith)) (λ k. hexes-only (b ∷ s) w (k .1)),
+  ⊎-elim (λ k. never (cc (k .0))) (λ k. hexes-only (b ∷ s) w (k .1)),
   λ e. rw e (inr (omega arith, (hexes-long (b ∷ s), hexes-at (b ∷ s) h))),
 )
 

@@ -7,9 +7,9 @@ use Prim.Native.Nat.{ℕ}
 use native.Mathlib.Omega.{arith}
 use lib.ListN.{length}
 use borrow.Author.Tests.{eqb-true, eq-eqb}
-use Rattle.zvt_rules.specs.Reading.{among}
-use Rattle.zvt_rules.specs.believed.Values.{In}
-use Rattle.zvt_rules.proofs.Tests.{or-test}
+use Rattle.basics.specs.Lists.{among}
+use Rattle.basics.specs.believed.Lists.{In}
+use Rattle.basics.proofs.Tests.{or-test}
 
 -- nothing stands in the empty list; what stands in another is its first element or stands behind it
 pub in-none : {A X : Type 0} {x : A} → In x [] → X

@@ -7,7 +7,7 @@ use native.Mathlib.Nat.{eq-or-lt-of-le}
 use native.Mathlib.Omega.{arith}
 use lib.Dec.{leb, eqb}
 use borrow.Author.Tests.{leb-true, le-leb, leb-false, lt-leb, eqb-true, eq-eqb}
-use Rattle.zvt_rules.specs.Reading.{pick}
+use Rattle.basics.specs.Choice.{pick}
 
 -- ---- a test holds or fails, and never both
 pub by-test : {X : Type 0} (t : Bool) → (t ≡ true → X) → (t ≡ false → X) → X
@@ -16,6 +16,10 @@ by-test false p q = q refl
 
 pub true-false : {t : Bool} → t ≡ true → t ≡ false → ⊥
 true-false e f = false≢true (sym f ∙ e)
+
+-- what is built in two ways is not the same: `cc` finds the two in what is given
+pub never : {X : Type 0} → _≡_ {A = ℕ} 0 1 → X
+never e = absurd (omega (arith, e))
 
 -- ---- a choice, by its test
 pub pick-true : {A : Type 0} {t : Bool} (x y : A) → t ≡ true → pick t x y ≡ x

@@ -4,7 +4,6 @@ use mathlib.Core.Path.{_≡_}
 use Prim.Native.Nat.{ℕ}
 use mathlib.Core.List.{List, _++_}
 use lib.ListN.{length, drop}
-use Rattle.zvt_rules.specs.Reading.{Reading, got, refused}
 
 -- w over the front of a buffer
 abbrev pub front : List ℕ → List ℕ → List ℕ
@@ -13,8 +12,3 @@ front w out = w ++ drop (length w) out
 -- w stands whole at the start of the buffer, and ends there
 abbrev pub Whole : List ℕ → ℕ → List ℕ → List ℕ → Type 0
 Whole w end entry exit = (end ≡ length w) × (exit ≡ front w entry)
-
--- what is written, or a refusal
-unfoldable pub writtenLeaves : Reading (List ℕ) → List ℕ → List ℕ
-writtenLeaves (got w) out = front w out
-writtenLeaves (refused f) out = out

@@ -1,0 +1,4 @@
+-- The laws of the definitions, by subject.
+pub mod Tests
+pub mod Lists
+pub mod Text
