@@ -6,10 +6,10 @@ use mathlib.Core.List.{List, [], _∷_, _++_}
 use lib.ListN.{length, take, drop}
 use lib.Dec.{ltb, eqb}
 use Rattle.io.specs.Counts.{Counts}
-use Rattle.zvt_rules.specs.Reading.{pick}
-use Rattle.zvt_rules.specs.Buffers.{Whole}
-use Rattle.zvt_rules.specs.Text.{text, addAll, bytesText, decimalText}
-use Rattle.zvt_rules.specs.believed.Text.{ascii}
+use Rattle.basics.specs.Choice.{pick}
+use Rattle.basics.specs.Buffers.{Whole}
+use Rattle.basics.specs.Text.{text, addAll, bytesText, decimalText}
+use Rattle.basics.specs.believed.Text.{ascii}
 use Rattle.zvt_rules.specs.declared.Refusal.{Refusal}
 use Rattle.zvt_rules.specs.declared.Place.{Place}
 use Rattle.zvt_rules.specs.declared.Place.the-variants.{Nowhere, At}

@@ -5,9 +5,9 @@ use mathlib.Core.List.{List, [], _∷_, _++_}
 use lib.ListN.{length, take, drop}
 use lib.Dec.{eqb}
 use lib.IntN.{ℤ, pos, negsuc}
-use Rattle.zvt_rules.specs.Reading.{pick}
-use Rattle.zvt_rules.specs.Text.{bytesText, hexText, decimalText}
-use Rattle.zvt_rules.specs.believed.Text.{ascii}
+use Rattle.basics.specs.Choice.{pick}
+use Rattle.basics.specs.Text.{bytesText, hexText, decimalText}
+use Rattle.basics.specs.believed.Text.{ascii}
 use Rattle.zvt_rules.specs.declared.Status.{Status}
 use Rattle.zvt_rules.specs.declared.ToldCode.{ToldCode}
 use Rattle.zvt_rules.specs.declared.ToldCode.the-variants.{Missing as no-code, Code}
@@ -29,6 +29,11 @@ use Rattle.tape_rules.specs.declared.Ending.{Ending}
 use Rattle.tape_rules.specs.declared.Ending.the-variants.{Whole, Refused}
 use Rattle.printing.specs.Answers.{line, numberText, countedText, bytesLine}
 
+-- the lines of things that have numbers, the first of them k
+unfoldable pub numbered : {A : Type 0} → (ℕ → A → List ℕ) → ℕ → List A → List ℕ
+numbered line k [] = []
+numbered line k (x ∷ xs) = line k x ++ numbered line (k + 1) xs
+
 -- ---- the book
 abbrev pub kindText : Kind → List ℕ
 kindText Sale = ascii "sale"
@@ -47,18 +52,16 @@ endingText outcome code = line (outcomeText outcome ∷ hexText code ∷ [])
 unfoldable pub lineText : ℕ → Line → List ℕ
 lineText number l =
     line (
-      decimalText number ∷ decimalText (l .lane) ∷ kindText (l .kind) ∷ decimalText (l .asked) ∷ decimalText (l .settled)
-      ∷ decimalText (l .receipt) ∷ outcomeText (l .outcome) ∷ hexText (l .code) ∷ []
+    decimalText number ∷ decimalText (l .lane) ∷ kindText (l .kind) ∷ decimalText (l .asked) ∷ decimalText (l .settled)
+    ∷ decimalText (l .receipt) ∷ outcomeText (l .outcome) ∷ hexText (l .code) ∷ []
     )
 
--- "The number counts from 1": the lines behind the first k
-unfoldable pub linesText : ℕ → List Line → List ℕ
-linesText k [] = []
-linesText k (l ∷ ls) = lineText (k + 1) l ++ linesText (k + 1) ls
+-- "one line each, then `end COUNT`"; "The number counts from 1"
+abbrev pub linesText : List Line → List ℕ
+linesText ls = numbered lineText 1 ls
 
--- "one line each, then `end COUNT`"
 unfoldable pub bookText : List Line → List ℕ
-bookText ls = linesText 0 ls ++ countedText (ascii "end") (length ls)
+bookText ls = linesText ls ++ countedText (ascii "end") (length ls)
 
 -- T31: "The last line is `end`, the place, and `ok` or `refused` with a number."
 abbrev pub lastText : ℕ → Ending → List ℕ
@@ -67,11 +70,11 @@ lastText place (Refused r) = line (ascii "end" ∷ decimalText place ∷ ascii "
 
 -- T31: "The program prints the book, a line for each of its lines"
 unfoldable pub replayedText : List Line → ℕ → Ending → List ℕ
-replayedText ls place ending = linesText 0 ls ++ lastText place ending
+replayedText ls place ending = linesText ls ++ lastText place ending
 
--- 64 lines of at most 68 bytes, and the last
+-- 64 lines of at most 76 bytes, and the last
 abbrev pub bookRoom : ℕ
-bookRoom = 64 * 68 + 37
+bookRoom = 64 * 76 + 64
 
 -- ---- the lanes: what is remembered, "`-` for what is not"
 abbrev pub codeText : ToldCode → List ℕ
@@ -108,17 +111,16 @@ phaseText i l Idle = line (decimalText i ∷ ascii "idle" ∷ [])
 phaseText i l Waiting = line (decimalText i ∷ ascii "waiting" ∷ kindText (l .kind) ∷ decimalText (l .asked) ∷ decimalText (l .named) ∷ [])
 phaseText i l Running =
     line (
-      decimalText i ∷ ascii "running" ∷ kindText (l .kind) ∷ decimalText (l .asked) ∷ decimalText (l .named)
-      ∷ codeText (l .status .code) ∷ amountText (l .status .amount) ∷ receiptText (shown (l .status .receipt)) ∷ []
+    decimalText i ∷ ascii "running" ∷ kindText (l .kind) ∷ decimalText (l .asked) ∷ decimalText (l .named)
+    ∷ codeText (l .status .code) ∷ amountText (l .status .amount) ∷ receiptText (shown (l .status .receipt)) ∷ []
     )
 
 unfoldable pub laneText : ℕ → Lane → List ℕ
 laneText i l = phaseText i l (l .phase)
 
--- lane i and those behind it
-unfoldable pub lanesText : ℕ → List Lane → List ℕ
-lanesText i [] = []
-lanesText i (l ∷ ls) = laneText i l ++ lanesText (i + 1) ls
+-- "eight lines"
+abbrev pub lanesText : List Lane → List ℕ
+lanesText ls = numbered laneText 0 ls
 
 -- eight of at most 76 bytes
 abbrev pub lanesRoom : ℕ

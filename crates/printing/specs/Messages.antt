@@ -1,13 +1,13 @@
 -- What the reader answers of a message, as a program prints it, in the words of TRIAL.md. Definitions only.
 use Prim.Native.Nat.{ℕ}
 use mathlib.Core.List.{List, [], _∷_, _++_}
-use Rattle.zvt_rules.specs.Reading.{part}
+use Rattle.basics.specs.Lists.{part}
 use Rattle.zvt_rules.specs.Message.{firstOf}
 use Rattle.zvt_rules.specs.Answers.{readAnswer, headerAnswer, firstAnswer}
 use Rattle.zvt_rules.specs.Listed.{fieldAnswer}
 use Rattle.zvt_rules.specs.Listing.{sizeText, idsOf}
-use Rattle.zvt_rules.specs.Text.{bytesText, hexText, decimalText}
-use Rattle.zvt_rules.specs.believed.Text.{ascii}
+use Rattle.basics.specs.Text.{bytesText, hexText, decimalText}
+use Rattle.basics.specs.believed.Text.{ascii}
 use Rattle.zvt_rules.specs.declared.Outline.{Outline}
 use Rattle.zvt_rules.specs.declared.ReadAnswer.{ReadAnswer}
 use Rattle.zvt_rules.specs.declared.ReadAnswer.the-variants.{Accepted, Refused}

@@ -10,7 +10,7 @@ use zvt_rules::Refusal;
 ghost use mathlib.Core.Path.{_≡_};
 ghost use Prim.Native.Nat.{_+_, _*_};
 ghost use lib.ListN.{length};
-ghost use Rattle.zvt_rules.specs.Text.{text, addAll};
+ghost use Rattle.basics.specs.Text.{text, addAll};
 ghost use Rattle.printing.specs.Answers.{Printed, numberText, countedText, refusedText, notUnderstood, bytesLine, sizeOf, changedBehind, okText, replyText};
 
 // A number with a blank before it.

@@ -23,10 +23,10 @@ use zvt_rules::ToldCode;
 use zvt_rules::ToldReceipt;
 ghost use mathlib.Core.Path.{_≡_};
 ghost use mathlib.Core.List.{_∷_, _++_};
-ghost use Prim.Native.Nat.{_+_, _*_};
+ghost use Prim.Native.Nat.{_+_, _*_, _≤_, _<_};
 ghost use lib.ListN.{length};
 ghost use lib.IntN.{natAbs};
-ghost use Rattle.zvt_rules.specs.Text.{text, addAll};
+ghost use Rattle.basics.specs.Text.{text, addAll};
 ghost use Rattle.desk_rules.specs.Memory.{Valid, linesOfDesk};
 ghost use Rattle.printing.specs.Answers.{Printed};
 ghost use Rattle.printing.specs.Desks.{kindText, outcomeText, endingText, lineText, linesText, bookRoom, bookText, replayedText, codeText, amountText, receiptText, statusText, shown, remembered, paymentText, laneText, lanesRoom, lanesText, signedText, netText, tapeText};
@@ -65,7 +65,9 @@ fn add_ending(outcome: Outcome, code: u8, at: usize, out: &mut [u8]) -> usize
 
 // A line of the book, with its number.
 fn add_line(number: u64, l: Line, at: usize, out: &mut [u8]) -> usize
-    ensures { λ r. ⌜ text r (now (out .exit)) ≡ addAll (lineText number l) (text at (now (out .entry))) ⌝ }
+    requires { ⌜ number < 100 ⌝ }
+    ensures added { λ r. ⌜ text r (now (out .exit)) ≡ addAll (lineText number l) (text at (now (out .entry))) ⌝ }
+    ensures long { λ _. ⌜ length (lineText number l) ≤ 76 ⌝ }
 {
     let kind = l.kind;
     let outcome = l.outcome;
@@ -81,7 +83,8 @@ fn add_line(number: u64, l: Line, at: usize, out: &mut [u8]) -> usize
 // The lines of the book, at the start of out.
 fn add_lines(desk: Desk, out: &mut [u8]) -> usize
     requires { ⌜ Valid desk ⌝ }
-    ensures { λ r. ⌜ text r (now (out .exit)) ≡ addAll (linesText 0 (linesOfDesk desk)) (text 0 (now (out .entry))) ⌝ }
+    ensures added { λ r. ⌜ text r (now (out .exit)) ≡ addAll (linesText (linesOfDesk desk)) (text 0 (now (out .entry))) ⌝ }
+    ensures long { λ _. ⌜ length (linesText (linesOfDesk desk)) ≤ 64 * 76 ⌝ }
 {
     let mut to: usize = 0;
     let mut k: usize = 0;
@@ -132,7 +135,8 @@ fn add_code(c: ToldCode, at: usize, out: &mut [u8]) -> usize
 
 // An amount with a blank before it.
 fn add_amount(a: ToldAmount, at: usize, out: &mut [u8]) -> usize
-    ensures { λ r. ⌜ text r (now (out .exit)) ≡ addAll (32 ∷ amountText a) (text at (now (out .entry))) ⌝ }
+    ensures added { λ r. ⌜ text r (now (out .exit)) ≡ addAll (32 ∷ amountText a) (text at (now (out .entry))) ⌝ }
+    ensures long { λ _. ⌜ length (amountText a) ≤ 20 ⌝ }
 {
     match a {
         ToldAmount::Missing => add_all(b" -", at, out),
@@ -142,7 +146,8 @@ fn add_amount(a: ToldAmount, at: usize, out: &mut [u8]) -> usize
 
 // A receipt with a blank before it.
 fn add_receipt(r: ToldReceipt, at: usize, out: &mut [u8]) -> usize
-    ensures { λ end. ⌜ text end (now (out .exit)) ≡ addAll (32 ∷ receiptText r) (text at (now (out .entry))) ⌝ }
+    ensures added { λ end. ⌜ text end (now (out .exit)) ≡ addAll (32 ∷ receiptText r) (text at (now (out .entry))) ⌝ }
+    ensures long { λ _. ⌜ length (receiptText r) ≤ 5 ⌝ }
 {
     match r {
         ToldReceipt::Missing => add_all(b" -", at, out),
@@ -152,7 +157,8 @@ fn add_receipt(r: ToldReceipt, at: usize, out: &mut [u8]) -> usize
 
 // What a status information told, and the line's end.
 pub(crate) fn add_status(s: Status, at: usize, out: &mut [u8]) -> usize
-    ensures { λ r. ⌜ text r (now (out .exit)) ≡ addAll (statusText s) (text at (now (out .entry))) ⌝ }
+    ensures added { λ r. ⌜ text r (now (out .exit)) ≡ addAll (statusText s) (text at (now (out .entry))) ⌝ }
+    ensures long { λ _. ⌜ length (statusText s) ≤ 30 ⌝ }
 {
     let code = s.code;
     let amount = s.amount;
@@ -190,7 +196,8 @@ fn remembered(s: Status) -> Status
 
 // Kind, amount asked and receipt named of a lane that is not idle, each with a blank before it.
 fn add_payment(l: Lane, at: usize, out: &mut [u8]) -> usize
-    ensures { λ r. ⌜ text r (now (out .exit)) ≡ addAll (paymentText l) (text at (now (out .entry))) ⌝ }
+    ensures added { λ r. ⌜ text r (now (out .exit)) ≡ addAll (paymentText l) (text at (now (out .entry))) ⌝ }
+    ensures long { λ _. ⌜ length (paymentText l) ≤ 36 ⌝ }
 {
     let kind = l.kind;
     let mut to = add_kind(kind, at, out);
@@ -200,7 +207,9 @@ fn add_payment(l: Lane, at: usize, out: &mut [u8]) -> usize
 
 // A lane, with its number.
 fn add_lane(lane: u8, l: Lane, at: usize, out: &mut [u8]) -> usize
-    ensures { λ r. ⌜ text r (now (out .exit)) ≡ addAll (laneText lane l) (text at (now (out .entry))) ⌝ }
+    requires { ⌜ lane < 8 ⌝ }
+    ensures added { λ r. ⌜ text r (now (out .exit)) ≡ addAll (laneText lane l) (text at (now (out .entry))) ⌝ }
+    ensures long { λ _. ⌜ length (laneText lane l) ≤ 76 ⌝ }
 {
     let phase = l.phase;
     let status = l.status;
@@ -224,7 +233,7 @@ fn add_lane(lane: u8, l: Lane, at: usize, out: &mut [u8]) -> usize
 // The eight lanes.
 pub fn lanes(desk: Desk, out: &mut [u8]) -> usize
     requires { ⌜ Valid desk ⌝ }
-    ensures { λ r. ⌜ Printed lanesRoom (lanesText 0 (desk .lanes)) r (now (out .entry)) (now (out .exit)) ⌝ }
+    ensures { λ r. ⌜ Printed lanesRoom (lanesText (desk .lanes)) r (now (out .entry)) (now (out .exit)) ⌝ }
 {
     let mut to: usize = 0;
     let mut lane: u8 = 0;

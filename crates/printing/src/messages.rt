@@ -18,7 +18,7 @@ ghost use Prim.Native.Nat.{_+_, _*_};
 ghost use lib.ListN.{length};
 ghost use Rattle.zvt_rules.specs.Message.{firstOf};
 ghost use Rattle.zvt_rules.specs.Listing.{idsOf};
-ghost use Rattle.zvt_rules.specs.Text.{text, addAll};
+ghost use Rattle.basics.specs.Text.{text, addAll};
 ghost use Rattle.zvt_rules.specs.Values.{statusOf};
 ghost use Rattle.printing.specs.Answers.{Printed};
 ghost use Rattle.printing.specs.Desks.{statusText};

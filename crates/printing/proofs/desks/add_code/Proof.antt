@@ -4,10 +4,10 @@ use Rattle.printing.proofs.desks.add_code.Statement.{statement}
 use Rattle.printing.proofs.desks.add_code.Tie as tie
 
 returns : tie.Need-returns
-returns c = ?
+returns c = let word = c .before .before in rw (word .before .before .enum-told .given .1) (word .add .ensures)
 
 returns-2 : tie.Need-returns-2
-returns-2 c = ?
+returns-2 c = let digits = c .before .before in rw (digits .before .before .before .c .given .1) (digits .add-hex .ensures)
 
 pub add-code-spec : {M : Type 1} → statement M
 add-code-spec =

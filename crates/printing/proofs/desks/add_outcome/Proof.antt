@@ -4,13 +4,13 @@ use Rattle.printing.proofs.desks.add_outcome.Statement.{statement}
 use Rattle.printing.proofs.desks.add_outcome.Tie as tie
 
 returns : tie.Need-returns
-returns c = ?
+returns c = let word = c .before .before in rw (word .before .before .before .enum-told .given .1) (word .add-all .ensures)
 
 returns-2 : tie.Need-returns-2
-returns-2 c = ?
+returns-2 c = let word = c .before .before in rw (word .before .before .before .enum-told2 .given .1) (word .add-all2 .ensures)
 
 returns-3 : tie.Need-returns-3
-returns-3 c = ?
+returns-3 c = let word = c .before .before in rw (word .before .before .before .enum-told3 .given .1) (word .add-all3 .ensures)
 
 pub add-outcome-spec : {M : Type 1} → statement M
 add-outcome-spec =

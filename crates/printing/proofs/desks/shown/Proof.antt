@@ -1,10 +1,13 @@
 -- `printing::desks::shown`. Assumes nothing.
+use borrow.Author.Tests.{ne-eqb}
 use borrow.Author.Needs.{needs}
 use Rattle.printing.proofs.desks.shown.Statement.{statement}
 use Rattle.printing.proofs.desks.shown.Tie as tie
 
 returns-2 : tie.Need-returns-2
-returns-2 c = ?
+returns-2 c =
+    let told = c .before .before in
+    rw (told .r .given .1, ne-eqb (told .r .given .0 .0) 0 (c .if1 .left))
 
 pub shown-spec : {M : Type 1} → statement M
 shown-spec =
