@@ -35,7 +35,8 @@ use Rattle.zvt_rules.specs.declared.Span.{Span}
 use Rattle.zvt_rules.proofs.Listing.{form-long, ids-long}
 use Rattle.printing.specs.Messages.{outlineText, headerBy, readBy, firstBy, fieldBy}
 use Rattle.printing.specs.Answers.{refusedAt, notUnderstood, bytesLine, okText, countedText}
-use Rattle.printing.specs.Desks.{kindText, outcomeText, lineText, lastText, bookRoom, codeText, amountText, receiptText, statusText, remembered, paymentText, phaseText, blocksText, tapeText}
+use Rattle.printing.specs.Desks.{kindText, outcomeText, lineText, lastText, bookRoom, codeText, amountText, receiptText, statusText, remembered}
+use Rattle.printing.specs.Desks.{paymentText, phaseText, blocksText, tapeText}
 
 -- ---- numbers of 64, 16 and 8 bits
 pub number-long : (n : ℕ) → n < 2 ^ 64 → length (decimalText n) ≤ 20
@@ -141,7 +142,8 @@ pub block-long : (s : List ℕ) → length (bytesLine (take 512 s)) ≤ 1026
 unfolding bytesLine
 block-long s = simp length-append (omega (arith, bytes-long (take 512 s), length-take 512 s))
 
-pub tape-long : (s : List ℕ) → length s < 2 ^ 64 → let n = length s / 512 in length (blocksText n s) ≤ 1026 * n → length (tapeText s) ≤ 64 + 3 * length s
+pub tape-long : (s : List ℕ) → length s < 2 ^ 64 → let n = length s / 512 in length (blocksText n s) ≤ 1026 * n
+    → length (tapeText s) ≤ 64 + 3 * length s
 unfolding tapeText
 tape-long s h k = simp length-append (omega (arith, number-long (length s / 512) (omega arith)))
 

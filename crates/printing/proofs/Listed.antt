@@ -44,7 +44,8 @@ told {to = to} {out = out} none t =
 
 -- ---- what is left
 module _ {A : Type 0} (line : ℕ → A → List ℕ) (first k : ℕ) (xs : List A) where
-  pub numbered-next : (d : A) → k < length xs → numbered line first (drop k xs) ≡ line first (getD xs k d) ++ numbered line (first + 1) (drop (k + 1) xs)
+  pub numbered-next : (d : A) → k < length xs
+      → numbered line first (drop k xs) ≡ line first (getD xs k d) ++ numbered line (first + 1) (drop (k + 1) xs)
   unfolding numbered
   numbered-next d h =
       ap (numbered line first) (drop-cons xs k d h ∙ ap (λ (n : ℕ). getD xs k d ∷ drop n xs) (sym (add-one k)))
@@ -58,7 +59,8 @@ blocks-all count s = let all : count - 0 ≡ count = omega arith in rw all
 
 module _ (count k : ℕ) (s : List ℕ) where
   pub blocks-next : k < count
-      → blocksText (count - k) (drop (k * 512) s) ≡ bytesLine (take 512 (drop (k * 512) s)) ++ blocksText (count - (k + 1)) (drop ((k + 1) * 512) s)
+      → blocksText (count - k) (drop (k * 512) s)
+      ≡ bytesLine (take 512 (drop (k * 512) s)) ++ blocksText (count - (k + 1)) (drop ((k + 1) * 512) s)
   unfolding blocksText
   blocks-next h =
       let more : count - k ≡ suc (count - (k + 1)) = omega arith in
@@ -71,13 +73,15 @@ module _ (count k : ℕ) (s : List ℕ) where
 
 -- by what the desk answers of a line
 module _ (line : ℕ → Line → List ℕ) (first k : ℕ) (ls : List Line) where
-  pub line-next : (l : Line) → lineAnswer k ls ≡ line-got l → numbered line first (drop k ls) ≡ line first l ++ numbered line (first + 1) (drop (k + 1) ls)
+  pub line-next : (l : Line) → lineAnswer k ls ≡ line-got l
+      → numbered line first (drop k ls) ≡ line first l ++ numbered line (first + 1) (drop (k + 1) ls)
   unfolding lineAnswer
   line-next l e =
       by-test (ltb k (length ls))
       (λ t.
       let is : getD ls k blankLine ≡ l = cc (rw t at e) in
-      numbered-next line first k ls blankLine (ltb-true k (length ls) t) ∙ ap (λ (x : Line). line first x ++ numbered line (first + 1) (drop (k + 1) ls)) is)
+      numbered-next line first k ls blankLine (ltb-true k (length ls) t)
+      ∙ ap (λ (x : Line). line first x ++ numbered line (first + 1) (drop (k + 1) ls)) is)
       (λ t. let f = rw t at e in never (cc))
 
   pub line-none : lineAnswer k ls ≡ End → numbered line first (drop k ls) ≡ []

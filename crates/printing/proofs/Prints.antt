@@ -32,7 +32,8 @@ pub alike : (v w : List ℕ) (t : Text) {x : Text} → v ≡ w → x ≡ addAll 
 alike v w t e f = f ∙ ap (λ (u : List ℕ). addAll u t) e
 
 -- with more room
-pub roomier : {few room : ℕ} {w : List ℕ} {end : ℕ} {entry exit : List ℕ} → few ≤ room → Printed few w end entry exit → Printed room w end entry exit
+pub roomier : {few room : ℕ} {w : List ℕ} {end : ℕ} {entry exit : List ℕ} → few ≤ room → Printed few w end entry exit
+    → Printed room w end entry exit
 roomier h p = record { added = p .added; whole = λ k. p .whole (omega arith); inside = p .inside }
 
 pub ok-none : (v : List ℕ) → length v ≡ 0 → okText v ≡ line (ascii "ok" ∷ [])
@@ -68,6 +69,7 @@ pub payment : (l : Lane) (rest : List ℕ) (t : Text) {u x : Text} → u ≡ add
 payment l rest t e f = simp append-assoc at (both (paymentText l) rest t e f)
 
 -- the bytes of a field that is there
-pub handed-value : (id : ℕ) (s other : List ℕ) (p : Span) → fieldAnswer id s ≡ Value p → handedBytes s other (fieldAnswer id s) ≡ part (p .from) (p .to) s
+pub handed-value : (id : ℕ) (s other : List ℕ) (p : Span) → fieldAnswer id s ≡ Value p
+    → handedBytes s other (fieldAnswer id s) ≡ part (p .from) (p .to) s
 unfolding handedBytes
 handed-value id s other p e = rw e

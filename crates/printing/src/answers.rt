@@ -11,7 +11,8 @@ ghost use mathlib.Core.Path.{_≡_};
 ghost use Prim.Native.Nat.{_+_, _*_};
 ghost use lib.ListN.{length};
 ghost use Rattle.basics.specs.Text.{text, addAll};
-ghost use Rattle.printing.specs.Answers.{Printed, numberText, countedText, refusedText, notUnderstood, bytesLine, sizeOf, changedBehind, okText, replyText};
+ghost use Rattle.printing.specs.Answers.{Printed, numberText, countedText, refusedText, notUnderstood, bytesLine};
+ghost use Rattle.printing.specs.Answers.{sizeOf, changedBehind, okText, replyText};
 
 // A number with a blank before it.
 pub fn add_number(n: u64, at: usize, out: &mut [u8]) -> usize

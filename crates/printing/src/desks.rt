@@ -29,7 +29,9 @@ ghost use lib.IntN.{natAbs};
 ghost use Rattle.basics.specs.Text.{text, addAll};
 ghost use Rattle.desk_rules.specs.Memory.{Valid, linesOfDesk};
 ghost use Rattle.printing.specs.Answers.{Printed};
-ghost use Rattle.printing.specs.Desks.{kindText, outcomeText, endingText, lineText, linesText, bookRoom, bookText, replayedText, codeText, amountText, receiptText, statusText, shown, remembered, paymentText, laneText, lanesRoom, lanesText, signedText, netText, tapeText};
+ghost use Rattle.printing.specs.Desks.{kindText, outcomeText, endingText, lineText, linesText, bookText, replayedText, bookRoom};
+ghost use Rattle.printing.specs.Desks.{codeText, amountText, receiptText, statusText, shown, remembered, paymentText, laneText};
+ghost use Rattle.printing.specs.Desks.{lanesText, lanesRoom, signedText, netText, tapeText};
 
 // A kind with a blank before it.
 fn add_kind(kind: Kind, at: usize, out: &mut [u8]) -> usize

@@ -1,4 +1,4 @@
--- `printing::answers::add_number`. Assumes nothing.
+-- `printing::answers::add_number`: a blank and a number. Assumes nothing.
 use Rattle.buffers.proofs.TextLaws.{both}
 use borrow.Author.Needs.{needs}
 use Rattle.printing.proofs.answers.add_number.Statement.{statement}

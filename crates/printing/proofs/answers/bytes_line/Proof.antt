@@ -1,4 +1,4 @@
--- `printing::answers::bytes_line`. Assumes nothing.
+-- `printing::answers::bytes_line`: hex, and the line's end. Assumes nothing.
 use Rattle.buffers.proofs.TextLaws.{both}
 use Rattle.printing.specs.Answers.{bytesLine}
 use Rattle.printing.proofs.Prints.{printed}

@@ -27,7 +27,8 @@ returns-2 c =
     let start = turn .before .before in
     let lent = start .args .lent .now in
     let i = turn .loop .i in
-    rw (le-ltb (length lent) (start .args .n) (turn .before .if1 .left), turn .loop .inv .2, untouched-next lent i (omega arith), ne-eqb (getD lent i 0) 0xC3 (c .if2 .taken))
+    let there : start .args .n ≤ length lent = turn .before .if1 .left in
+    rw (le-ltb (length lent) (start .args .n) there, turn .loop .inv .2, untouched-next lent i (omega arith), ne-eqb (getD lent i 0) 0xC3 (c .if2 .taken))
 
 loop-again : tie.Need-loop-again Inv-loop μ-loop
 loop-again c =
@@ -47,4 +48,5 @@ returns-3 c =
 pub changed-spec : {M : Type 1} → statement M
 changed-spec =
     tie.close
-    (tie.spec Inv-loop μ-loop returns (λ c. (omega arith, omega arith, refl)) (λ c. search needs) returns-2 (λ c. search needs) (λ c. search needs) loop-again returns-3)
+    (tie.spec Inv-loop μ-loop returns (λ c. (omega arith, omega arith, refl)) (λ c. search needs) returns-2 (λ c. search needs)
+    (λ c. search needs) loop-again returns-3)

@@ -1,4 +1,4 @@
--- `printing::answers::counted`. Assumes nothing.
+-- `printing::answers::counted`: a word, a number, and the line's end. Assumes nothing.
 use Rattle.buffers.proofs.TextLaws.{both}
 use borrow.Author.Needs.{needs}
 use Rattle.printing.proofs.answers.counted.Statement.{statement}

@@ -1,4 +1,4 @@
--- `printing::answers::not_understood`. Assumes nothing.
+-- `printing::answers::not_understood`: two words with the number between them. Assumes nothing.
 use native.Mathlib.Omega.{arith}
 use Rattle.buffers.proofs.TextLaws.{both}
 use Rattle.printing.specs.Answers.{notUnderstood}
@@ -21,4 +21,5 @@ returns c =
 pub not-understood-spec : {M : Type 1} → statement M
 not-understood-spec =
     tie.close
-    (tie.spec (λ c. search needs) (λ c κs. search needs) (λ c κs. search needs) (λ c. search needs) (λ c κs. search needs) (λ c. search needs) returns)
+    (tie.spec (λ c. search needs) (λ c κs. search needs) (λ c κs. search needs) (λ c. search needs) (λ c κs. search needs)
+    (λ c. search needs) returns)

@@ -1,4 +1,4 @@
--- `printing::answers::refused`. Assumes nothing.
+-- `printing::answers::refused`: with a place and without. Assumes nothing.
 use native.Mathlib.Omega.{arith}
 use Rattle.buffers.proofs.TextLaws.{both}
 use Rattle.printing.specs.Answers.{refusedText}
@@ -31,9 +31,12 @@ returns-2 c =
     let small = known .struct-known .given .0 .fits in
     let place = told .known-told .given in
     rw (told .before .place .given .1)
-    (printed 64 _ _ (refused-at-long _ _ small (omega (arith, place))) (both _ _ _ (word .add-all .ensures) (both _ _ _ (number .add-number .ensures) (end .counted .ensures))))
+    (printed 64 _ _ (refused-at-long _ _ small (omega (arith, place)))
+    (both _ _ _ (word .add-all .ensures) (both _ _ _ (number .add-number .ensures) (end .counted .ensures))))
 
 pub refused-spec : {M : Type 1} → statement M
 refused-spec =
     tie.close
-    (tie.spec (λ c. search needs) (λ c κs. search needs) (λ c. search needs) (λ c κs. search needs) (λ c. search needs) (λ c κs. search needs) (λ c. search needs) (λ c. search needs) (λ c κs. search needs) (λ c. search needs) returns (λ c. search needs) returns-2)
+    (tie.spec (λ c. search needs) (λ c κs. search needs) (λ c. search needs) (λ c κs. search needs) (λ c. search needs)
+    (λ c κs. search needs) (λ c. search needs) (λ c. search needs) (λ c κs. search needs) (λ c. search needs) returns
+    (λ c. search needs) returns-2)

@@ -1,4 +1,4 @@
--- `printing::answers::written`. Assumes nothing.
+-- `printing::answers::written`: where nothing was written, and where something was. Assumes nothing.
 use native.Mathlib.Omega.{arith}
 use Rattle.buffers.proofs.TextLaws.{both}
 use Rattle.printing.proofs.Prints.{ok-none, ok-some}
@@ -23,4 +23,5 @@ returns-2 c =
 pub written-spec : {M : Type 1} → statement M
 written-spec =
     tie.close
-    (tie.spec (λ c. search needs) (λ c κs. search needs) (λ c. search needs) returns (λ c. search needs) (λ c κs. search needs) (λ c κs. search needs) (λ c κs. search needs) (λ c. search needs) returns-2)
+    (tie.spec (λ c. search needs) (λ c κs. search needs) (λ c. search needs) returns (λ c. search needs) (λ c κs. search needs)
+    (λ c κs. search needs) (λ c κs. search needs) (λ c. search needs) returns-2)

@@ -1,4 +1,4 @@
--- `printing::desks::add_amount`. Assumes nothing.
+-- `printing::desks::add_amount`: told or not. Assumes nothing.
 use native.Mathlib.Omega.{arith}
 use Rattle.printing.proofs.Lengths.{number-long}
 use borrow.Author.Needs.{needs}
@@ -18,4 +18,5 @@ returns-2 c =
 pub add-amount-spec : {M : Type 1} → statement M
 add-amount-spec =
     tie.close
-    (tie.spec (λ c. search needs) (λ c. search needs) (λ c κs. search needs) (λ c. search needs) (λ c κs. search needs) (λ c. search needs) returns (λ c. search needs) returns-2)
+    (tie.spec (λ c. search needs) (λ c. search needs) (λ c κs. search needs) (λ c. search needs) (λ c κs. search needs)
+    (λ c. search needs) returns (λ c. search needs) returns-2)

@@ -1,4 +1,4 @@
--- `printing::desks::add_code`. Assumes nothing.
+-- `printing::desks::add_code`: told or not. Assumes nothing.
 use borrow.Author.Needs.{needs}
 use Rattle.printing.proofs.desks.add_code.Statement.{statement}
 use Rattle.printing.proofs.desks.add_code.Tie as tie
@@ -12,4 +12,5 @@ returns-2 c = let digits = c .before .before in rw (digits .before .before .befo
 pub add-code-spec : {M : Type 1} → statement M
 add-code-spec =
     tie.close
-    (tie.spec (λ c. search needs) (λ c κs. search needs) (λ c. search needs) (λ c κs. search needs) (λ c. search needs) returns (λ c. search needs) returns-2)
+    (tie.spec (λ c. search needs) (λ c κs. search needs) (λ c. search needs) (λ c κs. search needs) (λ c. search needs) returns
+    (λ c. search needs) returns-2)

@@ -1,4 +1,4 @@
--- `printing::desks::add_ending`. Assumes nothing.
+-- `printing::desks::add_ending`: outcome, code, and the line's end. Assumes nothing.
 use Rattle.buffers.proofs.TextLaws.{both}
 use borrow.Author.Needs.{needs}
 use Rattle.printing.proofs.desks.add_ending.Statement.{statement}
@@ -16,4 +16,5 @@ returns c =
 pub add-ending-spec : {M : Type 1} → statement M
 add-ending-spec =
     tie.close
-    (tie.spec (λ c κs. search needs) (λ c κs. search needs) (λ c κs. search needs) (λ c κs. search needs) (λ c. search needs) returns)
+    (tie.spec (λ c κs. search needs) (λ c κs. search needs) (λ c κs. search needs) (λ c κs. search needs) (λ c. search needs)
+    returns)

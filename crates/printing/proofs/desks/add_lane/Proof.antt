@@ -32,7 +32,8 @@ returns-2 c =
     let start = number .before .before .before .before in
     let l = start .args .l in
     rw (told .enum-told2 .given .1) (
-      both _ _ _ (number .add-decimal .ensures) (both _ _ _ (word .add-all2 .ensures) (payment l _ _ (owed .add-payment .ensures .0) (end .add .ensures))),
+      both _ _ _ (number .add-decimal .ensures)
+          (both _ _ _ (word .add-all2 .ensures) (payment l _ _ (owed .add-payment .ensures .0) (end .add .ensures))),
       waiting-long (start .args .lane) l (start .pre) (owed .add-payment .ensures .1),
     )
 
@@ -61,4 +62,7 @@ returns-3 c =
 pub add-lane-spec : {M : Type 1} → statement M
 add-lane-spec =
     tie.close
-    (tie.spec (λ c κs. search needs) (λ c. search needs) (λ c. search needs) (λ c κs. search needs) (λ c. search needs) (λ c. search needs) (λ c κs. search needs) (λ c κs. search needs) (λ c κs. search needs) (λ c. search needs) (λ c. search needs) (λ c κs. search needs) (λ c κs. search needs) (λ c κs. search needs) (λ c κs. search needs) (λ c κs. search needs) (λ c. search needs) returns (λ c. search needs) returns-2 (λ c. search needs) returns-3)
+    (tie.spec (λ c κs. search needs) (λ c. search needs) (λ c. search needs) (λ c κs. search needs) (λ c. search needs)
+    (λ c. search needs) (λ c κs. search needs) (λ c κs. search needs) (λ c κs. search needs) (λ c. search needs) (λ c. search needs)
+    (λ c κs. search needs) (λ c κs. search needs) (λ c κs. search needs) (λ c κs. search needs) (λ c κs. search needs)
+    (λ c. search needs) returns (λ c. search needs) returns-2 (λ c. search needs) returns-3)

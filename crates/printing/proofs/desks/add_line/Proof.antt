@@ -1,4 +1,4 @@
--- `printing::desks::add_line`. Assumes nothing.
+-- `printing::desks::add_line`: the eight words of a line. Assumes nothing.
 use Rattle.buffers.proofs.TextLaws.{both}
 use Rattle.printing.specs.Desks.{lineText}
 use Rattle.printing.proofs.Lengths.{line-long}
@@ -31,4 +31,5 @@ returns c =
 pub add-line-spec : {M : Type 1} → statement M
 add-line-spec =
     tie.close
-    (tie.spec (λ c κs. search needs) (λ c. search needs) (λ c κs. search needs) (λ c κs. search needs) (λ c κs. search needs) (λ c κs. search needs) (λ c. search needs) (λ c κs. search needs) (λ c κs. search needs) (λ c. search needs) returns)
+    (tie.spec (λ c κs. search needs) (λ c. search needs) (λ c κs. search needs) (λ c κs. search needs) (λ c κs. search needs)
+    (λ c κs. search needs) (λ c. search needs) (λ c κs. search needs) (λ c κs. search needs) (λ c. search needs) returns)

@@ -1,4 +1,4 @@
--- `printing::desks::add_outcome`. Assumes nothing.
+-- `printing::desks::add_outcome`: a word for each outcome. Assumes nothing.
 use borrow.Author.Needs.{needs}
 use Rattle.printing.proofs.desks.add_outcome.Statement.{statement}
 use Rattle.printing.proofs.desks.add_outcome.Tie as tie
@@ -15,4 +15,6 @@ returns-3 c = let word = c .before .before in rw (word .before .before .before .
 pub add-outcome-spec : {M : Type 1} → statement M
 add-outcome-spec =
     tie.close
-    (tie.spec (λ c. search needs) (λ c. search needs) (λ c κs. search needs) (λ c. search needs) (λ c. search needs) (λ c κs. search needs) (λ c. search needs) (λ c. search needs) (λ c κs. search needs) (λ c. search needs) returns (λ c. search needs) returns-2 (λ c. search needs) returns-3)
+    (tie.spec (λ c. search needs) (λ c. search needs) (λ c κs. search needs) (λ c. search needs) (λ c. search needs)
+    (λ c κs. search needs) (λ c. search needs) (λ c. search needs) (λ c κs. search needs) (λ c. search needs) returns
+    (λ c. search needs) returns-2 (λ c. search needs) returns-3)

@@ -1,4 +1,4 @@
--- `printing::desks::add_payment`. Assumes nothing.
+-- `printing::desks::add_payment`: kind, amount asked and receipt named. Assumes nothing.
 use Rattle.buffers.proofs.TextLaws.{both}
 use Rattle.printing.proofs.Lengths.{payment-long}
 use native.Mathlib.Omega.{arith}
@@ -12,8 +12,10 @@ returns c =
     let asked = named .before .before .before .before .before in
     let kind = asked .before .before .before .before in
     let l = kind .before .before .before .args .l in
-    let known = named .before .before .struct-known .given in
-    (both _ _ _ (kind .add-kind .ensures) (both _ _ _ (asked .add-number .ensures) (named .add-number2 .ensures)), payment-long l (omega (arith, known)) (omega (arith, known)))
+    let known = named .before .before .struct-known .given in (
+      both _ _ _ (kind .add-kind .ensures) (both _ _ _ (asked .add-number .ensures) (named .add-number2 .ensures)),
+      payment-long l (omega (arith, known)) (omega (arith, known)),
+    )
 
 pub add-payment-spec : {M : Type 1} → statement M
 add-payment-spec =

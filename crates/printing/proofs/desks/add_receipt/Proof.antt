@@ -1,4 +1,4 @@
--- `printing::desks::add_receipt`. Assumes nothing.
+-- `printing::desks::add_receipt`: told or not. Assumes nothing.
 use native.Mathlib.Omega.{arith}
 use Rattle.printing.proofs.Lengths.{short-long}
 use borrow.Author.Needs.{needs}
@@ -18,4 +18,5 @@ returns-2 c =
 pub add-receipt-spec : {M : Type 1} → statement M
 add-receipt-spec =
     tie.close
-    (tie.spec (λ c. search needs) (λ c. search needs) (λ c κs. search needs) (λ c. search needs) (λ c. search needs) (λ c κs. search needs) (λ c. search needs) returns (λ c. search needs) returns-2)
+    (tie.spec (λ c. search needs) (λ c. search needs) (λ c κs. search needs) (λ c. search needs) (λ c. search needs)
+    (λ c κs. search needs) (λ c. search needs) returns (λ c. search needs) returns-2)

@@ -1,4 +1,4 @@
--- `printing::desks::add_status`. Assumes nothing.
+-- `printing::desks::add_status`: code, amount and receipt, and the line's end. Assumes nothing.
 use Rattle.buffers.proofs.TextLaws.{both}
 use Rattle.printing.specs.Desks.{statusText}
 use Rattle.printing.proofs.Lengths.{status-long}
@@ -22,4 +22,5 @@ returns c =
 pub add-status-spec : {M : Type 1} → statement M
 add-status-spec =
     tie.close
-    (tie.spec (λ c κs. search needs) (λ c κs. search needs) (λ c κs. search needs) (λ c κs. search needs) (λ c. search needs) returns)
+    (tie.spec (λ c κs. search needs) (λ c κs. search needs) (λ c κs. search needs) (λ c κs. search needs) (λ c. search needs)
+    returns)

@@ -38,7 +38,8 @@ loop-again c =
     let k = turn .loop .k in
     let size : k * 512 + 512 - k * 512 ≡ 512 = omega arith in
     let block = ap (λ (n : ℕ). bytesText (take n (drop (k * 512) tape))) size in
-    (omega arith, tells _ (blocks-next _ k tape (omega arith)) (omega (arith, block-long (drop (k * 512) tape))) (both _ _ _ (alike _ _ _ block (bytes .add-bytes .ensures)) (end .add .ensures)) (turn .loop .inv .1))
+    let line = both _ _ _ (alike _ _ _ block (bytes .add-bytes .ensures)) (end .add .ensures) in
+    (omega arith, tells _ (blocks-next _ k tape (omega arith)) (omega (arith, block-long (drop (k * 512) tape))) line (turn .loop .inv .1))
 
 returns : tie.Need-returns Inv-loop μ-loop
 unfolding tapeText
@@ -52,6 +53,6 @@ returns c =
 pub blocks-spec : {M : Type 1} → statement M
 blocks-spec =
     tie.close
-    (tie.spec Inv-loop μ-loop loop-holds (λ c. search needs) (λ c. search needs) (λ c. search needs) (λ c. search needs) (λ c. search needs)
-    (λ c κs. search needs) (λ c κs. search needs) (λ c. search needs) (λ c. search needs) loop-again (λ c. search needs) (λ c κs. search needs)
-    (λ c. search needs) returns)
+    (tie.spec Inv-loop μ-loop loop-holds (λ c. search needs) (λ c. search needs) (λ c. search needs) (λ c. search needs)
+    (λ c. search needs) (λ c κs. search needs) (λ c κs. search needs) (λ c. search needs) (λ c. search needs) loop-again
+    (λ c. search needs) (λ c κs. search needs) (λ c. search needs) returns)

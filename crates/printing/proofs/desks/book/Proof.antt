@@ -1,4 +1,4 @@
--- `printing::desks::book`. Assumes nothing.
+-- `printing::desks::book`: the lines, and how many there are. Assumes nothing.
 use Prim.Native.Nat.{_≤_}
 use native.Mathlib.Omega.{arith}
 use lib.ListN.{length}
@@ -21,7 +21,8 @@ returns c =
     let b = d .book in
     let within : b .count ≤ length (b .lines) = omega arith in
     rw (length-take-le (b .count) (b .lines) within)
-    (printed _ _ _ (book-long (linesText (linesOfDesk d)) (b .count) (lines .add-lines .ensures .1) (omega arith)) (both _ _ _ (lines .add-lines .ensures .0) (end .counted .ensures)))
+    (printed _ _ _ (book-long (linesText (linesOfDesk d)) (b .count) (lines .add-lines .ensures .1) (omega arith))
+    (both _ _ _ (lines .add-lines .ensures .0) (end .counted .ensures)))
 
 pub book-spec : {M : Type 1} → statement M
 book-spec =

@@ -3,19 +3,15 @@ use mathlib.Core.Path.{_≡_, refl, ap, _∙_}
 use mathlib.Core.Bool.{true, false}
 use Prim.Native.Nat.{ℕ, zero, suc, _+_, _<_, _^_}
 use native.Mathlib.Omega.{arith}
-use borrow.Author.Tests.{ltb-true}
 use lib.IntN.{ℤ, pos, negsuc, sucℤ, natAbs, _+ℤ_, _-ℤ_, +ℤ-one}
 use lib.Signed.{ltZ, nonNeg}
 use lib.Dec.{T}
 use mir.Syntax.{w64}
 use mir.Val.{SFits, Fits, toZ, ofZ}
 use mir.ValLaws.{toZ-ofZ}
+use Rattle.printing.proofs.Signed.{back, below, not-below}
 use Rattle.printing.proofs.desks.magnitude.Statement.{statement}
 use Rattle.printing.proofs.desks.magnitude.Tie as tie
-
--- a number as it is read back from its bits
-abbrev back : ℤ → ℤ
-back z = toZ w64 (ofZ w64 z)
 
 abbrev above : ℤ → ℤ
 above z = back z +ℤ pos 1
@@ -39,11 +35,8 @@ record Steps (z : ℤ) : Type 0 where
   small : shorter < 2 ^ 63
   size : shorter + 1 ≡ natAbs z
 
-negative : (z : ℤ) → SFits w64 z → ltZ (back z) (pos 0) ≡ true → Steps z
-negative (pos n) f t =
-    let t′ : ltZ (pos n) (pos 0) ≡ true = rw (toZ-ofZ w64 (pos n) f) at t in
-    absurd (omega (arith, ltb-true n 0 t′))
-negative (negsuc k) f t =
+steps : (k : ℕ) → SFits w64 (negsuc k) → Steps (negsuc k)
+steps k f =
     let up : above (negsuc k) ≡ sucℤ (negsuc k) = ap (λ (z : ℤ). z +ℤ pos 1) (toZ-ofZ w64 (negsuc k) f) ∙ +ℤ-one (negsuc k) in
     let uf : SFits w64 (above (negsuc k)) = rw up (up-fits k (f .sfits)) in
     let o : opposite (negsuc k) ≡ pos k =
@@ -59,12 +52,14 @@ negative (negsuc k) f t =
       size = omega arith;
     }
 
+negative : (z : ℤ) → SFits w64 z → ltZ (back z) (pos 0) ≡ true → Steps z
+negative z f t = let (k, e) = below z f t in rw e (steps k (rw e at f))
+
 not-negative : (z : ℤ) → SFits w64 z → ltZ (back z) (pos 0) ≡ false → T (nonNeg (back z)) × Fits w64 (natAbs (back z))
-not-negative (pos n) f t = rw (toZ-ofZ w64 (pos n) f) (tt, record { fits = omega (arith, f .sfits) })
-not-negative (negsuc k) f t =
-    let t′ : ltZ (negsuc k) (pos 0) ≡ false = rw (toZ-ofZ w64 (negsuc k) f) at t in
-    let z : _≡_ {A = ℕ} 0 1 = cc in
-    absurd (omega arith)
+not-negative z f t =
+    let (n, e) = not-below z f t in
+    let g = rw e at f in
+    rw (toZ-ofZ w64 z f, e) (tt, record { fits = omega (arith, g .sfits) })
 
 add-above : tie.Need-add-above
 add-above c = negative (c .before .args .n) (c .before .fits .n) (c .if1 .taken) .above-fits

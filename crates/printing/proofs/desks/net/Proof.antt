@@ -1,4 +1,4 @@
--- `printing::desks::net`. Assumes nothing.
+-- `printing::desks::net`: both sums fit a signed number, and so does what is between them. Assumes nothing.
 use Prim.Native.Nat.{_<_, _^_}
 use native.Mathlib.Omega.{arith}
 use mir.Syntax.{w64}
@@ -12,7 +12,6 @@ use borrow.Author.Needs.{needs}
 use Rattle.printing.proofs.desks.net.Statement.{statement}
 use Rattle.printing.proofs.desks.net.Tie as tie
 
--- both sums fit a signed number, and so does what is between them
 returns : tie.Need-returns
 unfolding netOf
 returns c =

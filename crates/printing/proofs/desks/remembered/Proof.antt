@@ -1,4 +1,4 @@
--- `printing::desks::remembered`. Assumes nothing.
+-- `printing::desks::remembered`: only the receipt may differ. Assumes nothing.
 use mathlib.Core.Path.{ap}
 use Rattle.zvt_rules.specs.declared.ToldReceipt.{ToldReceipt}
 use borrow.Author.Needs.{needs}

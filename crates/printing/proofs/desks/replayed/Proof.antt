@@ -1,4 +1,4 @@
--- `printing::desks::replayed`. Assumes nothing.
+-- `printing::desks::replayed`: the lines, and the last one by how the replay ended. Assumes nothing.
 use native.Mathlib.Omega.{arith}
 use Rattle.desk_rules.specs.Memory.{linesOfDesk}
 use Rattle.buffers.proofs.TextLaws.{both}
@@ -18,9 +18,11 @@ returns c =
     let word = number .before .before .before .before in
     let lines = word .before .before .before .before .before in
     let start = lines .before .before .before in
+    let ls = linesText (linesOfDesk (start .args .desk)) in
     rw (told .enum-told .given .1)
-    (printed _ _ _ (whole-long (linesText (linesOfDesk (start .args .desk))) (start .args .place) (lines .add-lines .ensures .1) (omega arith))
-    (both _ _ _ (lines .add-lines .ensures .0) (both _ _ _ (word .add-all .ensures) (both _ _ _ (number .add-number .ensures) (end .add-all2 .ensures)))))
+    (printed _ _ _ (whole-long ls (start .args .place) (lines .add-lines .ensures .1) (omega arith))
+    (both _ _ _ (lines .add-lines .ensures .0)
+    (both _ _ _ (word .add-all .ensures) (both _ _ _ (number .add-number .ensures) (end .add-all2 .ensures)))))
 
 returns-2 : tie.Need-returns-2
 unfolding replayedText
@@ -32,11 +34,16 @@ returns-2 c =
     let word = number .before .before .before .before in
     let lines = word .before .before .before .before .before in
     let start = lines .before .before .before in
+    let ls = linesText (linesOfDesk (start .args .desk)) in
+    let small = known .struct-known .given .0 .fits in
     rw (told .ending .given .1)
-    (printed _ _ _ (stopped-long (linesText (linesOfDesk (start .args .desk))) (start .args .place) (told .ending .given .0 .0) (lines .add-lines .ensures .1) (omega arith) (known .struct-known .given .0 .fits))
-    (both _ _ _ (lines .add-lines .ensures .0) (both _ _ _ (word .add-all .ensures) (both _ _ _ (number .add-number .ensures) (end .counted .ensures)))))
+    (printed _ _ _ (stopped-long ls (start .args .place) (told .ending .given .0 .0) (lines .add-lines .ensures .1) (omega arith) small)
+    (both _ _ _ (lines .add-lines .ensures .0)
+    (both _ _ _ (word .add-all .ensures) (both _ _ _ (number .add-number .ensures) (end .counted .ensures)))))
 
 pub replayed-spec : {M : Type 1} → statement M
 replayed-spec =
     tie.close
-    (tie.spec (λ c κs. search needs) (λ c. search needs) (λ c κs. search needs) (λ c κs. search needs) (λ c. search needs) (λ c. search needs) (λ c κs. search needs) (λ c. search needs) (λ c. search needs) (λ c. search needs) (λ c κs. search needs) (λ c. search needs) returns (λ c. search needs) returns-2)
+    (tie.spec (λ c κs. search needs) (λ c. search needs) (λ c κs. search needs) (λ c κs. search needs) (λ c. search needs)
+    (λ c. search needs) (λ c κs. search needs) (λ c. search needs) (λ c. search needs) (λ c. search needs) (λ c κs. search needs)
+    (λ c. search needs) returns (λ c. search needs) returns-2)

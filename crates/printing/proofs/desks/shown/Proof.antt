@@ -1,4 +1,4 @@
--- `printing::desks::shown`. Assumes nothing.
+-- `printing::desks::shown`: a told 0 is none. Assumes nothing.
 use borrow.Author.Tests.{ne-eqb}
 use borrow.Author.Needs.{needs}
 use Rattle.printing.proofs.desks.shown.Statement.{statement}

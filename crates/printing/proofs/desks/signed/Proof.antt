@@ -1,4 +1,4 @@
--- `printing::desks::signed`. Assumes nothing.
+-- `printing::desks::signed`: with a stroke before it and without. Assumes nothing.
 use mathlib.Core.Path.{ap, _∙_}
 use lib.IntN.{natAbs}
 use mir.Syntax.{w64}
@@ -22,7 +22,8 @@ returns c =
     let same = size .magnitude .ensures ∙ ap natAbs (toZ-ofZ w64 (start .args .n) (start .fits .n)) in
     let digits = alike _ _ _ (ap decimalText same) (number .add-decimal .ensures) in
     printed 64 _ _ (signed-long _ (start .fits .n))
-    (rw (signed-below (start .args .n) (start .fits .n) (test .if1 .taken)) (both _ _ _ (minus .add .ensures) (both _ _ _ digits (end .add2 .ensures))))
+    (rw (signed-below (start .args .n) (start .fits .n) (test .if1 .taken))
+    (both _ _ _ (minus .add .ensures) (both _ _ _ digits (end .add2 .ensures))))
 
 returns-2 : tie.Need-returns-2
 returns-2 c =
@@ -39,4 +40,5 @@ returns-2 c =
 pub signed-spec : {M : Type 1} → statement M
 signed-spec =
     tie.close
-    (tie.spec (λ c κs. search needs) (λ c κs. search needs) (λ c κs. search needs) (λ c κs. search needs) (λ c. search needs) returns (λ c κs. search needs) (λ c κs. search needs) (λ c κs. search needs) (λ c. search needs) returns-2)
+    (tie.spec (λ c κs. search needs) (λ c κs. search needs) (λ c κs. search needs) (λ c κs. search needs) (λ c. search needs)
+    returns (λ c κs. search needs) (λ c κs. search needs) (λ c κs. search needs) (λ c. search needs) returns-2)

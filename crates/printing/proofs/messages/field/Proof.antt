@@ -1,4 +1,4 @@
--- `printing::messages::field`. Assumes nothing.
+-- `printing::messages::field`: refused, absent, or a value. Assumes nothing.
 use mathlib.Core.Path.{sym, ap, _∙_}
 use native.Mathlib.Omega.{arith}
 use Rattle.basics.specs.Text.{bytesText}
@@ -39,9 +39,13 @@ returns-3 c =
     let s = asked .before .before .before .args .s .now in
     let digits = alike _ _ _ (ap bytesText (handed .field-bytes .ensures .0 ∙ handed-value _ s _ _ value)) (bytes .add-bytes .ensures) in
     rw value
-    (printed _ _ _ (value-long s (told .v .given .0 .0) (omega (arith, known .known-told2 .given))) (both _ _ _ (number .add-decimal .ensures) (both _ _ _ (blank .add .ensures) (both _ _ _ digits (end .add2 .ensures)))))
+    (printed _ _ _ (value-long s (told .v .given .0 .0) (omega (arith, known .known-told2 .given)))
+    (both _ _ _ (number .add-decimal .ensures) (both _ _ _ (blank .add .ensures) (both _ _ _ digits (end .add2 .ensures)))))
 
 pub field-spec : {M : Type 1} → statement M
 field-spec =
     tie.close
-    (tie.spec (λ c κs. search needs) (λ c. search needs) (λ c κs. search needs) (λ c. search needs) (λ c. search needs) (λ c κs. search needs) (λ c. search needs) (λ c κs. search needs) (λ c κs. search needs) (λ c. search needs) (λ c κs. search needs) (λ c κs. search needs) (λ c κs. search needs) (λ c. search needs) returns (λ c. search needs) returns-2 (λ c. search needs) returns-3)
+    (tie.spec (λ c κs. search needs) (λ c. search needs) (λ c κs. search needs) (λ c. search needs) (λ c. search needs)
+    (λ c κs. search needs) (λ c. search needs) (λ c κs. search needs) (λ c κs. search needs) (λ c. search needs)
+    (λ c κs. search needs) (λ c κs. search needs) (λ c κs. search needs) (λ c. search needs) returns (λ c. search needs) returns-2
+    (λ c. search needs) returns-3)

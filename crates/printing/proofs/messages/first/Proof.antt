@@ -1,4 +1,4 @@
--- `printing::messages::first`. Assumes nothing.
+-- `printing::messages::first`: refused, or the message and where the next begins. Assumes nothing.
 use mathlib.Core.Path.{sym, _∙_}
 use native.Mathlib.Omega.{arith}
 use Rattle.buffers.proofs.TextLaws.{both}
@@ -29,13 +29,17 @@ returns-2 c =
     let read = told .before .before in
     let slice = read .before .before .before in
     let s = slice .before .args .s .now in
-    let known′ = bytes-known s (slice .shared-slice-known .given) in
+    let bytes = bytes-known s (slice .shared-slice-known .given) in
+    let small = known .known-told2 .given in
+    let long = first-long (told .answer2 .given .0 .0) s bytes (omega (arith, small)) (omega (arith, small)) in
     rw (sym (read .read-first .ensures .0) ∙ told .answer2 .given .1)
-    (printed _ _ _ (first-long (told .answer2 .given .0 .0) s known′ (omega (arith, known .known-told2 .given)) (omega (arith, known .known-told2 .given)) (told .answer2 .given .0 .1 .0) (omega (arith, known .known-told2 .given)) (omega (arith, known .known-told2 .given)))
+    (printed _ _ _ (long (told .answer2 .given .0 .1 .0) (omega (arith, small)) (omega (arith, small)))
     (both _ _ _ (message .message .ensures)
     (both _ _ _ (word .add-all .ensures) (both _ _ _ (start .add-number .ensures) (end .counted .ensures)))))
 
 pub first-spec : {M : Type 1} → statement M
 first-spec =
     tie.close
-    (tie.spec (λ c κs. search needs) (λ c. search needs) (λ c κs. search needs) (λ c. search needs) (λ c κs. search needs) (λ c. search needs) (λ c κs. search needs) (λ c κs. search needs) (λ c. search needs) (λ c κs. search needs) (λ c. search needs) returns (λ c. search needs) returns-2)
+    (tie.spec (λ c κs. search needs) (λ c. search needs) (λ c κs. search needs) (λ c. search needs) (λ c κs. search needs)
+    (λ c. search needs) (λ c κs. search needs) (λ c κs. search needs) (λ c. search needs) (λ c κs. search needs) (λ c. search needs)
+    returns (λ c. search needs) returns-2)

@@ -1,4 +1,4 @@
--- `printing::messages::message`. Assumes nothing.
+-- `printing::messages::message`: the pair, size and form, objects and ids. Assumes nothing.
 use Rattle.basics.specs.Text.{hexText}
 use Rattle.buffers.proofs.TextLaws.{both}
 use Rattle.printing.specs.Messages.{outlineText}
@@ -15,9 +15,11 @@ returns c =
     let second = size .before .before .before .before in
     let first = second .before .before .before .before in
     both _ _ _ (first .add-hex .ensures)
-    (both _ _ _ (second .add-hex2 .ensures) (both _ _ _ (size .add-size .ensures) (both _ _ _ (objects .add-number .ensures) (ids .add-ids .ensures))))
+    (both _ _ _ (second .add-hex2 .ensures)
+    (both _ _ _ (size .add-size .ensures) (both _ _ _ (objects .add-number .ensures) (ids .add-ids .ensures))))
 
 pub message-spec : {M : Type 1} → statement M
 message-spec =
     tie.close
-    (tie.spec (λ c κs. search needs) (λ c κs. search needs) (λ c κs. search needs) (λ c. search needs) (λ c κs. search needs) (λ c κs. search needs) (λ c. search needs) returns)
+    (tie.spec (λ c κs. search needs) (λ c κs. search needs) (λ c κs. search needs) (λ c. search needs) (λ c κs. search needs)
+    (λ c κs. search needs) (λ c. search needs) returns)

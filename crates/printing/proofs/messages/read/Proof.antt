@@ -1,4 +1,4 @@
--- `printing::messages::read`. Assumes nothing.
+-- `printing::messages::read`: refused, or the message. Assumes nothing.
 use mathlib.Core.Path.{sym, _∙_}
 use native.Mathlib.Omega.{arith}
 use Rattle.buffers.proofs.TextLaws.{both}
@@ -27,11 +27,14 @@ returns-2 c =
     let read = told .before .before in
     let slice = read .before .before in
     let s = slice .before .args .s .now in
-    let known′ = bytes-known s (slice .shared-slice-known .given) in
+    let bytes = bytes-known s (slice .shared-slice-known .given) in
+    let small = known .known-told2 .given in
     rw (sym (read .read .ensures) ∙ told .m .given .1)
-    (printed _ _ _ (read-long (told .m .given .0 .0) s known′ (omega (arith, known .known-told2 .given)) (omega (arith, known .known-told2 .given))) (both _ _ _ (message .message .ensures) (end .add .ensures)))
+    (printed _ _ _ (read-long (told .m .given .0 .0) s bytes (omega (arith, small)) (omega (arith, small)))
+    (both _ _ _ (message .message .ensures) (end .add .ensures)))
 
 pub read-spec : {M : Type 1} → statement M
 read-spec =
     tie.close
-    (tie.spec (λ c κs. search needs) (λ c. search needs) (λ c κs. search needs) (λ c. search needs) (λ c κs. search needs) (λ c κs. search needs) (λ c. search needs) returns (λ c. search needs) returns-2)
+    (tie.spec (λ c κs. search needs) (λ c. search needs) (λ c κs. search needs) (λ c. search needs) (λ c κs. search needs)
+    (λ c κs. search needs) (λ c. search needs) returns (λ c. search needs) returns-2)

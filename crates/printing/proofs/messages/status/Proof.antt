@@ -1,4 +1,4 @@
--- `printing::messages::status`. Assumes nothing.
+-- `printing::messages::status`: what the status information tells. Assumes nothing.
 use native.Mathlib.Omega.{arith}
 use Rattle.printing.proofs.Prints.{printed}
 use borrow.Author.Needs.{needs}
