@@ -33,6 +33,9 @@ ghost use Rattle.printing.specs.Desks.{kindText, outcomeText, endingText
 ghost use Rattle.printing.specs.Desks.{codeText, amountText, receiptText, statusText, shown, remembered, paymentText, laneText};
 ghost use Rattle.printing.specs.Desks.{lanesText, lanesRoom, signedText, netText, tapeText};
 
+// No book has more text, and no replay, by the contracts of both: 64 lines of at most 76 bytes, and the last line.
+pub const BOOK: usize = Book::LINES * 76 + 64;
+
 // A kind with a blank before it.
 fn add_kind(kind: Kind, at: usize, out: &mut [u8]) -> usize
     ensures { λ r. ⌜ text r (now (out .exit)) ≡ addAll (32 ∷ kindText kind) (text at (now (out .entry))) ⌝ }

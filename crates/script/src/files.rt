@@ -20,15 +20,15 @@ struct Wanted {
 
 // The next line of a file: where it ends, how long the text of the answer is that the file has for it, where the line behind that answer
 // begins, and on how many lines of the file both stand.
-pub struct Entry {
-    pub end: usize,
-    pub due: usize,
-    pub next: usize,
-    pub lines: u64,
+pub(crate) struct Entry {
+    pub(crate) end: usize,
+    pub(crate) due: usize,
+    pub(crate) next: usize,
+    pub(crate) lines: u64,
 }
 
 // Where the line behind one begins that ends there.
-pub fn behind(end: usize, s: &[u8]) -> usize
+pub(crate) fn behind(end: usize, s: &[u8]) -> usize
     requires { ⌜ end ≤ length (now s) ⌝ }
     ensures { λ r. ⌜ r ≡ min (end + 1) (length (now (s .entry))) ⌝ }
 {
@@ -93,7 +93,7 @@ fn wants(at: usize, s: &[u8], bytes: &[u8], out: &mut [u8]) -> Wanted
 }
 
 // The line of s that begins at from; its answer behind it goes to want as text, with the first count bytes of those added.
-pub fn next_of(from: usize, s: &[u8], count: usize, added: &[u8], want: &mut [u8]) -> Entry
+pub(crate) fn next_of(from: usize, s: &[u8], count: usize, added: &[u8], want: &mut [u8]) -> Entry
     requires { ⌜ from < length (now s) ⌝ }
     ensures { λ r. ⌜ (from ≤ r .end) × (r .end ≤ length (now (s .entry))) × (from < r .next) × (r .next ≤ length (now (s .entry))) ⌝ }
 {
@@ -109,7 +109,7 @@ pub fn next_of(from: usize, s: &[u8], count: usize, added: &[u8], want: &mut [u8
 }
 
 // The line s in full, as text with the first count bytes of those added: how long it is.
-pub fn full_line(s: &[u8], count: usize, added: &[u8], full: &mut [u8]) -> usize
+pub(crate) fn full_line(s: &[u8], count: usize, added: &[u8], full: &mut [u8]) -> usize
     ensures { λ r. ⌜ Counts r (now (full .exit)) ⌝ }
 {
     let n = upto(count, added);

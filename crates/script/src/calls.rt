@@ -1,9 +1,4 @@
-// What is done for a script that changes no desk: messages are read, a desk with its tape is asked, files of lines are read.
-pub mod desks;
-pub mod files;
-pub mod messages;
-pub mod standing;
-
+// What a line says of a call: what it opens, and which block is due.
 use desk_rules::Opening;
 use script_text::orders::Order;
 use script_text::orders::What;
@@ -11,21 +6,21 @@ use tape_rules::Block;
 ghost use Prim.Native.Nat.{_≤_};
 
 // The greatest numbers of the types u8, u16 and u32.
-pub const BYTE: u64 = 255;
+pub(crate) const BYTE: u64 = 255;
 
-pub const SHORT: u64 = 65535;
+pub(crate) const SHORT: u64 = 65535;
 
-pub const WORD: u64 = 4294967295;
+pub(crate) const WORD: u64 = 4294967295;
 
 // n, or that number where n is greater.
-pub fn cut(n: u64, greatest: u64) -> u64
+pub(crate) fn cut(n: u64, greatest: u64) -> u64
     ensures { λ r. ⌜ r ≤ greatest ⌝ }
 {
     if greatest < n { greatest } else { n }
 }
 
 // What a line opens. A number over the width of its type is passed on as the greatest of that type: the desk refuses it.
-pub fn opening_of(o: Order) -> Opening {
+pub(crate) fn opening_of(o: Order) -> Opening {
     let what = o.what;
     match what {
         What::Sale => Opening::Sale(o.second),
@@ -35,7 +30,7 @@ pub fn opening_of(o: Order) -> Opening {
 }
 
 // The block that is due, by its number: the last of its tape, or one before the last.
-pub fn due_of(o: Order) -> Block {
+pub(crate) fn due_of(o: Order) -> Block {
     let what = o.what;
     let number = cut(o.first, WORD) as u32;
     match what {

@@ -3,8 +3,8 @@ use Prim.Native.Nat.{_-_, _≤_}
 use lib.ListN.{length}
 use mathlib.Core.Path.{_≡_}
 use borrow.Author.Needs.{needs}
-use Rattle.script_reads.proofs.standing.repeated.Statement.{statement}
-use Rattle.script_reads.proofs.standing.repeated.Tie as tie
+use Rattle.script.proofs.standing.repeated.Statement.{statement}
+use Rattle.script.proofs.standing.repeated.Tie as tie
 
 abbrev Inv-loop : tie.InvT-loop
 Inv-loop s times at out₀ to₀ k₀ out to k =

@@ -3,8 +3,8 @@ use Prim.Native.Nat.{_-_, _≤_}
 use lib.ListN.{length}
 use mathlib.Core.Path.{_≡_}
 use borrow.Author.Needs.{needs}
-use Rattle.script_reads.proofs.files.wants.Statement.{statement}
-use Rattle.script_reads.proofs.files.wants.Tie as tie
+use Rattle.script.proofs.files.wants.Statement.{statement}
+use Rattle.script.proofs.files.wants.Tie as tie
 
 abbrev Inv-loop : tie.InvT-loop
 Inv-loop at s bytes out₀ size₀ lines₀ from₀ out size lines from =

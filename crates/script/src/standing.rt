@@ -1,12 +1,12 @@
 // Lines that say where the script stands: it ends, so many bytes are lent from now on, bytes are added.
 use buffers::add_all;
-use script_text::answers;
+use printing::answers;
 use script_text::orders::Script;
 
 // Where a script then stands, and how long the text of its answer is.
-pub struct Spoken {
-    pub at: Script,
-    pub size: usize,
+pub(crate) struct Spoken {
+    pub(crate) at: Script,
+    pub(crate) size: usize,
 }
 
 // So many times the bytes s, behind the first at bytes of out.
@@ -21,7 +21,7 @@ fn repeated(s: &[u8], times: u64, at: usize, out: &mut [u8]) -> usize {
 }
 
 // A line that is not understood ends the script.
-pub fn ended(at: Script, out: &mut [u8]) -> Spoken {
+pub(crate) fn ended(at: Script, out: &mut [u8]) -> Spoken {
     let mut after = at;
     after.more = false;
     Spoken {
@@ -31,7 +31,7 @@ pub fn ended(at: Script, out: &mut [u8]) -> Spoken {
 }
 
 // So many bytes are lent from now on, if there are that many.
-pub fn roomed(at: Script, room: u64, out: &mut [u8]) -> Spoken {
+pub(crate) fn roomed(at: Script, room: u64, out: &mut [u8]) -> Spoken {
     if (Script::ROOM as u64) < room {
         return ended(at, out);
     }
@@ -44,7 +44,13 @@ pub fn roomed(at: Script, room: u64, out: &mut [u8]) -> Spoken {
 }
 
 // So many times the bytes s are added.
-pub fn extended(at: Script, s: &[u8], times: u64, added: &mut [u8], out: &mut [u8]) -> Spoken {
+pub(crate) fn extended(
+    at: Script,
+    s: &[u8],
+    times: u64,
+    added: &mut [u8],
+    out: &mut [u8],
+) -> Spoken {
     let mut after = at;
     after.added = repeated(s, times, at.added, added);
     Spoken {

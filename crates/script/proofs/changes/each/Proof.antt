@@ -3,8 +3,8 @@ use Prim.Native.Nat.{_-_}
 use lib.ListN.{length}
 use mathlib.Core.Path.{_≡_}
 use borrow.Author.Needs.{needs}
-use Rattle.script_reads.proofs.messages.each.Statement.{statement}
-use Rattle.script_reads.proofs.messages.each.Tie as tie
+use Rattle.script.proofs.changes.each.Statement.{statement}
+use Rattle.script.proofs.changes.each.Tie as tie
 
 abbrev Inv-loop : tie.InvT-loop
 Inv-loop place s₀ out₀ to₀ first₀ value₀ v₀ s out to first value v =

@@ -5,8 +5,8 @@ use lib.ListN.{length}
 use mathlib.Core.Path.{_≡_}
 use native.Mathlib.Omega.{arith}
 use borrow.Author.Needs.{needs}
-use Rattle.script.proofs.plain.seen_of.Statement.{statement}
-use Rattle.script.proofs.plain.seen_of.Tie as tie
+use Rattle.script.proofs.changes.seen_of.Statement.{statement}
+use Rattle.script.proofs.changes.seen_of.Tie as tie
 
 abbrev Inv-loop : tie.InvT-loop
 Inv-loop due s₀ seen₀ i₀ s seen i =

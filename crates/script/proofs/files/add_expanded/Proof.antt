@@ -3,8 +3,8 @@ use Prim.Native.Nat.{_-_, _≤_}
 use lib.ListN.{length}
 use mathlib.Core.Path.{_≡_}
 use borrow.Author.Needs.{needs}
-use Rattle.script_reads.proofs.files.add_expanded.Statement.{statement}
-use Rattle.script_reads.proofs.files.add_expanded.Tie as tie
+use Rattle.script.proofs.files.add_expanded.Statement.{statement}
+use Rattle.script.proofs.files.add_expanded.Tie as tie
 
 abbrev Inv-loop : tie.InvT-loop
 Inv-loop s bytes at out₀ to₀ from₀ out to from =
