@@ -2,11 +2,11 @@
 use mathlib.Core.Path.{_≡_, refl, sym, ap, ap₂, _∙_}
 use mathlib.Core.Logic.{_↔_, _⊎_, inl, inr, ⊎-elim}
 use mathlib.Core.List.{List, [], _∷_, _++_, append-nil, append-assoc}
-use Prim.Native.Nat.{ℕ, zero, suc, _+_, _-_, _*_, _/_, _%_, _<_, _≤_, min}
+use Prim.Native.Nat.{ℕ, zero, suc, _+_, _-_, _*_, _/_, _%_, _^_, _<_, _≤_, min}
 use native.Mathlib.Nat.{add-zero, eq-zero-or-pos}
 use native.Mathlib.Numerals.{add-one}
 use native.Mathlib.Omega.{arith}
-use lib.ListN.{length, getD, take, drop, set, length-set, take-append-drop, drop-of-length-le}
+use lib.ListN.{length, getD, take, drop, set, length-set, length-append, take-append-drop, drop-of-length-le}
 use lib.Seq.{take-nil, take-all, take-suc-set, drop-set-lt}
 use lib.Dec.{ltb, eqb}
 use borrow.Author.Tests.{eqb-true, lt-ltb, le-ltb, ltb-true, ltb-false}
@@ -136,11 +136,25 @@ decimal-exactly n w = (
   λ e. rw e (says-by (suc n) n (omega arith)),
 )
 
+-- a number below 10 to the k has at most k digits
+pub decimal-long : (k n : ℕ) → n < 10 ^ suc k → length (decimalText n) ≤ suc k
+decimal-long zero n h = omega (arith, ap length (decimal-one n h))
+decimal-long (suc k) n h =
+    by-test (ltb n 10) (λ t. omega (arith, ap length (decimal-one n (ltb-true n 10 t))))
+    (λ t.
+    let less : n / 10 < 10 ^ suc k = omega arith in
+    omega (arith, ap length (decimal-more n (ltb-false n 10 t)), length-append (decimalText (n / 10)) ((48 + n % 10) ∷ []), decimal-long k (n / 10) less))
+
 -- ---- bytes in hex, one behind the other
 hexes-long : (s : List ℕ) → length (hexes s) ≡ 2 * length s
 unfolding hexes hexText
 hexes-long [] = refl
 hexes-long (b ∷ s) = omega (arith, hexes-long s)
+
+pub bytes-long : (s : List ℕ) → length (bytesText s) ≤ 2 * length s + 1
+unfolding bytesText
+bytes-long [] = omega arith
+bytes-long (b ∷ s) = omega (arith, hexes-long (b ∷ s))
 
 -- two digits in front move the others by two
 moved : (x y : ℕ) (w : List ℕ) (i : ℕ) → part (2 * suc i) (2 * suc i + 2) (x ∷ (y ∷ w)) ≡ part (2 * i) (2 * i + 2) w

@@ -1,11 +1,15 @@
 // Scripts of calls that drive a desk with its tape: played, one answer for each line, or checked against the answers beside them.
+mod calls;
 pub mod cases;
+mod changes;
+mod files;
 mod plain;
+mod standing;
+mod taping;
 mod turns;
 
 use buffers::upto;
 use libc::STDOUT_FILENO;
-use script_reads::files;
 use script_text::orders::Script;
 
 // The most bytes of a script.

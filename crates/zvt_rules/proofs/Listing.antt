@@ -19,7 +19,7 @@ use Rattle.basics.specs.believed.Lists.{Bytes}
 use Rattle.zvt_rules.specs.believed.Grammar.{MessageOk}
 use Rattle.zvt_rules.specs.Values.{bodyFields}
 use Rattle.basics.specs.Text.{hexText, decimalText}
-use Rattle.zvt_rules.specs.Listing.{idsText, bodyIds, shortOrLong, startText, sizeText, messageText, endText, okText, refusedText, lineAnd, linesFrom, listing}
+use Rattle.zvt_rules.specs.Listing.{idsText, bodyIds, idsOf, shortOrLong, startText, sizeText, messageText, endText, okText, refusedText, lineAnd, linesFrom, listing}
 use Rattle.basics.specs.believed.Text.{ascii}
 use Rattle.zvt_rules.specs.believed.Listing.{words, Ids, ShortOrLong, Line, Last, Lists, Listing}
 use Rattle.basics.proofs.Tests.{by-test, true-false, pick-test}
@@ -28,7 +28,7 @@ use Rattle.zvt_rules.proofs.MessageBytes.{first-sound, first-complete, 
 use Rattle.zvt_rules.proofs.MessageShort.{short-exactly}
 use Rattle.zvt_rules.proofs.Numbers.{first-numbers}
 use Rattle.zvt_rules.proofs.Found.{list-ends}
-use Rattle.basics.proofs.Text.{hex-only, hex-is, decimal-exactly, decimal-one, decimal-more}
+use Rattle.basics.proofs.Text.{hex-only, hex-is, decimal-exactly, decimal-one, decimal-more, decimal-long}
 
 -- ---- the lines from a place on
 passed : (count left : ℕ) (s : List ℕ) → linesFrom count left s ≡ linesFrom count 0 (drop left s)
@@ -265,14 +265,6 @@ listing-exactly s t b = (
 )
 
 -- ---- how long it is
-decimal-long : (k n : ℕ) → n < 10 ^ suc k → length (decimalText n) ≤ suc k
-decimal-long zero n h = omega (arith, ap length (decimal-one n h))
-decimal-long (suc k) n h =
-    by-test (ltb n 10) (λ t. omega (arith, ap length (decimal-one n (ltb-true n 10 t))))
-    (λ t.
-    let less : n / 10 < 10 ^ suc k = omega arith in
-    omega (arith, ap length (decimal-more n (ltb-false n 10 t)), length-append (decimalText (n / 10)) ((48 + n % 10) ∷ []), decimal-long k (n / 10) less))
-
 -- no number has more digits than its value and one
 decimal-few : (f n : ℕ) → n < f → length (decimalText n) ≤ n + 1
 decimal-few zero n h = absurd (omega arith)
@@ -296,7 +288,16 @@ ids-few (listed password fs) = omega (arith, length-append password (listBytes f
     go [] = omega arith
     go (f ∷ fs) = omega (arith, some f, length-append (fieldBytes f) (listBytes fs), go fs)
 
-form-long : (t : Bool) → length (shortOrLong t) ≤ 6
+-- the ids of the message that bytes begin with
+pub ids-long : (s : List ℕ) → Bytes s → length (idsOf (firstOf s)) ≤ 3 * length s
+unfolding idsOf
+ids-long s b = go (firstOf s) refl
+  where
+    go : (x : Reading Message) → firstOf s ≡ x → length (idsOf x) ≤ 3 * length s
+    go (got m) e = omega (arith, ids-few (m .body), message-size m, first-within s b m e)
+    go (refused f) e = omega arith
+
+pub form-long : (t : Bool) → length (shortOrLong t) ≤ 6
 unfolding shortOrLong
 form-long true = omega arith
 form-long false = omega arith
