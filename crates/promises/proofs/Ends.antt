@@ -12,6 +12,7 @@ use Rattle.tape.proofs as tape
 use Rattle.replaying.proofs as replaying
 use Rattle.buffers.proofs as buffers
 use Rattle.listing.proofs as listing
+use Rattle.printing.proofs as printing
 use Rattle.desk_rules.specs.Memory.{Valid}
 use Rattle.tape_rules.specs.Recording.{ValidTaped}
 use Rattle.promises.specs.Ends.{Ends, AsksNothing, AsksDesk}
@@ -216,3 +217,52 @@ listing-add-size-ends = (λ M. listing.add_size.Met.met, λ κs a. refl)
 
 pub listing-list-ends : Ends listing.list.Statement.statement × AsksNothing listing.list.Reads.Asked
 listing-list-ends = (λ M. listing.list.Met.met, λ κs a. refl)
+
+-- ---- printing: what programs print
+pub printing-add-number-ends : Ends printing.answers.add_number.Statement.statement × AsksNothing printing.answers.add_number.Reads.Asked
+printing-add-number-ends = (λ M. printing.answers.add_number.Met.met, λ κs a. refl)
+
+pub printing-counted-ends : Ends printing.answers.counted.Statement.statement × AsksNothing printing.answers.counted.Reads.Asked
+printing-counted-ends = (λ M. printing.answers.counted.Met.met, λ κs a. refl)
+
+pub printing-refused-ends : Ends printing.answers.refused.Statement.statement × AsksNothing printing.answers.refused.Reads.Asked
+printing-refused-ends = (λ M. printing.answers.refused.Met.met, λ κs a. refl)
+
+pub printing-not-understood-ends : Ends printing.answers.not_understood.Statement.statement × AsksNothing printing.answers.not_understood.Reads.Asked
+printing-not-understood-ends = (λ M. printing.answers.not_understood.Met.met, λ κs a. refl)
+
+pub printing-bytes-line-ends : Ends printing.answers.bytes_line.Statement.statement × AsksNothing printing.answers.bytes_line.Reads.Asked
+printing-bytes-line-ends = (λ M. printing.answers.bytes_line.Met.met, λ κs a. refl)
+
+pub printing-reply-ends : Ends printing.answers.reply.Statement.statement × AsksNothing printing.answers.reply.Reads.Asked
+printing-reply-ends = (λ M. printing.answers.reply.Met.met, λ κs a. refl)
+
+pub printing-book-ends : Ends printing.desks.book.Statement.statement × AsksDesk Valid printing.desks.book.Reads.Asked
+printing-book-ends = (λ M. printing.desks.book.Met.met, λ κs a. refl)
+
+pub printing-replayed-ends : Ends printing.desks.replayed.Statement.statement × AsksDesk Valid printing.desks.replayed.Reads.Asked
+printing-replayed-ends = (λ M. printing.desks.replayed.Met.met, λ κs a. refl)
+
+pub printing-lanes-ends : Ends printing.desks.lanes.Statement.statement × AsksDesk Valid printing.desks.lanes.Reads.Asked
+printing-lanes-ends = (λ M. printing.desks.lanes.Met.met, λ κs a. refl)
+
+pub printing-net-ends : Ends printing.desks.net.Statement.statement × AsksDesk Valid printing.desks.net.Reads.Asked
+printing-net-ends = (λ M. printing.desks.net.Met.met, λ κs a. refl)
+
+pub printing-blocks-ends : Ends printing.desks.blocks.Statement.statement × AsksNothing printing.desks.blocks.Reads.Asked
+printing-blocks-ends = (λ M. printing.desks.blocks.Met.met, λ κs a. refl)
+
+pub printing-read-ends : Ends printing.messages.read.Statement.statement × AsksNothing printing.messages.read.Reads.Asked
+printing-read-ends = (λ M. printing.messages.read.Met.met, λ κs a. refl)
+
+pub printing-header-ends : Ends printing.messages.header.Statement.statement × AsksNothing printing.messages.header.Reads.Asked
+printing-header-ends = (λ M. printing.messages.header.Met.met, λ κs a. refl)
+
+pub printing-first-ends : Ends printing.messages.first.Statement.statement × AsksNothing printing.messages.first.Reads.Asked
+printing-first-ends = (λ M. printing.messages.first.Met.met, λ κs a. refl)
+
+pub printing-field-ends : Ends printing.messages.field.Statement.statement × AsksNothing printing.messages.field.Reads.Asked
+printing-field-ends = (λ M. printing.messages.field.Met.met, λ κs a. refl)
+
+pub printing-status-ends : Ends printing.messages.status.Statement.statement × AsksNothing printing.messages.status.Reads.Asked
+printing-status-ends = (λ M. printing.messages.status.Met.met, λ κs a. refl)

@@ -15,6 +15,7 @@ use Rattle.tape.proofs as tape
 use Rattle.replaying.proofs as replaying
 use Rattle.buffers.proofs as buffers
 use Rattle.listing.proofs as listing
+use Rattle.printing.proofs as printing
 use Rattle.basics.specs.Text.{Text}
 use Rattle.promises.specs.OneAnswer.{Only, itself, placed, nothing, contents}
 
@@ -234,3 +235,52 @@ listing-add-size-one κs a = only _ _ (λ r e h. text h)
 
 pub listing-list-one : (κs : _) (a : _) → Only itself (λ e. now (e .1 .0)) (listing.list.Reads.Learnt κs a)
 listing-list-one κs a = only _ _ (λ r e h. text (h .0))
+
+-- ---- printing: what programs print; where the text ends, and the bytes of the buffer
+pub printing-add-number-one : (κs : _) (a : _) → Only itself (λ e. now (e .1 .1 .0)) (printing.answers.add_number.Reads.Learnt κs a)
+printing-add-number-one κs a = only _ _ (λ r e h. text h)
+
+pub printing-counted-one : (κs : _) (a : _) → Only itself (λ e. now (e .1 .1 .1 .0)) (printing.answers.counted.Reads.Learnt κs a)
+printing-counted-one κs a = only _ _ (λ r e h. text h)
+
+pub printing-refused-one : (κs : _) (a : _) → Only itself (λ e. now (e .1 .0)) (printing.answers.refused.Reads.Learnt κs a)
+printing-refused-one κs a = only _ _ (λ r e h. text (h .added))
+
+pub printing-not-understood-one : (κs : _) (a : _) → Only itself (λ e. now (e .1 .0)) (printing.answers.not_understood.Reads.Learnt κs a)
+printing-not-understood-one κs a = only _ _ (λ r e h. text (h .added))
+
+pub printing-bytes-line-one : (κs : _) (a : _) → Only itself (λ e. now (e .1 .0)) (printing.answers.bytes_line.Reads.Learnt κs a)
+printing-bytes-line-one κs a = only _ _ (λ r e h. text (h .added))
+
+pub printing-reply-one : (κs : _) (a : _) → Only itself (λ e. now (e .1 .1 .0)) (printing.answers.reply.Reads.Learnt κs a)
+printing-reply-one κs a = only _ _ (λ r e h. text (h .added))
+
+pub printing-book-one : (κs : _) (a : _) → Only itself (λ e. now (e .1 .0)) (printing.desks.book.Reads.Learnt κs a)
+printing-book-one κs a = only _ _ (λ r e h. text (h .added))
+
+pub printing-replayed-one : (κs : _) (a : _) → Only itself (λ e. now (e .1 .1 .1 .0)) (printing.desks.replayed.Reads.Learnt κs a)
+printing-replayed-one κs a = only _ _ (λ r e h. text (h .added))
+
+pub printing-lanes-one : (κs : _) (a : _) → Only itself (λ e. now (e .1 .0)) (printing.desks.lanes.Reads.Learnt κs a)
+printing-lanes-one κs a = only _ _ (λ r e h. text (h .added))
+
+pub printing-net-one : (κs : _) (a : _) → Only itself (λ e. now (e .1 .0)) (printing.desks.net.Reads.Learnt κs a)
+printing-net-one κs a = only _ _ (λ r e h. text (h .added))
+
+pub printing-blocks-one : (κs : _) (a : _) → Only itself (λ e. now (e .1 .0)) (printing.desks.blocks.Reads.Learnt κs a)
+printing-blocks-one κs a = only _ _ (λ r e h. text (h .added))
+
+pub printing-read-one : (κs : _) (a : _) → Only itself (λ e. now (e .1 .0)) (printing.messages.read.Reads.Learnt κs a)
+printing-read-one κs a = only _ _ (λ r e h. text (h .added))
+
+pub printing-header-one : (κs : _) (a : _) → Only itself (λ e. now (e .1 .0)) (printing.messages.header.Reads.Learnt κs a)
+printing-header-one κs a = only _ _ (λ r e h. text (h .added))
+
+pub printing-first-one : (κs : _) (a : _) → Only itself (λ e. now (e .1 .0)) (printing.messages.first.Reads.Learnt κs a)
+printing-first-one κs a = only _ _ (λ r e h. text (h .added))
+
+pub printing-field-one : (κs : _) (a : _) → Only itself (λ e. now (e .1 .1 .0)) (printing.messages.field.Reads.Learnt κs a)
+printing-field-one κs a = only _ _ (λ r e h. text (h .added))
+
+pub printing-status-one : (κs : _) (a : _) → Only itself (λ e. now (e .1 .0)) (printing.messages.status.Reads.Learnt κs a)
+printing-status-one κs a = only _ _ (λ r e h. text (h .added))
