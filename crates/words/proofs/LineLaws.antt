@@ -154,6 +154,34 @@ pub sizes-are : (m : Option Runs) (size end : ℕ) → asSizes m ≡ Ends size e
 sizes-are none size end e = never cc
 sizes-are (some r) size end e = (r, refl, cc, cc)
 
+pub sizes-alike : (v w : List ℕ) {size other : ℕ} → length v ≡ size → length w ≡ other → Ends size (size + other) ≡ Ends (length v) (length v + length w)
+sizes-alike v w e g = rw (e, g)
+
+-- two runs for which there is room, the first of that size
+pub record Sizable (f : Shape) (s out : List ℕ) (size : ℕ) : Type 0 where
+  pub runs : Runs
+  pub are : runsOf f (length out) s ≡ some runs
+  pub first : bytesAt f 1 s ≡ some (runs .message)
+  pub second : bytesAt f 2 s ≡ some (runs .name)
+  pub size-is : length (runs .message) ≡ size
+  pub room : length (runs .message ++ runs .name) ≤ length out
+
+pub sizable : (f : Shape) (s out : List ℕ) (size : ℕ) → Sized (runsOf f (length out) s) size → Sizable f s out size
+sizable f s out size = go (runsOf f (length out) s) refl
+  where
+    go : (m : Option Runs) → runsOf f (length out) s ≡ m → Sized m size → Sizable f s out size
+    go none e k = absurd k
+    go (some r) e k =
+        let b = both-read f (length out) s r e in
+        record {
+          runs = r;
+          are = e;
+          first = b .first;
+          second = b .second;
+          size-is = k;
+          room = omega (arith, length-append (r .message) (r .name), b .room-for);
+        }
+
 -- ---- the bytes of a line lie in the room
 record Within (room : ℕ) (l : Line) : Type 0 where
   parts : l .order .size ≤ l .order .end
@@ -186,7 +214,7 @@ unfolding lineOf
 line-within at room s =
     pick-test (Within room) (not (at .more) || passedOver s) (λ t. bare-within room what.Pass) (λ t. read-within _ room s)
 
-pub told-within : (at : Script) (s entry exit : List ℕ) (r : Order) → Told (lineOf at (length entry) s) r entry exit
+told-within : (at : Script) (s entry exit : List ℕ) (r : Order) → Told (lineOf at (length entry) s) r entry exit
     → (r .size ≤ r .end) × (r .end ≤ length exit)
 told-within at s entry exit r (o, e) =
     let l = lineOf at (length entry) s in
@@ -194,3 +222,18 @@ told-within at s entry exit r (o, e) =
     let long : length exit ≡ length (l .bytes) + (length entry - length (l .bytes)) =
     ap length e ∙ length-append (l .bytes) _ ∙ ap (λ n. length (l .bytes) + n) (length-drop (length (l .bytes)) entry) in
     (rw o (k .parts), rw o (omega (arith, k .whole, k .inside)))
+
+-- ---- what `order_of` answers, of what is passed over and of what is asked
+abbrev Ordered : Script → List ℕ → List ℕ → Order → List ℕ → Type 0
+Ordered at s entry r exit = Told (lineOf at (length entry) s) r entry exit × ((r .size ≤ r .end) × (r .end ≤ length exit))
+
+pub passed : (at : Script) (s entry : List ℕ) (r : Order) → lineOf at (length entry) s ≡ bare what.Pass → r ≡ (bare what.Pass) .order → Ordered at s entry r entry
+passed at s entry r e o =
+    let told = told-bare (lineOf at (length entry) s) what.Pass r entry e o in
+    (told, told-within at s entry entry r told)
+
+pub ordered : (at : Script) (s entry exit : List ℕ) (r : Order) (f : Shape) → lineOf at (length entry) s ≡ orBad (readAs (shapeOf (at .further) (wordOf 0 s)) (length entry) s)
+    → f ≡ shapeOf (at .further) (wordOf 0 s) → Told (orBad (readAs f (length entry) s)) r entry exit → Ordered at s entry r exit
+ordered at s entry exit r f e g k =
+    let told : Told (lineOf at (length entry) s) r entry exit = rw (e, ← g) k in
+    (told, told-within at s entry exit r told)

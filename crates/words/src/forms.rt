@@ -5,12 +5,7 @@ ghost use mathlib.Core.Path.{_≡_};
 ghost use Rattle.words.specs.Forms.{caseRows, shape, shapeIn, shapeOf};
 
 // Behind the word of a line stand so many numbers, behind them so many runs of bytes, and behind those so many ids.
-pub(crate) struct Form(
-    pub(crate) What,
-    pub(crate) u8,
-    pub(crate) u8,
-    pub(crate) u8,
-);
+pub(crate) struct Form(pub(crate) What, pub(crate) u8, pub(crate) u8, pub(crate) u8);
 
 const SCRIPT: [Form; 16] = [
     Form(What::Close, 0, 0, 0),
