@@ -23,9 +23,15 @@ pub(crate) fn cut(n: u64, greatest: u64) -> u64
 pub(crate) fn opening_of(o: Order) -> Opening {
     let what = o.what;
     match what {
-        What::Sale => Opening::Sale(o.second),
-        What::Refund => Opening::Refund(cut(o.second, WORD) as u32, o.third),
-        _ => Opening::Reversal(cut(o.second, WORD) as u32, cut(o.third, SHORT) as u16),
+        What::Sale => Opening::Sale { amount: o.second },
+        What::Refund => Opening::Refund {
+            password: cut(o.second, WORD) as u32,
+            amount: o.third,
+        },
+        _ => Opening::Reversal {
+            password: cut(o.second, WORD) as u32,
+            receipt: cut(o.third, SHORT) as u16,
+        },
     }
 }
 
