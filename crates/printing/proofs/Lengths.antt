@@ -1,13 +1,11 @@
 -- How long the text of an answer is at most, by the widths of its numbers. Assumes nothing.
-use mathlib.Core.Path.{_≡_, refl}
 use mathlib.Core.List.{List, [], _∷_, _++_}
 use Prim.Native.Nat.{ℕ, _+_, _-_, _*_, _/_, _^_, _≤_, _<_}
 use native.Mathlib.Omega.{arith}
 use lib.ListN.{length, take, drop, length-append, length-take, length-drop}
-use Rattle.basics.specs.Text.{bytesText, hexText, decimalText}
+use Rattle.basics.specs.Text.{hexText, decimalText}
 use Rattle.basics.proofs.Text.{decimal-long, bytes-long}
 use Rattle.zvt_rules.specs.declared.Refusal.{Refusal}
-use Rattle.zvt_rules.specs.declared.Place.{Place}
 use Rattle.zvt_rules.specs.declared.Place.the-variants.{Nowhere, At}
 use Rattle.desk_rules.specs.declared.Kind.{Kind}
 use Rattle.desk_rules.specs.declared.Kind.the-variants.{Sale, Refund, Reversal}

@@ -1,6 +1,6 @@
 -- Lines that are told one after the other, of the book, of the lanes and of a tape: what is left to tell, and how long it all is. Assumes
 -- nothing.
-use mathlib.Core.Path.{_≡_, refl, sym, ap, _∙_}
+use mathlib.Core.Path.{_≡_, sym, ap, _∙_}
 use mathlib.Core.List.{List, [], _∷_, _++_}
 use Prim.Native.Nat.{ℕ, suc, _+_, _-_, _*_, _≤_, _<_}
 use native.Mathlib.Numerals.{add-one}
@@ -9,7 +9,7 @@ use lib.ListN.{length, getD, take, drop, length-append, drop-of-length-le}
 use lib.Seq.{drop-cons, drop-drop}
 use lib.Dec.{ltb}
 use borrow.Author.Tests.{lt-ltb, ltb-true, ltb-false}
-use Rattle.basics.specs.Text.{Text, text, addAll}
+use Rattle.basics.specs.Text.{text, addAll}
 use Rattle.basics.proofs.Tests.{by-test, never}
 use Rattle.buffers.proofs.TextLaws.{addAll-append, goes-on}
 use Rattle.desk_rules.specs.Lanes.{blankLine, idleLane}

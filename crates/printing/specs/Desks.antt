@@ -6,7 +6,7 @@ use lib.ListN.{length, take, drop}
 use lib.Dec.{eqb}
 use lib.IntN.{ℤ, pos, negsuc}
 use Rattle.basics.specs.Choice.{pick}
-use Rattle.basics.specs.Text.{bytesText, hexText, decimalText}
+use Rattle.basics.specs.Text.{hexText, decimalText}
 use Rattle.basics.specs.believed.Text.{ascii}
 use Rattle.zvt_rules.specs.declared.Status.{Status}
 use Rattle.zvt_rules.specs.declared.ToldCode.{ToldCode}

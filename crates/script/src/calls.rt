@@ -1,8 +1,8 @@
 // What a line says of a call: what it opens, and which block is due.
 use desk_rules::Opening;
-use script_text::orders::Order;
-use script_text::orders::What;
 use tape_rules::Block;
+use words::Order;
+use words::What;
 ghost use Prim.Native.Nat.{_≤_};
 
 // The greatest numbers of the types u8, u16 and u32.

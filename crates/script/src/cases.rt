@@ -8,8 +8,8 @@ use crate::turns::Turn;
 use buffers::upto;
 use check::same;
 use libc::STDOUT_FILENO;
-use script_text::orders::Script;
 use std::num::wrapping_add_u64;
+use words::Script;
 ghost use Rattle.tape_rules.specs.Recording.{ValidTaped};
 
 // How many answers a file of cases has, and how many of them differ.

@@ -10,7 +10,7 @@ mod turns;
 
 use buffers::upto;
 use libc::STDOUT_FILENO;
-use script_text::orders::Script;
+use words::Script;
 
 // The most bytes of a script.
 pub const LIMIT: usize = 65536;

@@ -1,7 +1,7 @@
 // Lines that say where the script stands: it ends, so many bytes are lent from now on, bytes are added.
 use buffers::add_all;
 use printing::answers;
-use script_text::orders::Script;
+use words::Script;
 
 // Where a script then stands, and how long the text of its answer is.
 pub(crate) struct Spoken {

@@ -9,13 +9,13 @@ use buffers::fill;
 use buffers::upto;
 use printing::answers;
 use printing::desks;
-use script_text::orders;
-use script_text::orders::Order;
-use script_text::orders::Script;
-use script_text::orders::What;
 use std::num::wrapping_add_u64;
 use tape_rules::Taped;
 use tape_rules::TapedAnswer;
+use words::Order;
+use words::Script;
+use words::What;
+use words::order_of;
 ghost use Prim.Native.Nat.{_≤_};
 ghost use lib.ListN.{length};
 ghost use Rattle.tape_rules.specs.Recording.{ValidTaped};
@@ -181,6 +181,6 @@ pub(crate) fn line(
     let number = wrapping_add_u64(turn.at.number, 1);
     let mut begun = turn;
     begun.at.number = number;
-    let o = orders::order_of(begun.at, s, &mut bytes);
+    let o = order_of(begun.at, s, &mut bytes);
     done(begun, o, &mut bytes, file, room, added, out)
 }

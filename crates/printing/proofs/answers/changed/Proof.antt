@@ -1,5 +1,5 @@
 -- `printing::answers::changed`. The loop's invariant: the bytes from i on are untouched where those behind the first n are. Assumes nothing.
-use mathlib.Core.Path.{_≡_, refl, sym, _∙_}
+use mathlib.Core.Path.{_≡_, refl, _∙_}
 use Prim.Native.Nat.{_-_, _≤_}
 use native.Mathlib.Omega.{arith}
 use lib.ListN.{length, getD, drop}

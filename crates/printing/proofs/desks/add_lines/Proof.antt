@@ -1,6 +1,6 @@
 -- `printing::desks::add_lines`. The loop's invariant: the lines behind the first k, written behind the text so far, come to all of them, and
 -- k lines have at most 76 bytes each. Assumes nothing.
-use mathlib.Core.Path.{_≡_, refl, sym, _∙_}
+use mathlib.Core.Path.{refl, sym, _∙_}
 use Prim.Native.Nat.{_+_, _-_, _*_, _≤_}
 use native.Mathlib.Omega.{arith}
 use lib.ListN.{length, drop}

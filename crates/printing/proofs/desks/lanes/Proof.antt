@@ -1,9 +1,9 @@
 -- `printing::desks::lanes`. The loop's invariant: the lanes from this one on, written behind the text so far, come to all of them, and those
 -- before it have at most 76 bytes each. Assumes nothing.
-use mathlib.Core.Path.{_≡_, refl, sym, _∙_}
-use Prim.Native.Nat.{_+_, _-_, _*_, _≤_}
+use mathlib.Core.Path.{refl, sym, _∙_}
+use Prim.Native.Nat.{_-_, _*_, _≤_}
 use native.Mathlib.Omega.{arith}
-use lib.ListN.{length, drop}
+use lib.ListN.{drop}
 use borrow.Author.Needs.{needs}
 use Rattle.printing.specs.Desks.{numbered, laneText, lanesText}
 use Rattle.printing.proofs.Prints.{printed}

@@ -7,7 +7,7 @@ use lib.IntN.{ℤ, pos, negsuc, sucℤ, natAbs, _+ℤ_, _-ℤ_, +ℤ-one}
 use lib.Signed.{ltZ, nonNeg}
 use lib.Dec.{T}
 use mir.Syntax.{w64}
-use mir.Val.{SFits, Fits, toZ, ofZ}
+use mir.Val.{SFits, Fits}
 use mir.ValLaws.{toZ-ofZ}
 use Rattle.printing.proofs.Signed.{back, below, not-below}
 use Rattle.printing.proofs.desks.magnitude.Statement.{statement}

@@ -1,0 +1,44 @@
+-- `order_of`: what is passed over, or a line of the form of its first word. Assumes nothing.
+use mathlib.Core.Path.{ap, _∙_}
+use native.Mathlib.Omega.{arith}
+use borrow.Author.Tests.{not-true, not-false}
+use Rattle.words.specs.Forms.{shapeOf}
+use Rattle.words.proofs.LineLaws.{ended, blank, comment, asked, passed, ordered}
+use borrow.Author.Needs.{needs}
+use Rattle.words.proofs.order_of.Statement.{statement}
+use Rattle.words.proofs.order_of.Tie as tie
+
+returns : tie.Need-returns
+returns c =
+    let a = c .before .before .before .before .before .args in
+    passed (a .at) (a .s .now) (a .bytes .now) _ (ended (a .at) _ (a .s .now) (not-true _ (c .before .if1 .taken))) (c .empty .ensures)
+
+returns-2 : tie.Need-returns-2
+returns-2 c =
+    let more = c .before .before in
+    let a = more .before .before .before .before .args in
+    passed (a .at) (a .s .now) (a .bytes .now) _ (blank (a .at) _ (a .s .now) (not-false _ (more .if1 .left)) (c .before .if2 .taken)) (c .empty2 .ensures)
+
+returns-3 : tie.Need-returns-3
+returns-3 c =
+    let more = c .before .before .before .before in
+    let a = more .before .before .before .before .args in
+    passed (a .at) (a .s .now) (a .bytes .now) _ (comment (a .at) _ (a .s .now) (not-false _ (more .if1 .left)) (omega arith) (c .before .if3 .taken)) (c .empty3 .ensures)
+
+returns-4 : tie.Need-returns-4
+returns-4 c =
+    let done = c .before .before in
+    let form = done .before .before in
+    let word = form .before in
+    let some = word .before .before .before in
+    let more = some .before in
+    let a = more .before .before .before .before .args in
+    let line = asked (a .at) _ (a .s .now) (not-false _ (more .if1 .left)) (some .if2 .left) (word .before .if3 .left) in
+    let shape-is = form .form-of .ensures ∙ ap (shapeOf (a .at .further)) (word .word .ensures) in
+    ordered (a .at) (a .s .now) (a .bytes .now) _ _ _ line shape-is (done .read-as .ensures)
+
+pub order-of-spec : {M : Type 1} → statement M
+order-of-spec =
+    tie.close
+    (tie.spec (λ c κs. search needs) returns (λ c κs. search needs) returns-2 (λ c. search needs) (λ c κs. search needs) returns-3
+    (λ c κs. search needs) (λ c κs. search needs) (λ c κs. search needs) (λ c. search needs) returns-4)

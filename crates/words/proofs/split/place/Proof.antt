@@ -1,0 +1,71 @@
+-- `split::place`: the words of a table one by one. The invariant: the word stands k places behind where it stands from k on. Assumes nothing.
+use Prim.Native.Nat.{_-_, _+_, _≤_, _<_}
+use mathlib.Core.Path.{_≡_, sym, _∙_}
+use native.Mathlib.Omega.{arith}
+use lib.ListN.{length, drop}
+use Rattle.basics.proofs.Tests.{true-false}
+use Rattle.words.specs.Split.{wordsOf, wordOf, placeIn}
+use Rattle.words.proofs.SplitLaws.{words-count, following-most, place-here, place-behind, place-none}
+use borrow.Author.Needs.{needs}
+use Rattle.words.proofs.split.place.Statement.{statement}
+use Rattle.words.proofs.split.place.Tie as tie
+
+abbrev Inv-loop : tie.InvT-loop
+Inv-loop w table last k₀ k = (k ≤ length (wordsOf table)) × (k + placeIn (drop k (wordsOf table)) w ≡ placeIn (wordsOf table) w)
+
+abbrev μ-loop : tie.MeasureT-loop
+μ-loop w table last k₀ k = length (wordsOf table) - k
+
+loop-holds : tie.Need-loop-holds Inv-loop μ-loop
+loop-holds c = (omega arith, omega arith)
+
+returns : tie.Need-returns Inv-loop μ-loop
+unfolding wordOf
+returns c =
+    let same = c .before in
+    let turn = same .before .before in
+    let at = turn .before in
+    let a = at .before .before .before .before .args in
+    let table = a .table .now in
+    let inside : at .loop .k < length (wordsOf table) = omega (arith, words-count table, at .before .following .ensures, turn .loop-test .taken) in
+    let here = sym (same .before .word .ensures) ∙ same .same .ensures .0 (c .if1 .taken) in
+    omega (arith, place-here (wordsOf table) (a .w .now) (at .loop .k) inside here, at .loop .inv .1)
+
+add-k : tie.Need-add-k Inv-loop μ-loop
+add-k c =
+    let turn = c .before .before .before in
+    let at = turn .before in
+    let table = at .before .before .before .before .args .table .now in
+    record { fits = omega (arith, following-most table, at .before .following .ensures, turn .loop-test .taken) }
+
+loop-less : tie.Need-loop-less Inv-loop μ-loop
+loop-less c =
+    let turn = c .before .before .before in
+    let at = turn .before in
+    let table = at .before .before .before .before .args .table .now in
+    omega (arith, words-count table, at .before .following .ensures, turn .loop-test .taken)
+
+loop-again : tie.Need-loop-again Inv-loop μ-loop
+unfolding wordOf
+loop-again c =
+    let same = c .before in
+    let turn = same .before .before in
+    let at = turn .before in
+    let a = at .before .before .before .before .args in
+    let table = a .table .now in
+    let inside : at .loop .k < length (wordsOf table) = omega (arith, words-count table, at .before .following .ensures, turn .loop-test .taken) in
+    let behind = place-behind (wordsOf table) (a .w .now) (at .loop .k) inside λ e. true-false (same .same .ensures .1 (same .before .word .ensures ∙ e)) (c .if1 .left) in
+    (omega arith, omega (arith, behind, at .loop .inv .1))
+
+returns-2 : tie.Need-returns-2 Inv-loop μ-loop
+returns-2 c =
+    let at = c .before in
+    let a = at .before .before .before .before .args in
+    let table = a .table .now in
+    let all : length (wordsOf table) ≤ at .loop .k = omega (arith, words-count table, at .before .following .ensures, c .loop-test .left) in
+    omega (arith, place-none (wordsOf table) (a .w .now) (at .loop .k) all, at .loop .inv .1)
+
+pub place-spec : {M : Type 1} → statement M
+place-spec =
+    tie.close
+    (tie.spec Inv-loop μ-loop (λ c κs. search needs) loop-holds (λ c κs. search needs) (λ c κs. search needs) returns add-k loop-less loop-again returns-2)
