@@ -149,8 +149,11 @@ pub no-sizes : (m : Option Runs) → asSizes m ≡ bad-sizes → m ≡ none
 no-sizes none e = refl
 no-sizes (some r) e = never cc
 
-pub sizes-are : (m : Option Runs) (size end : ℕ) → asSizes m ≡ Ends size end
-    → (r : Runs) × (m ≡ some r) × (length (r .message) ≡ size) × (length (r .message) + length (r .name) ≡ end)
+-- the one ends at size, and the other at end
+abbrev pub Ended : Option Runs → ℕ → ℕ → Type 0
+Ended m size end = (r : Runs) × (m ≡ some r) × (length (r .message) ≡ size) × (length (r .message) + length (r .name) ≡ end)
+
+pub sizes-are : (m : Option Runs) (size end : ℕ) → asSizes m ≡ Ends size end → Ended m size end
 sizes-are none size end e = never cc
 sizes-are (some r) size end e = (r, refl, cc, cc)
 

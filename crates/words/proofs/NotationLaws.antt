@@ -199,7 +199,11 @@ pub no-size : (o : Option (List ℕ)) → asSize o ≡ bad-size → o ≡ none
 no-size none e = refl
 no-size (some v) e = never cc
 
-pub is-size : (o : Option (List ℕ)) (n : ℕ) → asSize o ≡ so-many n → (v : List ℕ) × (o ≡ some v) × (length v ≡ n)
+-- n bytes
+abbrev pub Run : Option (List ℕ) → ℕ → Type 0
+Run o n = (v : List ℕ) × (o ≡ some v) × (length v ≡ n)
+
+pub is-size : (o : Option (List ℕ)) (n : ℕ) → asSize o ≡ so-many n → Run o n
 is-size none n e = never cc
 is-size (some v) n e = (v, refl, cc)
 

@@ -1,55 +1,50 @@
 -- `numbers_of`: one number after the other. Assumes nothing.
-use mathlib.Core.Path.{sym, ap, _∙_}
+use mathlib.Core.Path.{_≡_, sym, ap, _∙_}
+use mathlib.Core.Option.{some}
 use Rattle.words.specs.Forms.{shape}
-use Rattle.words.specs.Lines.{asNumbers}
+use Rattle.words.specs.Lines.{firstOf, numberAt, asNumbers}
 use Rattle.words.proofs.NotationLaws.{no-number, is-number}
 use Rattle.words.proofs.LineLaws.{no-first, no-second, no-third, all-three}
 use borrow.Author.Needs.{needs}
 use Rattle.words.proofs.numbers_of.Statement.{statement}
 use Rattle.words.proofs.numbers_of.Tie as tie
 
+abbrev start : tie.After-first → tie.Start
+start c = c .before .before .before .before
+
+abbrev first : tie.After-number-at → tie.After-first
+first c = c .before .before
+
+abbrev second : tie.After-number-at2 → tie.After-second
+second c = c .before .before
+
+first-is : (c : tie.After-first) → firstOf (shape (start c .args .form)) (start c .args .s .now) ≡ some (c .first .given .0 .0)
+first-is c = is-number _ _ (sym (c .before .before .first-of .ensures) ∙ c .first .given .1)
+
+second-is : (c : tie.After-second) → let a = start (first (c .before .before)) .args in numberAt (a .form .1) 2 (a .s .now) ≡ some (c .second .given .0 .0)
+second-is c = is-number _ _ (sym (c .before .before .number-at .ensures) ∙ c .second .given .1)
+
 returns : tie.Need-returns
-returns c =
-    let called = c .before .before in
-    let a = called .before .before .args in
-    ap asNumbers (sym (no-first (shape (a .form)) (a .s .now) (no-number _ (sym (called .first-of .ensures) ∙ c .enum-told .given .1))))
+returns c = ap asNumbers (sym (no-first _ _ (no-number _ (sym (c .before .before .first-of .ensures) ∙ c .enum-told .given .1))))
 
 returns-2 : tie.Need-returns-2
 returns-2 c =
-    let second = c .before .before in
-    let first = second .before .before in
-    let called = first .before .before in
-    let a = called .before .before .args in
-    let one = is-number _ _ (sym (called .first-of .ensures) ∙ first .first .given .1) in
-    let no = no-number _ (sym (second .number-at .ensures) ∙ c .enum-told2 .given .1) in
-    ap asNumbers (sym (no-second (shape (a .form)) (a .s .now) one no))
+    let asked = c .before .before in
+    ap asNumbers (sym (no-second _ _ (first-is (first asked)) (no-number _ (sym (asked .number-at .ensures) ∙ c .enum-told2 .given .1))))
 
 returns-3 : tie.Need-returns-3
 returns-3 c =
-    let third = c .before .before in
-    let told = third .before .before in
-    let second = told .before .before in
-    let first = second .before .before in
-    let called = first .before .before in
-    let a = called .before .before .args in
-    let one = is-number _ _ (sym (called .first-of .ensures) ∙ first .first .given .1) in
-    let two = is-number _ _ (sym (second .number-at .ensures) ∙ told .second .given .1) in
-    let no = no-number _ (sym (third .number-at2 .ensures) ∙ c .enum-told3 .given .1) in
-    ap asNumbers (sym (no-third (shape (a .form)) (a .s .now) one two no))
+    let asked = c .before .before in
+    let told = second asked in
+    let no = no-number _ (sym (asked .number-at2 .ensures) ∙ c .enum-told3 .given .1) in
+    ap asNumbers (sym (no-third _ _ (first-is (first (told .before .before))) (second-is told) no))
 
 returns-4 : tie.Need-returns-4
 returns-4 c =
-    let last = c .before in
-    let third = last .before .before in
-    let told = third .before .before in
-    let second = told .before .before in
-    let first = second .before .before in
-    let called = first .before .before in
-    let a = called .before .before .args in
-    let one = is-number _ _ (sym (called .first-of .ensures) ∙ first .first .given .1) in
-    let two = is-number _ _ (sym (second .number-at .ensures) ∙ told .second .given .1) in
-    let three = is-number _ _ (sym (third .number-at2 .ensures) ∙ last .third .given .1) in
-    ap asNumbers (sym (all-three (shape (a .form)) (a .s .now) one two three))
+    let asked = c .before .before .before in
+    let told = second asked in
+    let third-is = is-number _ _ (sym (asked .number-at2 .ensures) ∙ c .before .third .given .1) in
+    ap asNumbers (sym (all-three _ _ (first-is (first (told .before .before))) (second-is told) third-is))
 
 pub numbers-of-spec : {M : Type 1} → statement M
 numbers-of-spec =

@@ -1,62 +1,46 @@
 -- `put_runs`: one run, and the other behind it. Assumes nothing.
-use mathlib.Core.Path.{_≡_, ap, _∙_}
-use mathlib.Core.List.{List}
-use mathlib.Core.Option.{Option}
-use Prim.Native.Nat.{ℕ}
+use Prim.Native.Nat.{_≤_}
 use native.Mathlib.Omega.{arith}
-use lib.ListN.{length-append}
+use lib.ListN.{length, length-append}
 use Rattle.buffers.proofs.Behind.{then-front, room-behind}
-use Rattle.words.specs.Notation.{put}
 use Rattle.words.specs.Forms.{shape}
-use Rattle.words.proofs.LineLaws.{sizable}
+use Rattle.words.proofs.LineLaws.{Sizable, sizable}
 use borrow.Author.Needs.{needs}
 use Rattle.words.proofs.put_runs.Statement.{statement}
 use Rattle.words.proofs.put_runs.Tie as tie
 
+runs : (z : tie.Start) → Sizable (shape (z .args .form)) (z .args .s .now) (z .args .bytes .now) (z .args .size)
+runs z = sizable _ _ _ _ (z .pre)
+
+abbrev start : tie.After-put-at → tie.Start
+start c = c .before .before .before .before
+
+inside : (z : tie.Start) → z .args .size ≤ length (z .args .bytes .now)
+inside z = omega (arith, length-append (runs z .runs .message) (runs z .runs .name), runs z .room, runs z .size-is)
+
 put-at-requires : tie.Need-put-at-requires
 put-at-requires c κs =
-    let start = c .before .before .before in
-    let a = start .args in
-    let k = sizable (shape (a .form)) (a .s .now) (a .bytes .now) (a .size) (start .pre) in
-    rw (k .first) (omega (arith, length-append (k .runs .message) (k .runs .name), k .room))
-
-sub-put-at : tie.Need-sub-put-at
-sub-put-at c =
-    let first = c .before .before in
-    let start = first .before .before .before .before in
-    let a = start .args in
-    let k = sizable (shape (a .form)) (a .s .now) (a .bytes .now) (a .size) (start .pre) in
-    omega (arith, length-append (k .runs .message) (k .runs .name), k .room, k .size-is)
-
-part-put-at-start : tie.Need-part-put-at-start
-part-put-at-start c =
-    let first = c .before .before in
-    let start = first .before .before .before .before in
-    let a = start .args in
-    let k = sizable (shape (a .form)) (a .s .now) (a .bytes .now) (a .size) (start .pre) in
-    omega (arith, length-append (k .runs .message) (k .runs .name), k .room, k .size-is)
+    let z = c .before .before .before in
+    rw (runs z .first) (omega (arith, inside z, runs z .size-is))
 
 put-at-requires-2 : tie.Need-put-at-requires-2
 put-at-requires-2 c κs =
     let first = c .before .before .before in
-    let start = first .before .before .before .before in
-    let a = start .args in
-    let k = sizable (shape (a .form)) (a .s .now) (a .bytes .now) (a .size) (start .pre) in
-    let put-first = first .put-at .ensures ∙ ap (λ (o : Option (List ℕ)). put o (a .bytes .now)) (k .first) in
-    rw (k .second) (room-behind (k .runs .message) (k .runs .name) (a .bytes .now) _ (a .size) put-first (k .size-is) (k .room))
+    let z = start first in
+    let k = runs z in
+    rw (k .second) (room-behind (k .runs .message) (k .runs .name) (z .args .bytes .now) _ _ (rw (k .first) at (first .put-at .ensures)) (k .size-is) (k .room))
 
 returns : tie.Need-returns
 returns c =
     let second = c .before .before in
     let first = second .before .before .before .before in
-    let start = first .before .before .before .before in
-    let a = start .args in
-    let k = sizable (shape (a .form)) (a .s .now) (a .bytes .now) (a .size) (start .pre) in
-    let put-first = first .put-at .ensures ∙ ap (λ (o : Option (List ℕ)). put o (a .bytes .now)) (k .first) in
-    let put-second = rw (k .second) at (second .put-at2 .ensures) in
-    rw (k .are) (then-front (k .runs .message) (k .runs .name) (a .bytes .now) _ (a .size) put-first (k .size-is) _ put-second)
+    let z = start first in
+    let k = runs z in
+    rw (k .are) (then-front (k .runs .message) (k .runs .name) (z .args .bytes .now) _ _ (rw (k .first) at (first .put-at .ensures)) (k .size-is) _
+    (rw (k .second) at (second .put-at2 .ensures)))
 
 pub put-runs-spec : {M : Type 1} → statement M
 put-runs-spec =
     tie.close
-    (tie.spec put-at-requires sub-put-at part-put-at-start (λ c. search needs) put-at-requires-2 (λ c. search needs) returns)
+    (tie.spec put-at-requires (λ c. omega (arith, inside (start (c .before .before)))) (λ c. omega (arith, inside (start (c .before .before))))
+    (λ c. search needs) put-at-requires-2 (λ c. search needs) returns)

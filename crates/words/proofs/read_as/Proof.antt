@@ -1,70 +1,69 @@
 -- `read_as`: the count of words, the numbers and the bytes. Assumes nothing.
-use mathlib.Core.Path.{sym, ap, _∙_}
-use mathlib.Core.Option.{Option}
+use mathlib.Core.Path.{_≡_, sym, ap, _∙_}
+use mathlib.Core.Option.{Option, some}
+use Prim.Native.Nat.{_+_}
 use lib.ListN.{length}
+use Rattle.words.specs.Split.{following}
 use Rattle.words.specs.Forms.{shape}
-use Rattle.words.specs.Lines.{Runs, runsOf, orBad, putBoth}
+use Rattle.words.specs.Lines.{valuesOf, Runs, runsOf, orBad, putBoth}
 use Rattle.words.specs.declared.What.the-variants.{Bad}
-use Rattle.words.proofs.LineLaws.{wrong-count, no-values, no-runs, read, told-bare, no-numbers, numbers-are, no-sizes, sizes-are}
+use Rattle.words.proofs.LineLaws.{wrong-count, no-values, no-runs, read, told-bare, no-numbers, numbers-are, no-sizes, Ended, sizes-are}
 use borrow.Author.Needs.{needs}
 use Rattle.words.proofs.read_as.Statement.{statement}
 use Rattle.words.proofs.read_as.Tie as tie
 
+abbrev start : tie.After-following → tie.Start
+start c = c .before .before .before .before .before .before
+
+abbrev numbers : tie.After-first → tie.After-numbers-of
+numbers c = c .before .before
+
+abbrev counted : tie.After-numbers-of → tie.After-following
+counted c = c .before .before
+
+abbrev begun : tie.After-sizes-of → tie.Start
+begun c = start (counted (numbers (c .before .before)))
+
+count : (c : tie.After-numbers-of) → let a = start (counted c) .args in following (a .s .now) ≡ a .form .1 + a .form .2 + a .form .3
+count c = sym (counted c .following .ensures) ∙ c .before .if1 .left
+
+values : (c : tie.After-first) → let a = start (counted (numbers c)) .args in
+    valuesOf (shape (a .form)) (a .s .now) ≡ some (record { first = c .first .given .0 .0; second = c .first .given .0 .1 .0; third = c .first .given .0 .1 .1 .0 })
+values c = numbers-are _ _ _ _ (sym (numbers c .numbers-of .ensures) ∙ c .first .given .1)
+
+runs : (c : tie.After-size) → let a = begun (c .before .before) .args in
+    Ended (runsOf (shape (a .form)) (length (a .bytes .now)) (a .s .now)) (c .size .given .0 .0) (c .size .given .0 .1 .0)
+runs c = sizes-are _ _ _ (sym (c .before .before .sizes-of .ensures) ∙ c .size .given .1)
+
 returns : tie.Need-returns
 returns c =
     let called = c .before .before in
-    let a = called .before .before .before .before .before .before .args in
-    let bad = wrong-count (shape (a .form)) (length (a .bytes .now)) (a .s .now) λ e. c .before .if1 .taken (called .following .ensures ∙ e) in
-    told-bare _ Bad _ (a .bytes .now) (ap orBad bad) (c .empty .ensures)
+    told-bare _ Bad _ _ (ap orBad (wrong-count _ _ _ λ e. c .before .if1 .taken (called .following .ensures ∙ e))) (c .empty .ensures)
 
 returns-2 : tie.Need-returns-2
 returns-2 c =
-    let told = c .before in
-    let numbers = told .before .before in
-    let called = numbers .before .before in
-    let a = called .before .before .before .before .before .before .args in
-    let count = sym (called .following .ensures) ∙ numbers .before .if1 .left in
-    let no = no-numbers _ (sym (numbers .numbers-of .ensures) ∙ told .enum-told .given .1) in
-    told-bare _ Bad _ (a .bytes .now) (ap orBad (no-values (shape (a .form)) (length (a .bytes .now)) (a .s .now) count no)) (c .empty2 .ensures)
+    let called = c .before .before .before in
+    let no = no-numbers _ (sym (called .numbers-of .ensures) ∙ c .before .enum-told .given .1) in
+    told-bare _ Bad _ _ (ap orBad (no-values _ _ _ (count called) no)) (c .empty2 .ensures)
 
 returns-3 : tie.Need-returns-3
 returns-3 c =
-    let told = c .before in
-    let sizes = told .before .before in
-    let given = sizes .before .before in
-    let numbers = given .before .before in
-    let called = numbers .before .before in
-    let a = called .before .before .before .before .before .before .args in
-    let count = sym (called .following .ensures) ∙ numbers .before .if1 .left in
-    let values = numbers-are _ _ _ _ (sym (numbers .numbers-of .ensures) ∙ given .first .given .1) in
-    let no = no-sizes _ (sym (sizes .sizes-of .ensures) ∙ told .enum-told2 .given .1) in
-    told-bare _ Bad _ (a .bytes .now) (ap orBad (no-runs (shape (a .form)) (length (a .bytes .now)) (a .s .now) count values no)) (c .empty3 .ensures)
+    let called = c .before .before .before in
+    let told = called .before .before in
+    let no = no-sizes _ (sym (called .sizes-of .ensures) ∙ c .before .enum-told2 .given .1) in
+    told-bare _ Bad _ _ (ap orBad (no-runs _ _ _ (count (numbers told)) (values told) no)) (c .empty3 .ensures)
 
 put-runs-requires : tie.Need-put-runs-requires
-put-runs-requires c κs =
-    let ends = c .before .before in
-    let sizes = ends .before .before in
-    let given = sizes .before .before in
-    let called = given .before .before .before .before in
-    let a = called .before .before .before .before .before .before .args in
-    let m = runsOf (shape (a .form)) (length (a .bytes .now)) (a .s .now) in
-    let runs = sizes-are m _ _ (sym (sizes .sizes-of .ensures) ∙ ends .size .given .1) in
-    rw (runs .1) (runs .2)
+put-runs-requires c κs = let r = runs (c .before .before) in rw (r .1) (r .2)
 
 returns-4 : tie.Need-returns-4
 returns-4 c =
     let put = c .before .before in
     let ends = put .before .before .before in
-    let sizes = ends .before .before in
-    let given = sizes .before .before in
-    let numbers = given .before .before in
-    let called = numbers .before .before in
-    let a = called .before .before .before .before .before .before .args in
-    let count = sym (called .following .ensures) ∙ numbers .before .if1 .left in
-    let values = numbers-are _ _ _ _ (sym (numbers .numbers-of .ensures) ∙ given .first .given .1) in
-    let runs = sizes-are _ _ _ (sym (sizes .sizes-of .ensures) ∙ ends .size .given .1) in
-    rw (read (shape (a .form)) (length (a .bytes .now)) (a .s .now) count values (runs .1))
-    (rw (runs .3, runs .2), put .put-runs .ensures ∙ ap (λ (m : Option Runs). putBoth m (a .bytes .now)) (runs .1))
+    let told = ends .before .before .before .before in
+    let r = runs ends in
+    rw (read _ _ _ (count (numbers told)) (values told) (r .1))
+    (rw (r .3, r .2), put .put-runs .ensures ∙ ap (λ (m : Option Runs). putBoth m (begun (ends .before .before) .args .bytes .now)) (r .1))
 
 pub read-as-spec : {M : Type 1} → statement M
 read-as-spec =

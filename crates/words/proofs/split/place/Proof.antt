@@ -16,56 +16,50 @@ Inv-loop w table last k₀ k = (k ≤ length (wordsOf table)) × (k + placeIn (d
 abbrev μ-loop : tie.MeasureT-loop
 μ-loop w table last k₀ k = length (wordsOf table) - k
 
-loop-holds : tie.Need-loop-holds Inv-loop μ-loop
-loop-holds c = (omega arith, omega arith)
+abbrev start : tie.At-loop Inv-loop μ-loop → tie.Start Inv-loop μ-loop
+start c = c .before .before .before .before
+
+abbrev turn : tie.After-same Inv-loop μ-loop → tie.In-loop Inv-loop μ-loop
+turn c = c .before .before
+
+inside : (c : tie.In-loop Inv-loop μ-loop) → c .before .loop .k < length (wordsOf (start (c .before) .args .table .now))
+inside c = omega (arith, words-count (start (c .before) .args .table .now), c .before .before .following .ensures, c .loop-test .taken)
 
 returns : tie.Need-returns Inv-loop μ-loop
 unfolding wordOf
 returns c =
     let same = c .before in
-    let turn = same .before .before in
-    let at = turn .before in
-    let a = at .before .before .before .before .args in
-    let table = a .table .now in
-    let inside : at .loop .k < length (wordsOf table) = omega (arith, words-count table, at .before .following .ensures, turn .loop-test .taken) in
+    let at = turn same .before in
+    let a = start at .args in
     let here = sym (same .before .word .ensures) ∙ same .same .ensures .0 (c .if1 .taken) in
-    omega (arith, place-here (wordsOf table) (a .w .now) (at .loop .k) inside here, at .loop .inv .1)
+    omega (arith, place-here (wordsOf (a .table .now)) (a .w .now) (at .loop .k) (inside (turn same)) here, at .loop .inv .1)
 
 add-k : tie.Need-add-k Inv-loop μ-loop
 add-k c =
-    let turn = c .before .before .before in
-    let at = turn .before in
-    let table = at .before .before .before .before .args .table .now in
-    record { fits = omega (arith, following-most table, at .before .following .ensures, turn .loop-test .taken) }
+    let at = turn (c .before) .before in
+    record { fits = omega (arith, following-most (start at .args .table .now), at .before .following .ensures, turn (c .before) .loop-test .taken) }
 
 loop-less : tie.Need-loop-less Inv-loop μ-loop
-loop-less c =
-    let turn = c .before .before .before in
-    let at = turn .before in
-    let table = at .before .before .before .before .args .table .now in
-    omega (arith, words-count table, at .before .following .ensures, turn .loop-test .taken)
+loop-less c = omega (arith, inside (turn (c .before)))
 
 loop-again : tie.Need-loop-again Inv-loop μ-loop
 unfolding wordOf
 loop-again c =
     let same = c .before in
-    let turn = same .before .before in
-    let at = turn .before in
-    let a = at .before .before .before .before .args in
-    let table = a .table .now in
-    let inside : at .loop .k < length (wordsOf table) = omega (arith, words-count table, at .before .following .ensures, turn .loop-test .taken) in
-    let behind = place-behind (wordsOf table) (a .w .now) (at .loop .k) inside λ e. true-false (same .same .ensures .1 (same .before .word .ensures ∙ e)) (c .if1 .left) in
-    (omega arith, omega (arith, behind, at .loop .inv .1))
+    let at = turn same .before in
+    let a = start at .args in
+    let behind = place-behind (wordsOf (a .table .now)) (a .w .now) (at .loop .k) (inside (turn same))
+    λ e. true-false (same .same .ensures .1 (same .before .word .ensures ∙ e)) (c .if1 .left) in
+    (omega (arith, inside (turn same)), omega (arith, behind, at .loop .inv .1))
 
 returns-2 : tie.Need-returns-2 Inv-loop μ-loop
 returns-2 c =
     let at = c .before in
-    let a = at .before .before .before .before .args in
-    let table = a .table .now in
+    let table = start at .args .table .now in
     let all : length (wordsOf table) ≤ at .loop .k = omega (arith, words-count table, at .before .following .ensures, c .loop-test .left) in
-    omega (arith, place-none (wordsOf table) (a .w .now) (at .loop .k) all, at .loop .inv .1)
+    omega (arith, place-none (wordsOf table) (start at .args .w .now) (at .loop .k) all, at .loop .inv .1)
 
 pub place-spec : {M : Type 1} → statement M
 place-spec =
     tie.close
-    (tie.spec Inv-loop μ-loop (λ c κs. search needs) loop-holds (λ c κs. search needs) (λ c κs. search needs) returns add-k loop-less loop-again returns-2)
+    (tie.spec Inv-loop μ-loop (λ c κs. search needs) (λ c. (omega arith, omega arith)) (λ c κs. search needs) (λ c κs. search needs) returns add-k loop-less loop-again returns-2)
