@@ -13,6 +13,7 @@ use Rattle.replaying.proofs as replaying
 use Rattle.buffers.proofs as buffers
 use Rattle.listing.proofs as listing
 use Rattle.printing.proofs as printing
+use Rattle.words.proofs as words
 use Rattle.desk_rules.specs.Memory.{Valid}
 use Rattle.tape_rules.specs.Recording.{ValidTaped}
 use Rattle.promises.specs.Ends.{Ends, AsksNothing, AsksDesk}
@@ -266,3 +267,10 @@ printing-field-ends = (λ M. printing.messages.field.Met.met, λ κs a. refl)
 
 pub printing-status-ends : Ends printing.messages.status.Statement.statement × AsksNothing printing.messages.status.Reads.Asked
 printing-status-ends = (λ M. printing.messages.status.Met.met, λ κs a. refl)
+
+-- ---- words: what a line of a script asks for
+pub script-start-ends : Ends words.Script.start.Statement.statement × AsksNothing words.Script.start.Reads.Asked
+script-start-ends = (λ M. words.Script.start.Met.met, λ κs a. refl)
+
+pub words-order-of-ends : Ends words.order_of.Statement.statement × AsksNothing words.order_of.Reads.Asked
+words-order-of-ends = (λ M. words.order_of.Met.met, λ κs a. refl)

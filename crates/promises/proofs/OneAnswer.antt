@@ -16,6 +16,7 @@ use Rattle.replaying.proofs as replaying
 use Rattle.buffers.proofs as buffers
 use Rattle.listing.proofs as listing
 use Rattle.printing.proofs as printing
+use Rattle.words.proofs as words
 use Rattle.basics.specs.Text.{Text}
 use Rattle.promises.specs.OneAnswer.{Only, itself, placed, nothing, contents}
 
@@ -284,3 +285,10 @@ printing-field-one κs a = only _ _ (λ r e h. text (h .added))
 
 pub printing-status-one : (κs : _) (a : _) → Only itself (λ e. now (e .1 .0)) (printing.messages.status.Reads.Learnt κs a)
 printing-status-one κs a = only _ _ (λ r e h. text (h .added))
+
+-- ---- words: what a line of a script asks for
+pub script-start-one : (κs : _) (a : _) → Only itself nothing (words.Script.start.Reads.Learnt κs a)
+script-start-one κs a = only _ _ (λ r e h. (h, refl))
+
+pub words-order-of-one : (κs : _) (a : _) → Only itself (λ e. now (e .1 .1 .0)) (words.order_of.Reads.Learnt κs a)
+words-order-of-one κs a = only _ _ (λ r e h. h .0)
