@@ -13,7 +13,7 @@ use Rattle.basics.proofs.Tests.{pick-test, by-test, never}
 use Rattle.words.specs.Split.{following, wordOf}
 use Rattle.words.specs.Notation.{bytesOf}
 use Rattle.words.specs.Forms.{Shape, shapeOf}
-use Rattle.words.specs.Lines.{andThen, numberAt, firstNumber, Values, valuesOf, bytesAt, Runs, runsOf, Line, lineWith, bare, readAs, orBad, passedOver, lineOf, Ordered, asNumbers, asSizes, Sized, putBoth}
+use Rattle.words.specs.Lines.{andThen, numberAt, firstOf, Values, valuesOf, bytesAt, Runs, runsOf, Line, lineWith, bare, readAs, orBad, passedOver, lineOf, Told, asNumbers, asSizes, Sized, putBoth}
 use Rattle.words.specs.declared.Script.{Script}
 use Rattle.words.specs.declared.Order.{Order}
 use Rattle.words.specs.declared.Numbers.the-variants.{Bad as bad-numbers, Given}
@@ -32,19 +32,19 @@ run-none f k s h = rw (lt-ltb (f .runs) k h)
 
 -- ---- the numbers of a line
 module _ (f : Shape) (s : List ℕ) where
-  pub no-first : firstNumber f s ≡ none → valuesOf f s ≡ none
+  pub no-first : firstOf f s ≡ none → valuesOf f s ≡ none
   unfolding valuesOf andThen
   no-first e = rw e
 
-  pub no-second : {a : ℕ} → firstNumber f s ≡ some a → numberAt (f .numbers) 2 s ≡ none → valuesOf f s ≡ none
+  pub no-second : {a : ℕ} → firstOf f s ≡ some a → numberAt (f .numbers) 2 s ≡ none → valuesOf f s ≡ none
   unfolding valuesOf andThen
   no-second e g = rw (e, g)
 
-  pub no-third : {a b : ℕ} → firstNumber f s ≡ some a → numberAt (f .numbers) 2 s ≡ some b → numberAt (f .numbers) 3 s ≡ none → valuesOf f s ≡ none
+  pub no-third : {a b : ℕ} → firstOf f s ≡ some a → numberAt (f .numbers) 2 s ≡ some b → numberAt (f .numbers) 3 s ≡ none → valuesOf f s ≡ none
   unfolding valuesOf andThen
   no-third e g h = rw (e, g, h)
 
-  pub all-three : {a b c : ℕ} → firstNumber f s ≡ some a → numberAt (f .numbers) 2 s ≡ some b → numberAt (f .numbers) 3 s ≡ some c
+  pub all-three : {a b c : ℕ} → firstOf f s ≡ some a → numberAt (f .numbers) 2 s ≡ some b → numberAt (f .numbers) 3 s ≡ some c
       → valuesOf f s ≡ some (record { first = a; second = b; third = c })
   unfolding valuesOf andThen
   all-three e g h = rw (e, g, h)
@@ -129,7 +129,7 @@ module _ (at : Script) (room : ℕ) where
   asked [] t l n = absurd (l refl)
   asked (b ∷ s) t l n = rw (t, ne-eqb b 35 n)
 
-pub told-bare : (l : Line) (w : What) (r : Order) (entry : List ℕ) → l ≡ bare w → r ≡ (bare w) .order → Ordered l r entry entry
+pub told-bare : (l : Line) (w : What) (r : Order) (entry : List ℕ) → l ≡ bare w → r ≡ (bare w) .order → Told l r entry entry
 told-bare l w r entry e o = rw e (o, refl)
 
 -- ---- the code's answers, read back
@@ -217,7 +217,7 @@ unfolding lineOf
 line-within at room s =
     pick-test (Within room) (not (at .more) || passedOver s) (λ t. bare-within room what.Pass) (λ t. read-within _ room s)
 
-told-within : (at : Script) (s entry exit : List ℕ) (r : Order) → Ordered (lineOf at (length entry) s) r entry exit
+told-within : (at : Script) (s entry exit : List ℕ) (r : Order) → Told (lineOf at (length entry) s) r entry exit
     → (r .size ≤ r .end) × (r .end ≤ length exit)
 told-within at s entry exit r (o, e) =
     let l = lineOf at (length entry) s in
@@ -228,7 +228,7 @@ told-within at s entry exit r (o, e) =
 
 -- ---- what `order_of` answers, of what is passed over and of what is asked
 abbrev Ordered : Script → List ℕ → List ℕ → Order → List ℕ → Type 0
-Ordered at s entry r exit = Ordered (lineOf at (length entry) s) r entry exit × ((r .size ≤ r .end) × (r .end ≤ length exit))
+Ordered at s entry r exit = Told (lineOf at (length entry) s) r entry exit × ((r .size ≤ r .end) × (r .end ≤ length exit))
 
 pub passed : (at : Script) (s entry : List ℕ) (r : Order) → lineOf at (length entry) s ≡ bare what.Pass → r ≡ (bare what.Pass) .order → Ordered at s entry r entry
 passed at s entry r e o =
@@ -236,7 +236,7 @@ passed at s entry r e o =
     (told, told-within at s entry entry r told)
 
 pub ordered : (at : Script) (s entry exit : List ℕ) (r : Order) (f : Shape) → lineOf at (length entry) s ≡ orBad (readAs (shapeOf (at .further) (wordOf 0 s)) (length entry) s)
-    → f ≡ shapeOf (at .further) (wordOf 0 s) → Ordered (orBad (readAs f (length entry) s)) r entry exit → Ordered at s entry r exit
+    → f ≡ shapeOf (at .further) (wordOf 0 s) → Told (orBad (readAs f (length entry) s)) r entry exit → Ordered at s entry r exit
 ordered at s entry exit r f e g k =
-    let told : Ordered (lineOf at (length entry) s) r entry exit = rw (e, ← g) k in
+    let told : Told (lineOf at (length entry) s) r entry exit = rw (e, ← g) k in
     (told, told-within at s entry exit r told)

@@ -36,8 +36,8 @@ unfoldable pub numberAt : ℕ → ℕ → List ℕ → Option ℕ
 numberAt numbers k s = pick (ltb numbers k) (some 0) (numberOf (wordOf k s))
 
 -- the first number, or the id, the last word of its line
-unfoldable pub firstNumber : Shape → List ℕ → Option ℕ
-firstNumber f s = pick (eqb (f .ids) 0) (numberAt (f .numbers) 1 s) (idOf (wordOf (following s) s))
+unfoldable pub firstOf : Shape → List ℕ → Option ℕ
+firstOf f s = pick (eqb (f .ids) 0) (numberAt (f .numbers) 1 s) (idOf (wordOf (following s) s))
 
 pub record Values : Type 0 where
   pub first : ℕ
@@ -46,7 +46,7 @@ pub record Values : Type 0 where
 
 unfoldable pub valuesOf : Shape → List ℕ → Option Values
 valuesOf f s =
-    andThen (firstNumber f s) λ first. andThen (numberAt (f .numbers) 2 s) λ second. andThen (numberAt (f .numbers) 3 s) λ third.
+    andThen (firstOf f s) λ first. andThen (numberAt (f .numbers) 2 s) λ second. andThen (numberAt (f .numbers) 3 s) λ third.
     some (record { first = first; second = second; third = third })
 
 -- ---- bytes
@@ -111,8 +111,8 @@ unfoldable pub lineOf : Script → ℕ → List ℕ → Line
 lineOf at room s = pick (not (at .more) || passedOver s) (bare what.Pass) (orBad (readAs (shapeOf (at .further) (wordOf 0 s)) room s))
 
 -- the order is told, and the line's bytes stand at the start of the buffer
-abbrev pub Ordered : Line → Order → List ℕ → List ℕ → Type 0
-Ordered l order entry exit = (order ≡ l .order) × (exit ≡ front (l .bytes) entry)
+abbrev pub Told : Line → Order → List ℕ → List ℕ → Type 0
+Told l order entry exit = (order ≡ l .order) × (exit ≡ front (l .bytes) entry)
 
 -- ---- the code's own answers
 abbrev pub asNumbers : Option Values → Numbers

@@ -18,7 +18,7 @@ ghost use Prim.Native.Nat.{_≤_};
 ghost use lib.ListN.{length};
 ghost use Rattle.words.specs.Notation.{asNumber, asSize, Fits, put};
 ghost use Rattle.words.specs.Forms.{shape};
-ghost use Rattle.words.specs.Lines.{begun, numberAt, firstNumber, valuesOf, asNumbers, bytesAt, runsOf, asSizes, Sized, putBoth, bare, readAs, orBad, lineOf, Ordered};
+ghost use Rattle.words.specs.Lines.{begun, numberAt, firstOf, valuesOf, asNumbers, bytesAt, runsOf, asSizes, Sized, putBoth, bare, readAs, orBad, lineOf, Told};
 
 // Where a script stands, but for its desk: whether the further words are understood, whether it goes on, how many bytes are lent to a
 // call that writes, how many lines were played, and how many bytes were added.
@@ -136,7 +136,7 @@ fn number_at(numbers: u8, k: u8, s: &[u8]) -> Number
 
 // The first number, which is the id where a field is asked for.
 fn first_of(form: Form, s: &[u8]) -> Number
-    ensures { λ r. ⌜ r ≡ asNumber (firstNumber (shape form) (now (s .entry))) ⌝ }
+    ensures { λ r. ⌜ r ≡ asNumber (firstOf (shape form) (now (s .entry))) ⌝ }
 {
     if form.3 == 0 {
         return number_at(form.1, 1, s);
@@ -211,7 +211,7 @@ fn put_runs(form: Form, size: usize, s: &[u8], bytes: &mut [u8])
 
 // A line of that form.
 fn read_as(form: Form, s: &[u8], bytes: &mut [u8]) -> Order
-    ensures { λ r. ⌜ Ordered (orBad (readAs (shape form) (length (now (bytes .entry))) (now (s .entry)))) r (now (bytes .entry)) (now (bytes .exit)) ⌝ }
+    ensures { λ r. ⌜ Told (orBad (readAs (shape form) (length (now (bytes .entry))) (now (s .entry)))) r (now (bytes .entry)) (now (bytes .exit)) ⌝ }
 {
     let count = form.1 as usize + form.2 as usize + form.3 as usize;
     if following(s) != count {
@@ -237,7 +237,7 @@ fn read_as(form: Form, s: &[u8], bytes: &mut [u8]) -> Order
 
 // The order of a line; its bytes go to the start of bytes. A line that is not understood leaves them as they were.
 pub fn order_of(at: Script, s: &[u8], bytes: &mut [u8]) -> Order
-    ensures told { λ r. ⌜ Ordered (lineOf at (length (now (bytes .entry))) (now (s .entry))) r (now (bytes .entry)) (now (bytes .exit)) ⌝ }
+    ensures told { λ r. ⌜ Told (lineOf at (length (now (bytes .entry))) (now (s .entry))) r (now (bytes .entry)) (now (bytes .exit)) ⌝ }
     ensures inside { λ r. ⌜ (r .size ≤ r .end) × (r .end ≤ length (now (bytes .exit))) ⌝ }
 {
     if !at.more {

@@ -21,7 +21,8 @@ loop-holds c =
 
 loop-again : tie.Need-loop-again Inv-loop μ-loop
 loop-again c =
-    (search needs, c .before .before .before .before .before .before .before .before .before .before .before .before .before .line .ensures, search needs, search needs, search needs, search needs)
+    let played = c .before .before .before .before .before .before .before .before .before .before .before .before .before in
+    (search needs, played .line .ensures, search needs, search needs, search needs, search needs)
 
 pub play-in-spec : {M : Type 1} → statement M
 play-in-spec =

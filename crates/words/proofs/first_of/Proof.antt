@@ -5,17 +5,17 @@ use Prim.Native.Nat.{ℕ}
 use borrow.Author.Tests.{eq-eqb, ne-eqb}
 use Rattle.words.specs.Notation.{asNumber, idOf}
 use Rattle.words.specs.Split.{wordOf}
-use Rattle.words.specs.Lines.{firstNumber}
+use Rattle.words.specs.Lines.{firstOf}
 use borrow.Author.Needs.{needs}
 use Rattle.words.proofs.first_of.Statement.{statement}
 use Rattle.words.proofs.first_of.Tie as tie
 
 returns : tie.Need-returns
-unfolding firstNumber
+unfolding firstOf
 returns c = rw (eq-eqb _ 0 (c .before .if1 .taken)) (c .number-at .ensures)
 
 returns-2 : tie.Need-returns-2
-unfolding firstNumber
+unfolding firstOf
 returns-2 c =
     let word = c .before in
     let last = word .before in

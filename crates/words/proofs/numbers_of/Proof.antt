@@ -2,7 +2,7 @@
 use mathlib.Core.Path.{_≡_, sym, ap, _∙_}
 use mathlib.Core.Option.{some}
 use Rattle.words.specs.Forms.{shape}
-use Rattle.words.specs.Lines.{firstNumber, numberAt, asNumbers}
+use Rattle.words.specs.Lines.{firstOf, numberAt, asNumbers}
 use Rattle.words.proofs.NotationLaws.{no-number, is-number}
 use Rattle.words.proofs.LineLaws.{no-first, no-second, no-third, all-three}
 use borrow.Author.Needs.{needs}
@@ -18,7 +18,7 @@ first c = c .before .before
 abbrev second : tie.After-number-at2 → tie.After-second
 second c = c .before .before
 
-first-is : (c : tie.After-first) → firstNumber (shape (start c .args .form)) (start c .args .s .now) ≡ some (c .first .given .0 .0)
+first-is : (c : tie.After-first) → firstOf (shape (start c .args .form)) (start c .args .s .now) ≡ some (c .first .given .0 .0)
 first-is c = is-number _ _ (sym (c .before .before .first-of .ensures) ∙ c .first .given .1)
 
 second-is : (c : tie.After-second) → let a = start (first (c .before .before)) .args in numberAt (a .form .1) 2 (a .s .now) ≡ some (c .second .given .0 .0)

@@ -45,5 +45,5 @@ pub lanes-spec : {M : Type 1} → statement M
 lanes-spec =
     tie.close
     (tie.spec Inv-loop μ-loop (λ c. (omega arith, record { kept = refl; still = refl; size = omega arith })) (λ c κs. search needs)
-    (λ c. search needs) (λ c. c .before .before .before .before .loop .inv .1 .kept) returns (λ c. search needs)
+    (λ c. search needs) (λ c. let turn = c .before .before .before .before in turn .loop .inv .1 .kept) returns (λ c. search needs)
     (λ c κs. search needs) (λ c. search needs) (λ c. search needs) loop-again (λ c. c .before .loop .inv .1 .kept) returns-2)

@@ -21,12 +21,32 @@ loop-holds c =
 
 loop-again : tie.Need-loop-again Inv-loop μ-loop
 loop-again c =
-    (search (needs, c .before .before .before .before .before .before .before .before .before .before .before .before .before .before .before .before .before .before .before .before .next-of .ensures), c .before .before .before .before .before .before .before .before .before .before .before .before .passed .ensures, search (needs, c .before .before .before .before .before .before .before .before .before .before .before .file .given, c .before .before .before .before .before .before .before .before .before .before .before .before .before .before .before .before .before .before .before .before .before .before .before .before .before .loop .inv .2), search (needs, c .before .before .before .before .before .before .before .before .before .room .given, c .before .before .before .before .before .before .before .before .before .before .before .before .before .before .before .before .before .before .before .before .before .before .before .before .before .loop .inv .3), search (needs, c .before .before .before .before .before .before .before .added .given, c .before .before .before .before .before .before .before .before .before .before .before .before .before .before .before .before .before .before .before .before .before .before .before .before .before .loop .inv .4), search (needs, c .before .before .before .before .before .before .before .before .before .before .before .before .before .before .before .before .before .before .before .want .given, c .before .before .before .before .before .before .before .before .before .before .before .before .before .before .before .before .before .before .before .before .before .before .before .before .before .loop .inv .5), search (needs, c .before .before .before .before .before .text .given, c .before .before .before .before .before .before .before .before .before .before .before .before .before .before .before .before .before .before .before .before .before .before .before .before .before .loop .inv .6))
+    let told = c .before .before .before .before .before in
+    let grown = told .before .before in
+    let written = grown .before .before in
+    let kept = written .before .before in
+    let played = kept .before in
+    let wanted = played .before .before .before .before .before .before .before in
+    let read = wanted .before in
+    let turn = read .before .before .before .before .before .loop in (
+      search (needs, read .next-of .ensures),
+      played .passed .ensures,
+      search (needs, kept .file .given, turn .inv .2),
+      search (needs, written .room .given, turn .inv .3),
+      search (needs, grown .added .given, turn .inv .4),
+      search (needs, wanted .want .given, turn .inv .5),
+      search (needs, told .text .given, turn .inv .6),
+    )
+
+loop-less : tie.Need-loop-less Inv-loop μ-loop
+loop-less c =
+    let read = c .before .before .before .before .before .before .before .before .before .before .before .before .before .before .before .before .before .before .before .before in
+    search (needs, read .next-of .ensures)
 
 pub check-in-spec : {M : Type 1} → statement M
 check-in-spec =
     tie.close
     (tie.spec Inv-loop μ-loop (λ c κs. search needs) loop-holds (λ c κs. search needs) (λ c. search needs)
     (λ c. search needs) (λ c. search needs) (λ c κs. search needs) (λ c κs. search needs) (λ c κs. search needs)
-    (λ c. search (needs, c .before .before .before .before .before .before .before .before .before .before .before .before .before .before .before .before .before .before .before .before .next-of .ensures)) loop-again (λ c. search needs) (λ c. search needs) (λ c. search needs) (λ c. search needs)
+    loop-less loop-again (λ c. search needs) (λ c. search needs) (λ c. search needs) (λ c. search needs)
     (λ c. search needs) (λ c. search needs))
