@@ -31,7 +31,7 @@ in-left xs ys (before, after, e) = (before, after ++ ys, ap (λ zs. zs ++ ys) e 
 pub in-right : {A : Type 0} {x : A} (xs ys : List A) → In x ys → In x (xs ++ ys)
 in-right xs ys (before, after, e) = (xs ++ before, after, ap (λ zs. xs ++ zs) e ∙ sym (append-assoc xs before _))
 
--- "one of a list of numbers"
+-- one of a list of numbers
 pub among-exactly : (ks : List ℕ) (x : ℕ) → (among ks x ≡ true) ↔ In x ks
 unfolding among
 among-exactly [] x = (λ e. absurd (false≢true e), in-none)

@@ -2,11 +2,11 @@
 use mathlib.Core.Path.{_≡_, refl, sym, ap, ap₂, _∙_}
 use mathlib.Core.Logic.{_↔_, _⊎_, inl, inr, ⊎-elim}
 use mathlib.Core.List.{List, [], _∷_, _++_, append-nil, append-assoc}
-use Prim.Native.Nat.{ℕ, zero, suc, _+_, _-_, _*_, _/_, _%_, _<_, _≤_, min}
+use Prim.Native.Nat.{ℕ, zero, suc, _+_, _-_, _*_, _/_, _%_, _^_, _<_, _≤_, min}
 use native.Mathlib.Nat.{add-zero, eq-zero-or-pos}
 use native.Mathlib.Numerals.{add-one}
 use native.Mathlib.Omega.{arith}
-use lib.ListN.{length, getD, take, drop, set, length-set, take-append-drop, drop-of-length-le}
+use lib.ListN.{length, getD, take, drop, set, length-set, length-append, take-append-drop, drop-of-length-le}
 use lib.Seq.{take-nil, take-all, take-suc-set, drop-set-lt}
 use lib.Dec.{ltb, eqb}
 use borrow.Author.Tests.{eqb-true, lt-ltb, le-ltb, ltb-true, ltb-false}
@@ -15,7 +15,7 @@ use Rattle.basics.specs.Lists.{part}
 use Rattle.basics.specs.Buffers.{front}
 use Rattle.basics.specs.Text.{text, addOne, addAll, hexDigit, hexText, hexes, bytesText, hexValue, decimalBy, decimalText}
 use Rattle.basics.specs.believed.Lists.{Bytes}
-use Rattle.basics.specs.believed.Text.{ascii, digit, Hex, Says, Decimal}
+use Rattle.basics.specs.believed.Text.{ascii, digit, Hex, SaysBehind, Decimal}
 use Rattle.basics.proofs.Tests.{by-test, pick-alike, allFrom, at-from, never}
 
 -- ---- a second writing of what no rule of messages says: bytes as a script has them, and text in a buffer
@@ -92,8 +92,8 @@ decimal-digit : (d : ℕ) → d < 10 → digit d ≡ 48 + d
 decimal-digit d h = digit-is d (omega arith) ∙ rw (lt-ltb d 10 h)
 
 -- digits behind those of v
-said : (w p : List ℕ) (v n : ℕ) → 0 < v → p ≡ decimalText v → Says v w n → p ++ w ≡ decimalText n
-unfolding Says
+said : (w p : List ℕ) (v n : ℕ) → 0 < v → p ≡ decimalText v → SaysBehind v w n → p ++ w ≡ decimalText n
+unfolding SaysBehind
 said [] p v n h e s = append-nil p ∙ e ∙ ap decimalText s
 said (c ∷ w) p v n h e (d, k, q, s) =
     let x : (v * 10 + d) / 10 ≡ v = omega arith in
@@ -102,13 +102,13 @@ said (c ∷ w) p v n h e (d, k, q, s) =
     rw (q, decimal-digit d k, decimal-more (v * 10 + d) (omega arith), x, y) (ap (λ (u : List ℕ). u ++ ((48 + d) ∷ [])) e) in
     sym (append-assoc p (c ∷ []) w) ∙ said w (p ++ (c ∷ [])) (v * 10 + d) n (omega arith) longer s
 
-says-one-more : (w : List ℕ) (v t n d : ℕ) → Says v w t → d < 10 → n ≡ t * 10 + d → Says v (w ++ (digit d ∷ [])) n
-unfolding Says
+says-one-more : (w : List ℕ) (v t n d : ℕ) → SaysBehind v w t → d < 10 → n ≡ t * 10 + d → SaysBehind v (w ++ (digit d ∷ [])) n
+unfolding SaysBehind
 says-one-more [] v t n d s h e = (d, h, refl, rw s (sym e))
 says-one-more (c ∷ w) v t n d (x, k, q, s) h e = (x, k, q, says-one-more w (v * 10 + x) t n d s h e)
 
 says-small : (n : ℕ) → n < 10 → Decimal n (decimalText n)
-unfolding Decimal Says
+unfolding Decimal SaysBehind
 says-small n l =
     ⊎-elim (λ z. inl (z, rw (z, decimal-one 0 (omega arith)))) (λ p. inr (n, [], p, l, rw (decimal-digit n l) (decimal-one n l), refl))
     (eq-zero-or-pos n)
@@ -136,11 +136,25 @@ decimal-exactly n w = (
   λ e. rw e (says-by (suc n) n (omega arith)),
 )
 
+-- a number below 10 to the k has at most k digits
+pub decimal-long : (k n : ℕ) → n < 10 ^ suc k → length (decimalText n) ≤ suc k
+decimal-long zero n h = omega (arith, ap length (decimal-one n h))
+decimal-long (suc k) n h =
+    by-test (ltb n 10) (λ t. omega (arith, ap length (decimal-one n (ltb-true n 10 t))))
+    (λ t.
+    let less : n / 10 < 10 ^ suc k = omega arith in
+    omega (arith, ap length (decimal-more n (ltb-false n 10 t)), length-append (decimalText (n / 10)) ((48 + n % 10) ∷ []), decimal-long k (n / 10) less))
+
 -- ---- bytes in hex, one behind the other
 hexes-long : (s : List ℕ) → length (hexes s) ≡ 2 * length s
 unfolding hexes hexText
 hexes-long [] = refl
 hexes-long (b ∷ s) = omega (arith, hexes-long s)
+
+pub bytes-long : (s : List ℕ) → length (bytesText s) ≤ 2 * length s + 1
+unfolding bytesText
+bytes-long [] = omega arith
+bytes-long (b ∷ s) = omega (arith, hexes-long (b ∷ s))
 
 -- two digits in front move the others by two
 moved : (x y : ℕ) (w : List ℕ) (i : ℕ) → part (2 * suc i) (2 * suc i + 2) (x ∷ (y ∷ w)) ≡ part (2 * i) (2 * i + 2) w

@@ -7,12 +7,14 @@ use native.Mathlib.Numerals.{add-one}
 use native.Mathlib.Omega.{arith}
 use borrow.Author.Tests.{lt-ltb, le-ltb}
 use lib.ListN.{length, drop, set, getD, length-set, drop-of-length-le}
-use lib.Seq.{drop-cons}
+use lib.Seq.{drop-cons, length-take-le}
 use lib.Dec.{ltb}
 use Rattle.basics.proofs.Tests.{pick-test}
+use Rattle.io.specs.Counts.{Counts}
 use Rattle.io.specs.Digits.{digits, glyph, Fewest}
+use Rattle.basics.specs.Buffers.{front, Whole}
 use Rattle.basics.specs.Text.{Text, text, addOne, addAll, hexText, hexes, bytesText, decimalText}
-use Rattle.basics.proofs.Text.{decimal-one, decimal-more}
+use Rattle.basics.proofs.Text.{decimal-one, decimal-more, put-exactly, put-whole, putEnd}
 
 pub add-full : (b at : ℕ) (out : List ℕ) → length out ≤ at → text at out ≡ addAll (b ∷ []) (text at out)
 unfolding addAll addOne
@@ -48,6 +50,16 @@ pub addAll-room : (w : List ℕ) (t : Text) → length ((addAll w t) .bytes) ≡
 unfolding addAll addOne
 addAll-room [] t = refl
 addAll-room (b ∷ w) t = addAll-room w (addOne b t) ∙ addOne-room b t
+
+-- a text at the start of a buffer: with room for the longest that it can be it stands there whole; it never goes beyond the buffer
+pub stands : (most : ℕ) (w out : List ℕ) (end : ℕ) (exit : List ℕ) → length w ≤ most → text end exit ≡ addAll w (text 0 out)
+    → (most ≤ length out → Whole w end out exit) × Counts end exit
+stands most w out end exit long e =
+    let least : end ≡ putEnd w 0 out = ap (λ (x : Text). x .at) (e ∙ put-exactly w 0 out) in
+    let whole : most ≤ length out → text end exit ≡ text (length w) (front w out) = λ h. e ∙ put-whole w out (omega arith) in
+    let room : length exit ≡ length out = ap (λ (x : Text). length (x .bytes)) e ∙ addAll-room w (text 0 out) in
+    let inside : end ≤ length exit = omega arith in
+    (λ h. (ap (λ (x : Text). x .at) (whole h), ap (λ (x : Text). x .bytes) (whole h)), (inside, sym (length-take-le end exit inside)))
 
 -- a loop that adds the part w: the room stays, and what is left, l and then l′, comes to the same
 pub goes-on : (w l l′ : List ℕ) (t : Text) {u s : Text} {room : ℕ} → u ≡ addAll w t → addAll l t ≡ addAll l′ (addAll w t)

@@ -24,7 +24,7 @@ use Rattle.desk_rules.specs.declared.Answer.{Answer}
 use Rattle.desk_rules.specs.declared.Reply.the-variants.{Written}
 use Rattle.desk_rules.specs.Numbers.{laneCount, bookLines}
 use Rattle.desk_rules.specs.Kinds.{isIdle}
-use Rattle.desk_rules.specs.Course.{noMove, lostBy, Call, laneOf, needsPlace, NumbersFit, writes}
+use Rattle.desk_rules.specs.Course.{noMove, lostBy, Call, laneOf, needsLine, NumbersFit, writes}
 use Rattle.desk_rules.specs.Lanes.{lineAt}
 use Rattle.desk_rules.specs.Desk.{laneAt, load, refuse, accept, unlessRefused, decide, linesFrom}
 use Rattle.desk_rules.specs.Memory.{view, laneFor, Valid, movedDesk, refusedAnswer, answerOf, leavesOf}
@@ -75,11 +75,11 @@ module _ (d : Desk) (c : Call) (room : ℕ) where
     not-moved r e = rw (lt-leb laneCount (laneOf c) h, e)
 
     module _ (p : Passes (moveOf d c)) where
-      pub no-place : needsPlace c && leb bookLines (load (view d)) ≡ true → decide (view d) c room ≡ refuse (unplaced 18)
+      pub no-line : needsLine c && leb bookLines (load (view d)) ≡ true → decide (view d) c room ≡ refuse (unplaced 18)
       unfolding decide view
-      no-place q = rw (lt-leb laneCount (laneOf c) h, passing (moveOf d c) _ p, q)
+      no-line q = rw (lt-leb laneCount (laneOf c) h, passing (moveOf d c) _ p, q)
 
-      module _ (q : needsPlace c && leb bookLines (load (view d)) ≡ false) where
+      module _ (q : needsLine c && leb bookLines (load (view d)) ≡ false) where
         pub no-room : room < length (writes (laneFor d c) c) → decide (view d) c room ≡ refuse (unplaced 11)
         unfolding decide view
         no-room k = rw (lt-leb laneCount (laneOf c) h, passing (moveOf d c) _ p, q, lt-ltb room (length (writes (laneFor d c) c)) k)

@@ -56,13 +56,13 @@ pub(crate) fn put_command(opening: Opening, out: &mut [u8])
     ensures { λ _. ⌜ now (out .exit) ≡ front (commandBytes opening) (now (out .entry)) ⌝ }
 {
     match opening {
-        Opening::Sale(amount) => {
+        Opening::Sale { amount } => {
             bytes::copy(&sale_bytes(amount), out);
         }
-        Opening::Refund(password, amount) => {
+        Opening::Refund { password, amount } => {
             bytes::copy(&refund_bytes(password, amount), out);
         }
-        Opening::Reversal(password, receipt) => {
+        Opening::Reversal { password, receipt } => {
             bytes::copy(&reversal_bytes(password, receipt), out);
         }
     }
@@ -76,15 +76,21 @@ fn supposed_in(b: [u8; Opening::MOST_COMMAND]) -> Opening
     match instruction {
         0x30 => {
             let receipt = zvt::receipt_in([b[7], b[8]]);
-            Opening::Reversal(0, receipt)
+            Opening::Reversal {
+                password: 0,
+                receipt,
+            }
         }
         0x31 => {
             let amount = zvt::amount_in([b[7], b[8], b[9], b[10], b[11], b[12]]);
-            Opening::Refund(0, amount)
+            Opening::Refund {
+                password: 0,
+                amount,
+            }
         }
         _ => {
             let amount = zvt::amount_in([b[4], b[5], b[6], b[7], b[8], b[9]]);
-            Opening::Sale(amount)
+            Opening::Sale { amount }
         }
     }
 }

@@ -52,10 +52,10 @@ pub(crate) fn opened(l: Lane, opening: Opening, line: Line) -> Moved
 {
     let phase = l.phase;
     if !is_idle(phase) {
-        return refused(13);
+        return refused(Refusal::LANE_NOT_IDLE);
     }
     if !within_limits(opening) {
-        return refused(16);
+        return refused(Refusal::OUTSIDE_LIMITS);
     }
     let reference = refers_to(opening);
     if !stands(reference, line) {
@@ -138,7 +138,7 @@ pub(crate) fn aborted(start: usize, first: ToldCode) -> Moved
 {
     match first {
         ToldCode::Missing => Moved::Refused(Refusal {
-            number: 1,
+            number: Refusal::ENDS_TOO_SOON,
             place: Place::At(start),
         }),
         ToldCode::Code(code) => Moved::Ends(Outcome::Declined, 0, code),
@@ -166,7 +166,7 @@ pub(crate) fn moved_by(l: Lane, said: Said, start: usize, t: ToldBody) -> Moved
         Said::Abort => aborted(start, first),
         Said::Report => reported(l, t.status),
         Said::Passing => Moved::Stays,
-        Said::NotAllowed => refused(15),
+        Said::NotAllowed => refused(Refusal::NOT_ALLOWED),
     }
 }
 
@@ -194,16 +194,16 @@ pub(crate) fn heard_waiting(l: Lane, h: Heard) -> Moved
     ensures { λ r. ⌜ r ≡ waitingMoved l h ⌝ }
 {
     if h.length != 0 {
-        return refused(15);
+        return refused(Refusal::NOT_ALLOWED);
     }
     if h.class == 0x84 {
         return Moved::Ends(Outcome::Declined, 0, h.instruction);
     }
     if h.class != 0x80 {
-        return refused(15);
+        return refused(Refusal::NOT_ALLOWED);
     }
     if h.instruction != 0x00 {
-        return refused(15);
+        return refused(Refusal::NOT_ALLOWED);
     }
     Moved::Becomes(l.running())
 }
@@ -213,7 +213,7 @@ pub(crate) fn heard_running(l: Lane, h: Heard) -> Moved
 {
     let said = said_by(h.class, h.instruction);
     if let Said::NotAllowed = said {
-        return refused(15);
+        return refused(Refusal::NOT_ALLOWED);
     }
     let told = h.told;
     match told {
@@ -228,7 +228,7 @@ pub(crate) fn heard(l: Lane, s: &[u8]) -> Moved
 {
     let phase = l.phase;
     if is_idle(phase) {
-        return refused(14);
+        return refused(Refusal::LANE_IDLE);
     }
     match zvt::hear(s) {
         HearAnswer::Refused(r) => Moved::Refused(r),

@@ -62,7 +62,7 @@ pub fn open(desk: Desk, lane: u8, opening: Opening, out: &mut [u8]) -> Answer
     ensures valid { λ r. ⌜ Valid (r .desk) ⌝ }
 {
     if Lane::COUNT <= lane {
-        return refused(desk, 12);
+        return refused(desk, Refusal::NO_SUCH_LANE);
     }
     let at = lane as usize;
     let l = desk.lanes[at];
@@ -74,12 +74,12 @@ pub fn open(desk: Desk, lane: u8, opening: Opening, out: &mut [u8]) -> Answer
             desk,
         };
     }
-    if no_place(desk, opening) {
-        return refused(desk, 18);
+    if no_line(desk, opening) {
+        return refused(desk, Refusal::BOOK_FULL);
     }
     let size = command_size(opening);
     if out.len() < size {
-        return refused(desk, 11);
+        return refused(desk, Refusal::NO_ROOM);
     }
     put_command(opening, out);
     let d = moved(desk, lane, m);
@@ -90,7 +90,7 @@ pub fn open(desk: Desk, lane: u8, opening: Opening, out: &mut [u8]) -> Answer
 }
 
 // Whether an opening needs a place in the book and finds none.
-fn no_place(desk: Desk, opening: Opening) -> bool
+fn no_line(desk: Desk, opening: Opening) -> bool
     requires { ⌜ Valid desk ⌝ }
     ensures { λ r. ⌜ r ≡ (booked (kindOf opening) && leb bookLines (load (view desk))) ⌝ }
 {
@@ -106,7 +106,7 @@ pub fn terminal(desk: Desk, lane: u8, s: &[u8], out: &mut [u8]) -> Answer
     ensures valid { λ r. ⌜ Valid (r .desk) ⌝ }
 {
     if Lane::COUNT <= lane {
-        return refused(desk, 12);
+        return refused(desk, Refusal::NO_SUCH_LANE);
     }
     let at = lane as usize;
     let l = desk.lanes[at];
@@ -119,7 +119,7 @@ pub fn terminal(desk: Desk, lane: u8, s: &[u8], out: &mut [u8]) -> Answer
     }
     let size = hear::reply_size(l);
     if out.len() < size {
-        return refused(desk, 11);
+        return refused(desk, Refusal::NO_ROOM);
     }
     hear::put_reply(size, out);
     let d = moved(desk, lane, m);
@@ -144,13 +144,13 @@ pub fn link_lost(desk: Desk, lane: u8) -> Answer
     ensures valid { λ r. ⌜ Valid (r .desk) ⌝ }
 {
     if Lane::COUNT <= lane {
-        return refused(desk, 12);
+        return refused(desk, Refusal::NO_SUCH_LANE);
     }
     let at = lane as usize;
     let l = desk.lanes[at];
     let phase = l.phase;
     if is_idle(phase) {
-        return refused(desk, 14);
+        return refused(desk, Refusal::LANE_IDLE);
     }
     let d = moved(desk, lane, Moved::Ends(Outcome::Unclear, 0, 0));
     Answer {
@@ -166,7 +166,7 @@ pub fn close(desk: Desk) -> Answer
     ensures valid { λ r. ⌜ Valid (r .desk) ⌝ }
 {
     if !all_idle(desk) {
-        return refused(desk, 19);
+        return refused(desk, Refusal::PAYMENT_OPEN);
     }
     Answer {
         reply: Reply::Written(0),
@@ -211,7 +211,7 @@ pub fn lane_at(desk: Desk, lane: u8) -> LaneAnswer
     ensures { λ r. ⌜ r ≡ laneAnswer lane (desk .lanes) ⌝ }
 {
     if Lane::COUNT <= lane {
-        return LaneAnswer::Refused(Refusal::unplaced(12));
+        return LaneAnswer::Refused(Refusal::unplaced(Refusal::NO_SUCH_LANE));
     }
     let at = lane as usize;
     LaneAnswer::Lane(desk.lanes[at])

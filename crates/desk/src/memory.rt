@@ -3,7 +3,7 @@ use crate::hear;
 use crate::questions::booked;
 use crate::questions::concerns;
 use crate::questions::is_idle;
-use crate::questions::place_taken;
+use crate::questions::line_taken;
 use desk_rules::Book;
 use desk_rules::Desk;
 use desk_rules::Lane;
@@ -17,7 +17,7 @@ ghost use lib.Dec.{leb};
 ghost use lib.ListN.{length, take};
 ghost use Rattle.desk_rules.specs.Numbers.{laneCount, bookLines};
 ghost use Rattle.desk_rules.specs.Openings.{lastLine};
-ghost use Rattle.desk_rules.specs.Desk.{placesTaken, allIdle, load};
+ghost use Rattle.desk_rules.specs.Desk.{linesTaken, allIdle, load};
 ghost use Rattle.desk_rules.specs.Memory.{Valid, withLine, view, endedDesk, movedDesk};
 ghost use Rattle.desk.specs.Steps.{Sized, LinePlaced, LineFits};
 
@@ -54,15 +54,15 @@ pub(crate) fn last_line(b: Book, lane: u8, reference: Reference) -> Line
 }
 
 // How many places of the book open payments take.
-fn places_taken(d: Desk) -> usize
+fn lines_taken(d: Desk) -> usize
     requires { ⌜ length (d .lanes) ≡ laneCount ⌝ }
-    ensures { λ r. ⌜ r ≡ placesTaken (d .lanes) ⌝ }
+    ensures { λ r. ⌜ r ≡ linesTaken (d .lanes) ⌝ }
 {
     let mut n: usize = 0;
     let mut i: usize = 0;
     while i < Lane::COUNT as usize {
         let l = d.lanes[i];
-        n += place_taken(l);
+        n += line_taken(l);
         i += 1;
     }
     n
@@ -73,7 +73,7 @@ pub(crate) fn is_full(d: Desk) -> bool
     requires { ⌜ Valid d ⌝ }
     ensures { λ r. ⌜ r ≡ leb bookLines (load (view d)) ⌝ }
 {
-    let taken = places_taken(d);
+    let taken = lines_taken(d);
     let count = d.book.count;
     Book::LINES <= count + taken
 }

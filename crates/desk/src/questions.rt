@@ -6,10 +6,11 @@ use desk_rules::Opening;
 use desk_rules::Outcome;
 use desk_rules::Phase;
 use desk_rules::Reference;
+use zvt_rules::Refusal;
 ghost use mathlib.Core.Path.{_≡_};
 ghost use mathlib.Core.Bool.{_&&_};
 ghost use Rattle.desk_rules.specs.Kinds.{isSale, isReversal, booked, isApproved, isIdle};
-ghost use Rattle.desk_rules.specs.Lanes.{placeTaken};
+ghost use Rattle.desk_rules.specs.Lanes.{lineTaken};
 ghost use Rattle.desk_rules.specs.Openings.{kindOf, withinLimits, refersTo, askedBy, namedBy, commandSize, looksAt, receiptNamed, concerns, sold, stands, missingNo, openedLane};
 ghost use Rattle.desk_rules.specs.Turnover.{counted, gain, loss};
 
@@ -64,9 +65,9 @@ pub(crate) fn kind_of(opening: Opening) -> Kind
     ensures { λ r. ⌜ r ≡ kindOf opening ⌝ }
 {
     match opening {
-        Opening::Sale(_) => Kind::Sale,
-        Opening::Refund(_, _) => Kind::Refund,
-        Opening::Reversal(_, _) => Kind::Reversal,
+        Opening::Sale { .. } => Kind::Sale,
+        Opening::Refund { .. } => Kind::Refund,
+        Opening::Reversal { .. } => Kind::Reversal,
     }
 }
 
@@ -74,11 +75,11 @@ pub(crate) fn within_limits(opening: Opening) -> bool
     ensures { λ r. ⌜ r ≡ withinLimits opening ⌝ }
 {
     match opening {
-        Opening::Sale(amount) => Lane::amount_ok(amount),
-        Opening::Refund(password, amount) => {
+        Opening::Sale { amount } => Lane::amount_ok(amount),
+        Opening::Refund { password, amount } => {
             both(Lane::password_ok(password), Lane::amount_ok(amount))
         }
-        Opening::Reversal(password, receipt) => {
+        Opening::Reversal { password, receipt } => {
             both(Lane::password_ok(password), Lane::receipt_ok(receipt))
         }
     }
@@ -88,9 +89,9 @@ pub(crate) fn refers_to(opening: Opening) -> Reference
     ensures { λ r. ⌜ r ≡ refersTo opening ⌝ }
 {
     match opening {
-        Opening::Sale(_) => Reference::Nothing,
-        Opening::Refund(_, _) => Reference::Nothing,
-        Opening::Reversal(_, receipt) => Reference::Sold(receipt),
+        Opening::Sale { .. } => Reference::Nothing,
+        Opening::Refund { .. } => Reference::Nothing,
+        Opening::Reversal { receipt, .. } => Reference::Sold(receipt),
     }
 }
 
@@ -99,9 +100,9 @@ fn asked_by(opening: Opening, line: Line) -> u64
     ensures { λ r. ⌜ r ≡ askedBy opening line ⌝ }
 {
     match opening {
-        Opening::Sale(amount) => amount,
-        Opening::Refund(_, amount) => amount,
-        Opening::Reversal(_, _) => line.settled,
+        Opening::Sale { amount } => amount,
+        Opening::Refund { amount, .. } => amount,
+        Opening::Reversal { .. } => line.settled,
     }
 }
 
@@ -109,9 +110,9 @@ fn named_by(opening: Opening) -> u16
     ensures { λ r. ⌜ r ≡ namedBy opening ⌝ }
 {
     match opening {
-        Opening::Sale(_) => 0,
-        Opening::Refund(_, _) => 0,
-        Opening::Reversal(_, receipt) => receipt,
+        Opening::Sale { .. } => 0,
+        Opening::Refund { .. } => 0,
+        Opening::Reversal { receipt, .. } => receipt,
     }
 }
 
@@ -119,9 +120,9 @@ pub(crate) fn command_size(opening: Opening) -> usize
     ensures { λ r. ⌜ r ≡ commandSize opening ⌝ }
 {
     match opening {
-        Opening::Sale(_) => 13,
-        Opening::Refund(_, _) => Opening::MOST_COMMAND,
-        Opening::Reversal(_, _) => 9,
+        Opening::Sale { .. } => 13,
+        Opening::Refund { .. } => Opening::MOST_COMMAND,
+        Opening::Reversal { .. } => 9,
     }
 }
 
@@ -171,13 +172,13 @@ pub(crate) fn missing_number(reference: Reference) -> u8
 {
     match reference {
         Reference::Nothing => 0,
-        Reference::Sold(_) => 17,
+        Reference::Sold(_) => Refusal::NO_SALE,
     }
 }
 
 // The place that it takes in the book: one, where a payment is open that is booked.
-pub(crate) fn place_taken(l: Lane) -> usize
-    ensures { λ r. ⌜ r ≡ placeTaken l ⌝ }
+pub(crate) fn line_taken(l: Lane) -> usize
+    ensures { λ r. ⌜ r ≡ lineTaken l ⌝ }
 {
     let phase = l.phase;
     if is_idle(phase) {

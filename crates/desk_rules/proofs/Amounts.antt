@@ -14,7 +14,7 @@ use Rattle.zvt_rules.specs.declared.Status.{Status}
 use Rattle.zvt_rules.specs.declared.ToldCode.{ToldCode}
 use Rattle.zvt_rules.specs.declared.ToldCode.the-variants.{Missing as no-code, Code}
 use Rattle.zvt_rules.specs.declared.ToldAmount.the-variants.{Amount}
-use Rattle.zvt_rules.specs.Heard.{firstOf, toldIn}
+use Rattle.zvt_rules.specs.Heard.{firstByte, toldIn}
 use Rattle.zvt_rules.proofs.Told.{Twelve, told-twelve}
 use Rattle.basics.proofs.Tests.{pick-test}
 use Rattle.desk_rules.specs.declared.Lane.{Lane}
@@ -71,7 +71,7 @@ module _ (l : Lane) (h : LaneFits l) where
     read-fits (refused f) e = tt
     read-fits (got m) e =
         pick-test Fits (pairIs (m .class) (m .instruction) 0x06 0x0F) (λ _. completed-cases Fits l (λ c. omega arith) approved-fits (l .status .code))
-        (λ _. pick-test Fits (pairIs (m .class) (m .instruction) 0x06 0x1E) (λ _. aborted-fits _ (firstOf (m .body)))
+        (λ _. pick-test Fits (pairIs (m .class) (m .instruction) 0x06 0x1E) (λ _. aborted-fits _ (firstByte (m .body)))
         (λ _. pick-test Fits (pairIs (m .class) (m .instruction) 0x04 0x0F)
         (λ t. reported-fits (toldIn m .status) _ (rw t (told-fits (valueIn 0x04 (bodyFields (m .body))) (told-twelve s m b e))))
         (λ _. tt)))

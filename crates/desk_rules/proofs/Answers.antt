@@ -51,10 +51,10 @@ use Rattle.desk_rules.specs.believed.Answers.{Writes, command, silent, r
 use Rattle.desk_rules.proofs.Heard.{heard-cases}
 use Rattle.desk_rules.proofs.Commands.{command-exactly}
 use Rattle.desk_rules.proofs.Due.{reads, status-is, status-there, asks-are, ask}
-use Rattle.desk_rules.proofs.Calls.{Passes, plain-read, empty-read, both, Closing, completed-closes, aborted-closes}
+use Rattle.desk_rules.proofs.Calls.{Passes, every-kind, plain-read, empty-read, both, Closing, completed-closes, aborted-closes}
 use Rattle.desk_rules.proofs.Lanes.{told as tells, accepts-any}
 use Rattle.desk_rules.proofs.Memory.{refused-same, accepted-answer, follows, refused-leaves, accepted-leaves}
-use Rattle.desk_rules.proofs.Rows.{idle-test, every-kind-booked, pairs-test, table, past, accepted-within}
+use Rattle.desk_rules.proofs.Rows.{idle-test, pairs-test, table, past, accepted-within}
 
 -- ---- what is written
 
@@ -125,7 +125,7 @@ module _ (s : State) (c : Call) (i : ℕ) where
   ends e (Refused r) k h = absurd h
   ends e Stays k h = absurd k
   ends e (Becomes n) k h = absurd k
-  ends e (Ends outcome settled code) k h = rw (every-kind-booked (laneAt (s .lanes) i .kind)) (e _)
+  ends e (Ends outcome settled code) k h = rw (every-kind (laneAt (s .lanes) i .kind)) (e _)
 
 module _ (s : State) (i : ℕ) (b : List ℕ) where
   by-waiting : (h : Heading) → wholeHeader b ≡ got h → Fits s (message i b) i (heardWaiting (laneAt (s .lanes) i) h)

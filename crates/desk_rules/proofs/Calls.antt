@@ -14,9 +14,11 @@ use Rattle.zvt_rules.specs.declared.Refusal.{Refusal}
 use Rattle.zvt_rules.specs.declared.Status.{Status}
 use Rattle.zvt_rules.specs.declared.ToldCode.{ToldCode}
 use Rattle.zvt_rules.specs.declared.ToldCode.the-variants.{Missing as no-code, Code}
-use Rattle.zvt_rules.specs.Heard.{firstOf, toldIn}
+use Rattle.zvt_rules.specs.Heard.{firstByte, toldIn}
 use Rattle.zvt_rules.proofs.Readings.{then-on, then-got, got-same}
 use Rattle.basics.proofs.Tests.{pick-test, never}
+use Rattle.desk_rules.specs.declared.Kind.{Kind}
+use Rattle.desk_rules.specs.declared.Kind.the-variants.{Sale, Refund, Reversal}
 use Rattle.desk_rules.specs.declared.Outcome.the-variants.{Declined}
 use Rattle.desk_rules.specs.declared.Phase.{Phase}
 use Rattle.desk_rules.specs.declared.Phase.the-variants.{Running}
@@ -25,7 +27,7 @@ use Rattle.desk_rules.specs.declared.Line.{Line}
 use Rattle.desk_rules.specs.declared.Moved.{Moved}
 use Rattle.desk_rules.specs.declared.Moved.the-variants.{Refused, Stays, Becomes, Ends}
 use Rattle.desk_rules.specs.declared.Opening.{Opening}
-use Rattle.desk_rules.specs.Kinds.{isIdle}
+use Rattle.desk_rules.specs.Kinds.{booked, isIdle}
 use Rattle.desk_rules.specs.Lanes.{runningLane, reportedLane}
 use Rattle.desk_rules.specs.Openings.{withinLimits, refersTo, stands, openedLane}
 use Rattle.desk_rules.specs.Course.{runningPairs, pairIs, heardWaiting, completedBy, abortedBy, reportedBy, movedBy, afterBody, heardRunning, lostBy, openedBy, Call, opening, message, lost, opens, moves}
@@ -39,6 +41,12 @@ Passes (Refused r) = ⊥
 Passes Stays = Unit {0}
 Passes (Becomes l) = Unit {0}
 Passes (Ends outcome settled code) = Unit {0}
+
+-- P29: an end of every kind puts its line into the book
+pub every-kind : (k : Kind) → booked k ≡ true
+every-kind Sale = refl
+every-kind Refund = refl
+every-kind Reversal = refl
 
 -- ---- an opening finds its lane idle and makes it wait for what it asks
 abbrev Opened : Lane → Opening → Line → Moved → Type 0
@@ -192,7 +200,7 @@ module _ (l : Lane) (i : ℕ) (s : List ℕ) where
       (λ e. let p = both (m .class) (m .instruction) 0x06 0x0F e in
       closes (completedBy l (l .status .code)) (completed-closes l _) (rw (r, p .0, p .1) (completed-running l _)))
       (λ _. pick-test Goes (pairIs (m .class) (m .instruction) 0x06 0x1E)
-      (λ e. let p = both (m .class) (m .instruction) 0x06 0x1E e in closes (abortedBy (headerSize (m .long)) (firstOf (m .body))) (aborted-closes _ _) (rw (r, p .0, p .1)))
+      (λ e. let p = both (m .class) (m .instruction) 0x06 0x1E e in closes (abortedBy (headerSize (m .long)) (firstByte (m .body))) (aborted-closes _ _) (rw (r, p .0, p .1)))
       (λ _. pick-test Goes (pairIs (m .class) (m .instruction) 0x04 0x0F)
       (λ e. reported (toldIn m .status) (rw (r, e)) on)
       (λ e. stays (running-same l on ∙ same λ k f. rw (got-same (sym f ∙ r)) e))))

@@ -14,17 +14,18 @@ use Rattle.desk_rules.specs.declared.Outcome.{Outcome}
 use Rattle.desk_rules.specs.declared.Lane.{Lane}
 use Rattle.desk_rules.specs.declared.Line.{Line}
 use Rattle.desk_rules.specs.Openings.{kindOf}
-use Rattle.desk_rules.specs.Lanes.{blankLine, idleLane, placeTaken}
-use Rattle.desk_rules.specs.Course.{Call, message, opens, needsPlace}
+use Rattle.desk_rules.specs.Lanes.{blankLine, idleLane, lineTaken}
+use Rattle.desk_rules.specs.Course.{Call, message, opens, needsLine}
 use Rattle.desk_rules.specs.Desk.{fresh, laneAt, Accepted, run}
 use Rattle.desk_rules.specs.Runs.{callsOf, total, openings}
 use Rattle.desk_rules.specs.Payments.{paymentsOf, flattened, oneByOne}
-use Rattle.desk_rules.specs.believed.Due.{Ended, not-taken, aborted, cut, approved, amount-untold, differs, other-code, no-status, Open, Due, LaneIs, idle, busy}
+use Rattle.desk_rules.specs.believed.Due.{Ended, not-taken, aborted, cut, approved, amount-untold, differs, other-code, no-status, Open, LineDue, LaneIs, idle, busy}
+use Rattle.desk_rules.proofs.Calls.{every-kind}
 use Rattle.desk_rules.proofs.Lanes.{total-append, opened-one, not-opened, places-total}
 use Rattle.desk_rules.proofs.Runs.{count}
 use Rattle.desk_rules.proofs.Due.{lane-local, due-same, lane-same}
 use Rattle.desk_rules.proofs.Payment.{phase-busy}
-use Rattle.desk_rules.proofs.Kept.{every-kind, Blocks, kept}
+use Rattle.desk_rules.proofs.Kept.{Blocks, kept}
 
 -- ---- line j is due for payment j
 
@@ -36,7 +37,7 @@ lines-many ls (p ∷ ps) [] b = absurd b
 lines-many ls (p ∷ ps) (x ∷ xs) b = ap suc (lines-many _ ps xs (b .1))
 
 due-at : (ls : List Line) (ps : List (List Call)) (xs : List Line) → Blocks ls ps xs → (j : ℕ) → j < length xs
-    → Due (ls ++ take j xs) (getD ps j []) (getD xs j blankLine)
+    → LineDue (ls ++ take j xs) (getD ps j []) (getD xs j blankLine)
 unfolding Blocks
 due-at ls [] [] b j h = absurd (omega arith)
 due-at ls [] (x ∷ xs) b j h = absurd b
@@ -52,7 +53,7 @@ NoneOpens (c ∷ cs) = (opens c ≡ false) × NoneOpens cs
 
 unfoldable pub Begins : List Call → Type 0
 Begins [] = ⊥
-Begins (o ∷ ds) = (needsPlace o ≡ true) × (opens o ≡ true) × NoneOpens ds
+Begins (o ∷ ds) = (needsLine o ≡ true) × (opens o ≡ true) × NoneOpens ds
 
 ended-none : {i a s code : ℕ} {k : Kind} {fs : List Field} {c : Call} {o : Outcome} → Ended i k a fs c o s code → opens c ≡ false
 unfolding opens
@@ -72,15 +73,15 @@ told-none i (s ∷ ss) cs n = (refl, told-none i ss cs n)
 
 open-begins : {i a n : ℕ} {ls : List Line} {q : List Call} {k : Kind} {ss : List (List ℕ)} {fs : List Field} (cs : List Call)
     → Open i ls q k a n ss fs → NoneOpens cs → Begins (q ++ cs)
-unfolding Begins opens needsPlace
+unfolding Begins opens needsLine
 open-begins {i} {ss = ss} cs x n = rw (x .in-order) (every-kind (kindOf (x .first)), refl, told-none i ss cs n)
 
-pub due-begins : {ls : List Line} {p : List Call} {x : Line} → Due ls p x → Begins p
+pub due-begins : {ls : List Line} {p : List Call} {x : Line} → LineDue ls p x → Begins p
 unfolding NoneOpens
 due-begins d = rw (d .in-order) (open-begins (d .last ∷ []) (d .its) (ended-none (d .ended), tt))
 
-lane-begins : {k : ℕ} {ls : List Line} {q : List Call} {l : Lane} → LaneIs k ls q l → ((q ≡ []) × (placeTaken l ≡ 0)) ⊎ (Begins q × (placeTaken l ≡ 1))
-unfolding NoneOpens placeTaken
+lane-begins : {k : ℕ} {ls : List Line} {q : List Call} {l : Lane} → LaneIs k ls q l → ((q ≡ []) × (lineTaken l ≡ 0)) ⊎ (Begins q × (lineTaken l ≡ 1))
+unfolding NoneOpens lineTaken
 lane-begins idle = inl (refl, refl)
 lane-begins {q = q} {l = l} (busy x p s) = inr (rw append-nil at (open-begins [] x tt), rw (phase-busy p, every-kind (l .kind)))
 
@@ -96,7 +97,7 @@ unfolding Begins total
 begins-one [] h = absurd h
 begins-one (o ∷ ds) h = omega (arith, opened-one o (h .0), none-opened ds (h .2))
 
-lane-one : {k : ℕ} {ls : List Line} {q : List Call} {l : Lane} → LaneIs k ls q l → openings q ≡ placeTaken l
+lane-one : {k : ℕ} {ls : List Line} {q : List Call} {l : Lane} → LaneIs k ls q l → openings q ≡ lineTaken l
 unfolding total
 lane-one {q = q} s = ⊎-elim (λ n. rw (n .0) (sym (n .1))) (λ b. begins-one q (b .0) ∙ sym (b .1)) (lane-begins s)
 
@@ -134,8 +135,8 @@ module _ (cs : List Call) (h : Accepted fresh cs) where
   ongoing = paymentsOf cs .ongoing
 
   -- line j of the book is l exactly when l is due for payment j
-  pub line-due : (j : ℕ) → j < length lines → (l : Line) → (getD lines j blankLine ≡ l) ↔ Due (take j lines) (getD ended j []) l
-  line-due j small l = let d = due-at [] ended lines (kept cs h .blocks) j small in (λ e. subst (Due (take j lines) (getD ended j [])) e d, due-same d)
+  pub line-due : (j : ℕ) → j < length lines → (l : Line) → (getD lines j blankLine ≡ l) ↔ LineDue (take j lines) (getD ended j []) l
+  line-due j small l = let d = due-at [] ended lines (kept cs h .blocks) j small in (λ e. subst (LineDue (take j lines) (getD ended j [])) e d, due-same d)
 
   -- and there are as many lines as payments that ended
   pub lines-ended : length ended ≡ length lines
@@ -166,7 +167,7 @@ module _ (cs : List Call) (h : Accepted fresh cs) where
         openings-joined ended,
         openings-joined ongoing,
         blocks-count [] ended lines (kept cs h .blocks),
-        total-alike openings placeTaken [] idleLane ongoing (run fresh cs .lanes) (kept cs h .slots ∙ sym (kept cs h .lanes)) (λ k. lane-one (lane-there k)),
+        total-alike openings lineTaken [] idleLane ongoing (run fresh cs .lanes) (kept cs h .slots ∙ sym (kept cs h .lanes)) (λ k. lane-one (lane-there k)),
         places-total (run fresh cs .lanes),
         count cs h .0,
       ))

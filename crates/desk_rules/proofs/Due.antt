@@ -18,7 +18,7 @@ use Rattle.zvt_rules.specs.declared.Status.{Status}
 use Rattle.zvt_rules.specs.declared.ToldCode.the-variants.{Missing as no-code, Code}
 use Rattle.zvt_rules.specs.declared.ToldAmount.the-variants.{Missing as no-amount, Amount}
 use Rattle.zvt_rules.specs.declared.ToldReceipt.the-variants.{Missing as no-receipt, Receipt}
-use Rattle.zvt_rules.specs.Heard.{firstOf}
+use Rattle.zvt_rules.specs.Heard.{firstByte}
 use Rattle.basics.proofs.Tests.{pick-test, case, eqb-test, either, never}
 use Rattle.desk_rules.specs.declared.Kind.{Kind}
 use Rattle.desk_rules.specs.declared.Kind.the-variants.{Sale, Refund, Reversal}
@@ -39,7 +39,7 @@ use Rattle.desk_rules.specs.Course.{pairIs, settledAs, completedBy, abor
 use Rattle.desk_rules.specs.Runs.{ofLane}
 use Rattle.desk_rules.specs.Payments.{endsBy, ends}
 use Rattle.desk_rules.specs.believed.LastSale.{None, Named}
-use Rattle.desk_rules.specs.believed.Due.{Reads, Report, Remembered, nothing, report, Told, told, untold, CodeIs, AmountIs, Asks, by-sale, by-refund, by-reversal, Ended, not-taken, aborted, cut, approved, amount-untold, differs, other-code, no-status, Ending, by-84, by-061E, by-060F, by-loss, ReceiptIs, of-reversal, of-another, Open, Due, PhaseIs, waiting, running, StatusIs, LaneIs, idle, busy}
+use Rattle.desk_rules.specs.believed.Due.{Reads, Report, Remembered, nothing, report, Told, told, untold, CodeIs, AmountIs, Asks, by-sale, by-refund, by-reversal, Ended, not-taken, aborted, cut, approved, amount-untold, differs, other-code, no-status, Ending, by-84, by-061E, by-060F, by-loss, ReceiptIs, of-reversal, of-another, Open, LineDue, PhaseIs, waiting, running, StatusIs, LaneIs, idle, busy}
 use Rattle.desk_rules.proofs.NamedSale.{named-is, named-there}
 use Rattle.desk_rules.proofs.Judge.{orElse, remembered, recalled, verdictOf, verdict}
 use Rattle.desk_rules.proofs.Calls.{both}
@@ -254,7 +254,7 @@ module _ (i : ℕ) (l : Lane) (fs : List Field) (same : l .status ≡ statusIn f
   remembers = ap (λ (x : Status). x .amount) same
 
   verdict-is : {c : Call} {o : Outcome} {s code : ℕ} → Ended i (l .kind) (l .asked) fs c o s code → verdict l c ≡ Ends o s code
-  unfolding verdict verdictOf firstOf abortedBy completedBy settledAs statusIn codeIn codeOf
+  unfolding verdict verdictOf firstByte abortedBy completedBy settledAs statusIn codeIn codeOf
   verdict-is (not-taken h) = rw (h .whole)
   verdict-is (aborted h) = rw (h .whole)
   verdict-is cut = refl
@@ -294,9 +294,9 @@ module _ (i : ℕ) (l : Lane) (fs : List Field) (same : l .status ≡ statusIn f
           (λ f. (Unclear, 0, getD v 0 0, other-code h (v, e, refl) f))
 
   module _ (outcome : Outcome) (settled code : ℕ) where
-    aborting : (s : List ℕ) (start : ℕ) (body : Body) → Reads s 0x06 0x1E body → abortedBy start (firstOf body) ≡ Ends outcome settled code
+    aborting : (s : List ℕ) (start : ℕ) (body : Body) → Reads s 0x06 0x1E body → abortedBy start (firstByte body) ≡ Ends outcome settled code
         → Some (message i s)
-    unfolding Some firstOf abortedBy
+    unfolding Some firstByte abortedBy
     aborting s start (bytes []) h e = absurd (let q : _≡_ {A = ℕ} 0 1 = cc in omega arith)
     aborting s start (bytes (b ∷ rest)) h e = (Declined, 0, b, aborted h)
     aborting s start (listed password fields) h e = absurd (let q : _≡_ {A = ℕ} 0 1 = cc in omega arith)
@@ -387,16 +387,16 @@ open-same {i} {j} {before = before} {ss = ss} {ts = ts} x y =
     )
 
 module _ {before : List Line} {calls : List Call} where
-  judge : {l : Line} → Due before calls l → Lane
+  judge : {l : Line} → LineDue before calls l → Lane
   judge {l} d = busyLane (l .kind) (l .asked) (d .named) (d .status)
 
-  line-is : {l : Line} (d : Due before calls l) → lineAt (l .lane) (judge d) (l .outcome) (l .settled) (l .code) ≡ l
+  line-is : {l : Line} (d : LineDue before calls l) → lineAt (l .lane) (judge d) (l .outcome) (l .settled) (l .code) ≡ l
   unfolding lineAt judge
   line-is {l} d =
       ap (λ (r : ℕ). record { lane = l .lane; kind = l .kind; asked = l .asked; settled = l .settled; receipt = r; outcome = l .outcome; code = l .code })
       (receipt-is (d .receipt))
 
-  pub due-same : {l m : Line} → Due before calls l → Due before calls m → l ≡ m
+  pub due-same : {l m : Line} → LineDue before calls l → LineDue before calls m → l ≡ m
   unfolding judge
   due-same {l} {m} d e =
       let c = last-same (d .sofar) (e .sofar) (d .last) (e .last) (sym (d .in-order) ∙ e .in-order) in

@@ -7,7 +7,7 @@ use Rattle.basics.specs.Choice.{pick}
 use Rattle.zvt_rules.specs.Reading.{Reading, got, refused}
 use Rattle.zvt_rules.specs.Message.{headerSize, Message, readOf}
 use Rattle.zvt_rules.specs.Values.{statusOf}
-use Rattle.zvt_rules.specs.Heard.{firstOf}
+use Rattle.zvt_rules.specs.Heard.{firstByte}
 use Rattle.zvt_rules.specs.declared.Status.{Status}
 use Rattle.zvt_rules.specs.declared.ToldCode.{ToldCode}
 use Rattle.zvt_rules.specs.declared.ToldCode.the-variants.{Missing as no-code, Code}
@@ -34,7 +34,7 @@ unfoldable pub verdictOf : Lane → Reading Message → Moved
 verdictOf l (refused f) = Stays
 verdictOf l (got m) =
     pick (eqb (m .class) 0x84) (Ends Declined 0 (m .instruction))
-    (pick (pairIs (m .class) (m .instruction) 0x06 0x1E) (abortedBy (headerSize (m .long)) (firstOf (m .body)))
+    (pick (pairIs (m .class) (m .instruction) 0x06 0x1E) (abortedBy (headerSize (m .long)) (firstByte (m .body)))
     (pick (pairIs (m .class) (m .instruction) 0x06 0x0F) (completedBy l (l .status .code)) Stays))
 
 unfoldable pub verdict : Lane → Call → Moved

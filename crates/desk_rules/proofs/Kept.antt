@@ -9,21 +9,18 @@ use lib.ListN.{length, getD, set, replicate, length-set}
 use lib.Seq.{getD-set-same, getD-set-other, append-snoc}
 use borrow.Author.Tests.{eqb-true, eqb-false}
 use Rattle.basics.specs.Choice.{pick}
-use Rattle.desk_rules.specs.declared.Kind.{Kind}
-use Rattle.desk_rules.specs.declared.Kind.the-variants.{Sale, Refund, Reversal}
 use Rattle.desk_rules.specs.declared.Lane.{Lane}
 use Rattle.desk_rules.specs.declared.Line.{Line}
 use Rattle.desk_rules.specs.declared.Moved.{Moved}
 use Rattle.desk_rules.specs.declared.Moved.the-variants.{Refused, Stays, Becomes, Ends}
 use Rattle.desk_rules.specs.Numbers.{laneCount}
-use Rattle.desk_rules.specs.Kinds.{booked}
 use Rattle.desk_rules.specs.Lanes.{idleLane}
 use Rattle.desk_rules.specs.Course.{Call, laneOf, moves}
 use Rattle.desk_rules.specs.Desk.{State, fresh, laneAfter, linesFrom, step, Accepts, Accepted, run}
 use Rattle.desk_rules.specs.Runs.{having, ofLane, callsOf, Own, ownOf}
 use Rattle.desk_rules.specs.Payments.{Payments, withCall, paymentsFrom, paymentsOf, flattened}
-use Rattle.desk_rules.specs.believed.Due.{Due, LaneIs}
-use Rattle.desk_rules.proofs.Calls.{endsIn, ends-same}
+use Rattle.desk_rules.specs.believed.Due.{LineDue, LaneIs}
+use Rattle.desk_rules.proofs.Calls.{every-kind, endsIn, ends-same}
 use Rattle.desk_rules.proofs.Lanes.{having-append, moves-local, after, by-lane, told, lanes-step}
 use Rattle.desk_rules.proofs.Payment.{Goes, goes, Brings, brings-more, Ongoing, open-none, its-more}
 
@@ -34,7 +31,7 @@ pub record Block (ls : List Line) (p : List Call) (x : Line) : Type 0 where
   pub lane : ℕ
   pub small : lane < laneCount
   pub its : (j : ℕ) → callsOf j p ≡ pick (eqb lane j) p []
-  pub due : Due ls p x
+  pub due : LineDue ls p x
   pub brings : Brings lane (ofLane lane ls) p idleLane (x ∷ [])
 
 -- payments, and the lines that they brought
@@ -125,12 +122,6 @@ kept-with s p past c kept h ys x e now blocks =
         (go k (eqb (laneOf c) k) refl (rw (← now .its k, ← having-append laneOf k (flattened ys) x, e)
         (its-more (getD (p .ongoing) (laneOf c) []) c (kept .each (laneOf c) .its) k))))
 
--- P29: an end of every kind puts its line into the book
-pub every-kind : (k : Kind) → booked k ≡ true
-every-kind Sale = refl
-every-kind Refund = refl
-every-kind Reversal = refl
-
 -- an accepted call goes on with its lane's payment, or ends it
 kept-step : (s : State) (p : Payments) (past : List Call) (c : Call) → Kept s p past → Accepts s c → Kept (step s c) (withCall p c) (past ++ (c ∷ []))
 unfolding withCall endsIn laneAfter linesFrom after flattened Goes
@@ -162,7 +153,7 @@ kept-step s p past c kept h =
         (rw (e, f, append-nil (w .lines)) (record { its = its-more q c (now .its); brings = rw (e, f) at brings; says = g }))
         (rw (f, append-nil (s .lines), append-nil (p .ended)) (kept .blocks)))
 
-    ended : (x : Line) → laneAfter (w .lane) (turn s c) ≡ idleLane → linesFrom i (w .lane) (turn s c) ≡ x ∷ [] → Due (s .lines) (q ++ (c ∷ [])) x
+    ended : (x : Line) → laneAfter (w .lane) (turn s c) ≡ idleLane → linesFrom i (w .lane) (turn s c) ≡ x ∷ [] → LineDue (s .lines) (q ++ (c ∷ [])) x
         → Kept (step s c) (record { ended = p .ended ++ ((q ++ (c ∷ [])) ∷ []); ongoing = set (p .ongoing) i [] }) (past ++ (c ∷ []))
     ended x e l d =
         kept-with s p past c kept h ((q ++ (c ∷ [])) ∷ []) [] (simp append-nil) (rw e (open-none i _))

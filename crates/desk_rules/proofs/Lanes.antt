@@ -18,10 +18,10 @@ use Rattle.desk_rules.specs.declared.Moved.the-variants.{Refused, Stays,
 use Rattle.desk_rules.specs.declared.Reference.{Reference}
 use Rattle.desk_rules.specs.Numbers.{laneCount, bookLines}
 use Rattle.desk_rules.specs.Kinds.{booked, isIdle}
-use Rattle.desk_rules.specs.Lanes.{idleLane, lineAt, placeTaken}
+use Rattle.desk_rules.specs.Lanes.{idleLane, lineAt, lineTaken}
 use Rattle.desk_rules.specs.Openings.{refersTo, concerns, lastFrom, lastLine}
-use Rattle.desk_rules.specs.Course.{heard, lostBy, openedBy, Call, opening, message, lost, laneOf, opens, needsPlace, moves, writes}
-use Rattle.desk_rules.specs.Desk.{State, laneAt, placesTaken, load, Decision, refuse, accept, unlessRefused, decide, laneAfter, lineIf, linesFrom, step, Accepts}
+use Rattle.desk_rules.specs.Course.{heard, lostBy, openedBy, Call, opening, message, lost, laneOf, opens, needsLine, moves, writes}
+use Rattle.desk_rules.specs.Desk.{State, laneAt, linesTaken, load, Decision, refuse, accept, unlessRefused, decide, laneAfter, lineIf, linesFrom, step, Accepts}
 use Rattle.desk_rules.specs.Runs.{having, ofLane, Own, ownOf, total, oneOpened}
 use Rattle.desk_rules.proofs.Calls.{Passes, opened, Heeds, Later, later}
 
@@ -123,7 +123,7 @@ by-lane s c h P mine other k = go (eqb (laneOf c) k) refl
 pub record Told (s : State) (c : Call) : Type 0 where
   pub lane : laneOf c < laneCount
   pub moved : Passes (moves (laneAt (s .lanes) (laneOf c)) (s .lines) c)
-  pub room : needsPlace c ≡ true → load s < bookLines
+  pub room : needsLine c ≡ true → load s < bookLines
 
 pub not-refused : (t : Bool) (n : Refusal) (d : Decision) → pick t (refuse n) d ≡ accept → (t ≡ false) × (d ≡ accept)
 not-refused true n d e = never cc
@@ -156,14 +156,14 @@ unfolding Accepts decide
 told s c h =
     let a = not-refused (leb laneCount (laneOf c)) _ _ h in
     let b = passed (moves (laneAt (s .lanes) (laneOf c)) (s .lines) c) _ (a .1) in
-    record { lane = leb-false laneCount (laneOf c) (a .0); moved = b .0; room = room-told (needsPlace c) (load s) (not-refused (needsPlace c && leb bookLines (load s)) _ _ (b .1) .0) }
+    record { lane = leb-false laneCount (laneOf c) (a .0); moved = b .0; room = room-told (needsLine c) (load s) (not-refused (needsLine c && leb bookLines (load s)) _ _ (b .1) .0) }
 
 pub tell : (s : State) (c : Call) → Told s c → Accepts s c
 unfolding Accepts decide
 tell s c t =
     let l = laneAt (s .lanes) (laneOf c) in
     let n = length (writes l c) in
-    rw (lt-leb laneCount (laneOf c) (t .lane), passing (moves l (s .lines) c) _ (t .moved), room-tell (needsPlace c) (load s) (t .room), le-ltb n n (omega arith))
+    rw (lt-leb laneCount (laneOf c) (t .lane), passing (moves l (s .lines) c) _ (t .moved), room-tell (needsLine c) (load s) (t .room), le-ltb n n (omega arith))
 
 -- and one that is accepted is so in any room for what it writes
 pub accepts-room : (s : State) (c : Call) (room : ℕ) → Accepts s c → length (writes (laneAt (s .lanes) (laneOf c)) c) ≤ room → decide s c room ≡ accept
@@ -171,7 +171,7 @@ unfolding decide
 accepts-room s c room a h =
     let t = told s c a in
     let l = laneAt (s .lanes) (laneOf c) in
-    rw (lt-leb laneCount (laneOf c) (t .lane), passing (moves l (s .lines) c) _ (t .moved), room-tell (needsPlace c) (load s) (t .room), le-ltb room (length (writes l c)) h)
+    rw (lt-leb laneCount (laneOf c) (t .lane), passing (moves l (s .lines) c) _ (t .moved), room-tell (needsLine c) (load s) (t .room), le-ltb room (length (writes l c)) h)
 
 -- a call that is accepted in some room is accepted in as much as it writes
 pub accepts-any : (s : State) (c : Call) (room : ℕ) → decide s c room ≡ accept → Accepts s c
@@ -181,21 +181,21 @@ accepts-any s c room e =
     let n = length (writes l c) in
     let a = not-refused (leb laneCount (laneOf c)) _ _ e in
     let b = passed (moves l (s .lines) c) _ (a .1) in
-    let f = not-refused (needsPlace c && leb bookLines (load s)) _ _ (b .1) in
+    let f = not-refused (needsLine c && leb bookLines (load s)) _ _ (b .1) in
     rw (a .0, passing (moves l (s .lines) c) _ (b .0), f .0, le-ltb n n (omega arith))
 
-pub places-total : (ls : List Lane) → placesTaken ls ≡ total placeTaken ls
-unfolding placesTaken total
+pub places-total : (ls : List Lane) → linesTaken ls ≡ total lineTaken ls
+unfolding linesTaken total
 places-total [] = refl
 places-total (l ∷ ls) = omega (arith, places-total ls)
 
-pub opened-one : (c : Call) → needsPlace c ≡ true → oneOpened c ≡ 1
+pub opened-one : (c : Call) → needsLine c ≡ true → oneOpened c ≡ 1
 unfolding oneOpened
 opened-one c e = rw e
 
 -- only an opening needs a place
 pub not-opened : (c : Call) → opens c ≡ false → oneOpened c ≡ 0
-unfolding opens oneOpened needsPlace
+unfolding opens oneOpened needsLine
 not-opened (opening i o) e = never cc
 not-opened (message i s) e = refl
 not-opened (lost i) e = refl
@@ -204,24 +204,24 @@ line-count : (b : Bool) (x : Line) → length (lineIf b x) ≡ pick b 1 0
 line-count true x = refl
 line-count false x = refl
 
-heeds-place : (l : Lane) (c : Call) (n : Lane) → isIdle (l .phase) ≡ false → Heeds l c n → placeTaken n ≡ placeTaken l
-unfolding placeTaken
+heeds-place : (l : Lane) (c : Call) (n : Lane) → isIdle (l .phase) ≡ false → Heeds l c n → lineTaken n ≡ lineTaken l
+unfolding lineTaken
 heeds-place l (opening i o) n e f = absurd f
 heeds-place l (message i s) n e f = rw (e, f)
 heeds-place l (lost i) n e f = absurd f
 
 -- places are kept: an opening takes one, and an end passes it on to its line
 then-kept : (i : ℕ) (l : Lane) (c : Call) (m : Moved) → isIdle (l .phase) ≡ false → Later l c m
-    → placeTaken (laneAfter l m) + length (linesFrom i l m) ≡ placeTaken l + 0
-unfolding laneAfter linesFrom placeTaken
+    → lineTaken (laneAfter l m) + length (linesFrom i l m) ≡ lineTaken l + 0
+unfolding laneAfter linesFrom lineTaken
 then-kept i l c (Refused r) e f = absurd f
 then-kept i l c Stays e f = refl
 then-kept i l c (Becomes n) e f = omega (arith, heeds-place l c n e f)
 then-kept i l c (Ends outcome settled code) e f = rw (e, line-count) (omega arith)
 
 pub kept : (i : ℕ) (l : Lane) (ls : List Line) (c : Call) → Passes (moves l ls c)
-    → placeTaken (laneAfter l (moves l ls c)) + length (linesFrom i l (moves l ls c)) ≡ placeTaken l + oneOpened c
-unfolding laneAfter linesFrom placeTaken moves oneOpened needsPlace opens
+    → lineTaken (laneAfter l (moves l ls c)) + length (linesFrom i l (moves l ls c)) ≡ lineTaken l + oneOpened c
+unfolding laneAfter linesFrom lineTaken moves oneOpened needsLine opens
 kept i l ls (opening j o) h = let t = opened l o (lastLine j (refersTo o) ls) h in rw (t .2, t .0) (omega arith)
 kept i l ls (message j s) h = let t = later l ls (message j s) refl h in then-kept i l (message j s) (heard l s) (t .0) (t .1)
 kept i l ls (lost j) h = let t = later l ls (lost j) refl h in then-kept i l (lost j) (lostBy l) (t .0) (t .1)
@@ -238,6 +238,6 @@ load-step s c e h =
     let t = told s c h in
     simp (length-append, places-total) (omega (
       arith,
-      total-set placeTaken (s .lanes) (laneOf c) (laneAfter l m) idleLane (omega arith),
+      total-set lineTaken (s .lanes) (laneOf c) (laneAfter l m) idleLane (omega arith),
       kept (laneOf c) l (s .lines) c (t .moved),
     ))

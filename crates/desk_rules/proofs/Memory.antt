@@ -23,10 +23,10 @@ use Rattle.desk_rules.specs.declared.Answer.{Answer}
 use Rattle.desk_rules.specs.declared.Reply.the-variants.{Written}
 use Rattle.desk_rules.specs.Numbers.{laneCount, bookLines}
 use Rattle.desk_rules.specs.Kinds.{booked, isIdle}
-use Rattle.desk_rules.specs.Lanes.{blankLine, idleLane, lineAt, placeTaken}
-use Rattle.desk_rules.specs.Course.{Call, laneOf, needsPlace, NumbersFit, moves, writes}
+use Rattle.desk_rules.specs.Lanes.{blankLine, idleLane, lineAt, lineTaken}
+use Rattle.desk_rules.specs.Course.{Call, laneOf, needsLine, NumbersFit, moves, writes}
 use Rattle.desk_rules.specs.Runs.{oneOpened}
-use Rattle.desk_rules.specs.Desk.{fresh, laneAt, placesTaken, allIdle, load, Decision, refuse, accept, decide, laneAfter, lineIf, linesFrom, step}
+use Rattle.desk_rules.specs.Desk.{fresh, laneAt, linesTaken, allIdle, load, Decision, refuse, accept, decide, laneAfter, lineIf, linesFrom, step}
 use Rattle.desk_rules.specs.Memory.{freshDesk, linesOfDesk, view, laneFor, toldSmall, Valid, withLine, endedDesk, movedDesk, refusedAnswer, answerBy, answerOf, leavesBy, leavesOf, closeAnswer}
 use Rattle.desk_rules.proofs.Calls.{Passes}
 use Rattle.desk_rules.proofs.Lanes.{total-set, places-total, kept, not-refused, passed}
@@ -49,26 +49,26 @@ replicate-all P (suc n) d p (suc k) = replicate-all P n d p k
 
 -- ---- the places that lanes take
 
-pub place-most : (l : Lane) → placeTaken l ≤ 1
-unfolding placeTaken
+pub place-most : (l : Lane) → lineTaken l ≤ 1
+unfolding lineTaken
 place-most l =
     pick-test (λ (n : ℕ). n ≤ 1) (isIdle (l .phase)) (λ _. omega arith)
     (λ _. pick-test (λ (n : ℕ). n ≤ 1) (booked (l .kind)) (λ _. omega arith) (λ _. omega arith))
 
-place-in : (ls : List Lane) (i : ℕ) → placeTaken (getD ls i idleLane) ≤ placesTaken ls
-unfolding placesTaken placeTaken
+place-in : (ls : List Lane) (i : ℕ) → lineTaken (getD ls i idleLane) ≤ linesTaken ls
+unfolding linesTaken lineTaken
 place-in [] i = omega arith
 place-in (l ∷ ls) zero = omega arith
 place-in (l ∷ ls) (suc i) = omega (arith, place-in ls i)
 
 places-set : (ls : List Lane) (i : ℕ) (l : Lane) → i < length ls
-    → placesTaken (set ls i l) + placeTaken (getD ls i idleLane) ≡ placesTaken ls + placeTaken l
-places-set ls i l h = simp places-total (total-set placeTaken ls i l idleLane h)
+    → linesTaken (set ls i l) + lineTaken (getD ls i idleLane) ≡ linesTaken ls + lineTaken l
+places-set ls i l h = simp places-total (total-set lineTaken ls i l idleLane h)
 
 -- ---- what every desk is
 
 pub fresh-valid : Valid freshDesk
-unfolding placesTaken placeTaken toldSmall
+unfolding linesTaken lineTaken toldSmall
 fresh-valid =
     record {
       lanes = refl;
@@ -82,17 +82,17 @@ fresh-valid =
 abbrev pub Roomy : Desk → ℕ → Moved → Type 0
 Roomy d i m =
     let l = laneAt (d .lanes) i in
-    d .book .count + placesTaken (d .lanes) + (placeTaken (laneAfter l m) + length (linesFrom i l m)) ≤ bookLines + placeTaken l
+    d .book .count + linesTaken (d .lanes) + (lineTaken (laneAfter l m) + length (linesFrom i l m)) ≤ bookLines + lineTaken l
 
 module _ (d : Desk) (v : Valid d) where
-  pub load-is : load (view d) ≡ d .book .count + placesTaken (d .lanes)
+  pub load-is : load (view d) ≡ d .book .count + linesTaken (d .lanes)
   unfolding load view
-  load-is = ap (λ (n : ℕ). n + placesTaken (d .lanes)) (length-take-le (d .book .count) (d .book .lines) (omega (arith, v .room, v .lines)))
+  load-is = ap (λ (n : ℕ). n + linesTaken (d .lanes)) (length-take-le (d .book .count) (d .book .lines) (omega (arith, v .room, v .lines)))
 
   module _ (i : ℕ) (h : i < laneCount) where
     -- another lane, and a book that leaves it its place
     changed-valid : (l : Lane) (b : Book) → LaneFits l → length (b .lines) ≡ bookLines → LinesFit (b .lines)
-        → b .count + placesTaken (d .lanes) + placeTaken l ≤ bookLines + placeTaken (laneAt (d .lanes) i)
+        → b .count + linesTaken (d .lanes) + lineTaken l ≤ bookLines + lineTaken (laneAt (d .lanes) i)
         → Valid (record { lanes = set (d .lanes) i l; book = b })
     changed-valid l b f n k few =
         record {
@@ -114,7 +114,7 @@ module _ (d : Desk) (v : Valid d) where
         line = lineAt i (laneAt (d .lanes) i) outcome settled code
 
         go : (b : Bool)
-            → d .book .count + placesTaken (d .lanes) + (placeTaken idleLane + length (lineIf b line)) ≤ bookLines + placeTaken (laneAt (d .lanes) i)
+            → d .book .count + linesTaken (d .lanes) + (lineTaken idleLane + length (lineIf b line)) ≤ bookLines + lineTaken (laneAt (d .lanes) i)
             → Valid (record { lanes = set (d .lanes) i idleLane; book = pick b (withLine (d .book) line) (d .book) })
         go true e =
             changed-valid idleLane (withLine (d .book) line) tt (simp length-set (v .lines))
@@ -135,7 +135,7 @@ module _ (d : Desk) (v : Valid d) where
         line = lineAt i (laneAt (d .lanes) i) outcome settled code
 
         go : (b : Bool)
-            → d .book .count + placesTaken (d .lanes) + (placeTaken idleLane + length (lineIf b line)) ≤ bookLines + placeTaken (laneAt (d .lanes) i)
+            → d .book .count + linesTaken (d .lanes) + (lineTaken idleLane + length (lineIf b line)) ≤ bookLines + lineTaken (laneAt (d .lanes) i)
             → view (record { lanes = set (d .lanes) i idleLane; book = pick b (withLine (d .book) line) (d .book) })
             ≡ record { lanes = set (d .lanes) i idleLane; lines = linesOfDesk d ++ lineIf b line }
         go true e = rw (add-one, take-suc-set (d .book .lines) (d .book .count) line (omega (arith, place-in (d .lanes) i, v .lines)))
@@ -149,7 +149,7 @@ moveOf d c = moves (laneFor d c) (linesOfDesk d) c
 pub record Taken (d : Desk) (c : Call) (room : ℕ) : Type 0 where
   pub lane : laneOf c < laneCount
   pub passes : Passes (moveOf d c)
-  pub few : needsPlace c && leb bookLines (load (view d)) ≡ false
+  pub few : needsLine c && leb bookLines (load (view d)) ≡ false
   pub fits : length (writes (laneFor d c) c) ≤ room
 
 module _ (d : Desk) (c : Call) (room : ℕ) where
@@ -158,7 +158,7 @@ module _ (d : Desk) (c : Call) (room : ℕ) where
   taken e =
       let a = not-refused (leb laneCount (laneOf c)) _ _ e in
       let b = passed (moveOf d c) _ (a .1) in
-      let f = not-refused (needsPlace c && leb bookLines (load (view d))) _ _ (b .1) in
+      let f = not-refused (needsLine c && leb bookLines (load (view d))) _ _ (b .1) in
       let g = not-refused (ltb room (length (writes (laneFor d c) c))) _ _ (f .1) in
       record {
         lane = leb-false laneCount (laneOf c) (a .0);
@@ -169,13 +169,13 @@ module _ (d : Desk) (c : Call) (room : ℕ) where
 
   taken-roomy : Valid d → Taken d c room → Roomy d (laneOf c) (moveOf d c)
   unfolding oneOpened
-  taken-roomy v t = go (needsPlace c) (kept (laneOf c) (laneFor d c) (linesOfDesk d) c (t .passes)) (t .few)
+  taken-roomy v t = go (needsLine c) (kept (laneOf c) (laneFor d c) (linesOfDesk d) c (t .passes)) (t .few)
     where
       m : Moved
       m = moveOf d c
 
       go : (o : Bool)
-          → placeTaken (laneAfter (laneFor d c) m) + length (linesFrom (laneOf c) (laneFor d c) m) ≡ placeTaken (laneFor d c) + pick o 1 0
+          → lineTaken (laneAfter (laneFor d c) m) + length (linesFrom (laneOf c) (laneFor d c) m) ≡ lineTaken (laneFor d c) + pick o 1 0
           → o && leb bookLines (load (view d)) ≡ false → Roomy d (laneOf c) m
       go true k e = omega (arith, leb-false bookLines (load (view d)) e, load-is d v)
       go false k e = omega (arith, v .room)

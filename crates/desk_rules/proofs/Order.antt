@@ -10,9 +10,9 @@ use borrow.Author.Tests.{eq-eqb, ne-eqb}
 use Rattle.desk_rules.specs.declared.Lane.{Lane}
 use Rattle.desk_rules.specs.declared.Line.{Line}
 use Rattle.desk_rules.specs.Numbers.{laneCount}
-use Rattle.desk_rules.specs.Lanes.{idleLane, placeTaken}
+use Rattle.desk_rules.specs.Lanes.{idleLane, lineTaken}
 use Rattle.desk_rules.specs.Course.{Call, laneOf}
-use Rattle.desk_rules.specs.Desk.{State, fresh, laneAt, placesTaken, load, step, Accepted, run}
+use Rattle.desk_rules.specs.Desk.{State, fresh, laneAt, linesTaken, load, step, Accepted, run}
 use Rattle.desk_rules.specs.Runs.{having, callsOf, Own, ownOf}
 use Rattle.desk_rules.specs.Payments.{paymentsOf, flattened, oneByOne}
 use Rattle.desk_rules.proofs.Lanes.{having-append}
@@ -83,7 +83,7 @@ lines-one-by-one cs h =
 
 pub order : (cs : List Call) → Accepted fresh cs
     → Accepted fresh (oneByOne cs) × (run fresh (oneByOne cs) ≡ run fresh cs) × ((k : ℕ) → repliesTo k fresh (oneByOne cs) ≡ repliesTo k fresh cs)
-unfolding fresh load placesTaken placeTaken
+unfolding fresh load linesTaken lineTaken
 order cs h = (
   accepted,
   ap₂ (λ (ls : List Lane) (xs : List Line). record { lanes = ls; lines = xs }) lanes
@@ -92,7 +92,7 @@ order cs h = (
         count cs h .0,
         count (oneByOne cs) accepted .0,
         openings-same cs h,
-        ap placesTaken lanes,
+        ap linesTaken lanes,
       ))),
   λ k. replies-alone fresh (oneByOne cs) k refl accepted ∙ ap (repliesAlone (ownOf k fresh)) (same-calls cs h k) ∙ sym (replies-alone fresh cs k refl h),
 )

@@ -25,7 +25,7 @@ use Rattle.desk_rules.specs.Desk.{State, laneAt, laneAfter, linesFrom, s
 use Rattle.desk_rules.specs.Runs.{having, ofLane, callsOf, Own}
 use Rattle.desk_rules.specs.Payments.{ends}
 use Rattle.desk_rules.specs.believed.LastSale.{None}
-use Rattle.desk_rules.specs.believed.Due.{nothing, Ending, Open, Due, PhaseIs, waiting, running, StatusIs, LaneIs, idle, busy}
+use Rattle.desk_rules.specs.believed.Due.{nothing, Ending, Open, LineDue, PhaseIs, waiting, running, StatusIs, LaneIs, idle, busy}
 use Rattle.desk_rules.proofs.Judge.{remembered, verdict}
 use Rattle.desk_rules.proofs.Calls.{Passes, opened, retold, Heeds, Later, later, endsIn, ends-same}
 use Rattle.desk_rules.proofs.Lanes.{having-append, moves-local}
@@ -71,7 +71,7 @@ module _ (k : ℕ) (ls : List Line) where
 
   closes : {q : List Call} {l : Lane} (c : Call) (outcome : Outcome) (settled code : ℕ) → LaneIs k ls q l → isIdle (l .phase) ≡ false → laneOf c ≡ k
       → verdict (runningLane l) c ≡ Ends outcome settled code
-      → (xs : List Line) → ofLane k xs ≡ ls → Due xs (q ++ (c ∷ [])) (lineAt k l outcome settled code)
+      → (xs : List Line) → ofLane k xs ≡ ls → LineDue xs (q ++ (c ∷ [])) (lineAt k l outcome settled code)
   unfolding lineAt
   closes c outcome settled code idle b at v xs e = absurd (false≢true (sym b))
   closes {q} {l} c outcome settled code (busy {told = t} {status = fs} x p st) b at v xs e =
@@ -92,7 +92,7 @@ unfoldable pub Goes : ℕ → List Line → Lane → List Call → Moved → Typ
 Goes k ls l q (Refused r) = ⊥
 Goes k ls l q Stays = LaneIs k ls q l
 Goes k ls l q (Becomes n) = LaneIs k ls q n
-Goes k ls l q (Ends outcome settled code) = (xs : List Line) → ofLane k xs ≡ ls → Due xs q (lineAt k l outcome settled code)
+Goes k ls l q (Ends outcome settled code) = (xs : List Line) → ofLane k xs ≡ ls → LineDue xs q (lineAt k l outcome settled code)
 
 heeds : (l : Lane) (ls : List Line) (q : List Call) (c : Call) (n : Lane) → LaneIs (laneOf c) ls q l → isIdle (l .phase) ≡ false → ends c ≡ false
     → Heeds l c n → LaneIs (laneOf c) ls (q ++ (c ∷ [])) n

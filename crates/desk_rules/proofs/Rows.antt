@@ -14,18 +14,17 @@ use Rattle.zvt_rules.specs.declared.ToldCode.{ToldCode}
 use Rattle.zvt_rules.specs.declared.ToldCode.the-variants.{Missing, Code}
 use Rattle.basics.specs.Choice.{pick}
 use Rattle.basics.specs.Lists.{part, among}
-use Rattle.zvt_rules.specs.Reading.{Reading, got, refused, no, unplaced}
+use Rattle.zvt_rules.specs.Reading.{Reading, got, refused, faultAt, unplaced}
 use Rattle.zvt_rules.specs.Message.{Heading, headerSize, start, end, wholeHeader, Body, bytes, listed, Message, layoutOf, bodyOf, messageOf, readOf}
 use Rattle.zvt_rules.proofs.Readings.{got-same, got-not-refused, then-got}
 use Rattle.zvt_rules.proofs.ObjectReading.{part-length}
 use Rattle.zvt_rules.proofs.FieldReading.{header-in}
 use Rattle.zvt_rules.proofs.RowMessages.{whole-got}
 use Rattle.basics.specs.believed.Lists.{In}
-use Rattle.zvt_rules.specs.Heard.{firstOf, toldIn}
+use Rattle.zvt_rules.specs.Heard.{firstByte, toldIn}
 use Rattle.basics.proofs.Lists.{in-none, in-first, among-exactly}
 use Rattle.basics.proofs.Tests.{by-test, true-false, pick-test, pick-alike, pick-under, leb-test, eqb-test, and-test, or-test, between, no-for, never}
 use Rattle.desk_rules.specs.declared.Kind.{Kind}
-use Rattle.desk_rules.specs.declared.Kind.the-variants.{Sale, Refund, Reversal}
 use Rattle.desk_rules.specs.declared.Phase.{Phase}
 use Rattle.desk_rules.specs.declared.Phase.the-variants.{Idle, Waiting, Running}
 use Rattle.desk_rules.specs.declared.Lane.{Lane}
@@ -35,10 +34,10 @@ use Rattle.desk_rules.specs.declared.Opening.{Opening}
 use Rattle.desk_rules.specs.declared.Opening.the-variants.{Sale as sale, Refund as refund, Reversal as reversal}
 use Rattle.desk_rules.specs.Numbers.{laneCount, bookLines, mostAsked, mostReceipt, mostPassword}
 use Rattle.desk_rules.specs.Kinds.{booked, isIdle}
-use Rattle.desk_rules.specs.Lanes.{placeTaken}
+use Rattle.desk_rules.specs.Lanes.{lineTaken}
 use Rattle.desk_rules.specs.Openings.{kindOf, withinLimits, refersTo, lastLine, sold, stands, missingNo, commandSize}
-use Rattle.desk_rules.specs.Course.{noMove, runningPairs, pairIs, heardWaiting, completedBy, abortedBy, reportedBy, movedBy, afterBody, heardRunning, heardBy, afterHeader, heard, lostBy, answered, openedBy, Call, opening, message, lost, laneOf, needsPlace, moves, writes}
-use Rattle.desk_rules.specs.Desk.{State, laneAt, placesTaken, load, Decision, refuse, accept, unlessRefused, decide}
+use Rattle.desk_rules.specs.Course.{noMove, runningPairs, pairIs, heardWaiting, completedBy, abortedBy, reportedBy, movedBy, afterBody, heardRunning, heardBy, afterHeader, heard, lostBy, answered, openedBy, Call, opening, message, lost, laneOf, needsLine, moves, writes}
+use Rattle.desk_rules.specs.Desk.{State, laneAt, linesTaken, load, Decision, refuse, accept, unlessRefused, decide}
 use Rattle.desk_rules.specs.declared.Reference.the-variants.{Sold}
 use Rattle.desk_rules.specs.believed.LastSale.{Named}
 use Rattle.desk_rules.specs.believed.Due.{Reads}
@@ -46,7 +45,7 @@ use Rattle.desk_rules.specs.believed.Table.{Given, gives, givesAt, refus
 use Rattle.desk_rules.proofs.Commands.{command-size}
 use Rattle.desk_rules.proofs.NamedSale.{named-is, named-there}
 use Rattle.desk_rules.proofs.Heard.{completed-cases}
-use Rattle.desk_rules.proofs.Calls.{plain-read}
+use Rattle.desk_rules.proofs.Calls.{every-kind, plain-read}
 
 -- ---- rows, one by one
 
@@ -122,25 +121,20 @@ within-test (sale amount) = between amount mostAsked
 within-test (refund password amount) = and-test (leb-test password mostPassword) (between amount mostAsked)
 within-test (reversal password receipt) = and-test (leb-test password mostPassword) (between receipt mostReceipt)
 
-pub every-kind-booked : (k : Kind) → booked k ≡ true
-every-kind-booked Sale = refl
-every-kind-booked Refund = refl
-every-kind-booked Reversal = refl
-
 place-open : (p : Phase) (k : Kind) → pick (isIdle p) 0 (pick (booked k) 1 0) ≡ openIn p
 place-open Idle k = refl
-place-open Waiting k = rw (every-kind-booked k)
-place-open Running k = rw (every-kind-booked k)
+place-open Waiting k = rw (every-kind k)
+place-open Running k = rw (every-kind k)
 
 -- P3: "An open payment takes the place of the line that it will write."
-pub places-open : (ls : List Lane) → placesTaken ls ≡ openPayments ls
-unfolding placesTaken placeTaken openPayments
+pub places-open : (ls : List Lane) → linesTaken ls ≡ openPayments ls
+unfolding linesTaken lineTaken openPayments
 places-open [] = refl
 places-open (l ∷ ls) = rw (place-open (l .phase) (l .kind), places-open ls)
 
 full-test : (s : State) (o : Opening) → (booked (kindOf o) && leb bookLines (load s) ≡ true) ↔ (64 ≤ length (s .lines) + openPayments (s .lanes))
 unfolding load
-full-test s o = rw (every-kind-booked (kindOf o), places-open (s .lanes)) (leb-test _ _)
+full-test s o = rw (every-kind (kindOf o), places-open (s .lanes)) (leb-test _ _)
 
 room-test : (o : Opening) (room : ℕ) → (ltb room (commandSize o) ≡ true) ↔ (room < needs o)
 room-test (sale amount) room = ltb-test _ _
@@ -156,7 +150,7 @@ module _ (s : State) (i : ℕ) (o : Opening) (room : ℕ) where
       (pick (isIdle (phaseAt s i))
       (pick (withinLimits o) (pick (stands (refersTo o) (lastLine i (refersTo o) (s .lines))) few (refuse (unplaced (missingNo (refersTo o))))) (refuse (unplaced 16)))
       (refuse (unplaced 13)))
-  unfolding decide moves writes needsPlace laneOf openedBy few unlessRefused
+  unfolding decide moves writes needsLine laneOf openedBy few unlessRefused
   decide-opening = rw command-size (simp (pick-under (λ m. unlessRefused m few)))
 
 named-test : (i receipt : ℕ) (ls : List Line) → (sold (lastLine i (Sold receipt) ls) ≡ true) ↔ ((line : Line) × Named i receipt ls line)
@@ -281,16 +275,16 @@ abort-test : (m : Message) → (emptyAbort m ≡ true) ↔ (((m .class ≡ 0x06)
 abort-test m = and-test (pair-test (m .class) (m .instruction) 0x06 0x1E) (empty-test (m .body))
 
 aborted-says : (at : ℕ) (x : Decision) (y : Body) (t : List ℕ) → y ≡ bytes t
-    → unlessRefused (abortedBy at (firstOf y)) x ≡ pick (isEmpty y) (refuse (no 1 at)) x
-unfolding unlessRefused abortedBy firstOf isEmpty
+    → unlessRefused (abortedBy at (firstByte y)) x ≡ pick (isEmpty y) (refuse (faultAt 1 at)) x
+unfolding unlessRefused abortedBy firstByte isEmpty
 aborted-says at x y [] e = rw e
 aborted-says at x y (b ∷ t) e = rw e
 
 moved-says : (b : List ℕ) (l : Lane) (m : Message) (x : Decision) → readOf b ≡ got m
-    → unlessRefused (movedBy l (m .class) (m .instruction) (headerSize (m .long)) (toldIn m)) x ≡ pick (emptyAbort m) (refuse (no 1 (length b))) x
+    → unlessRefused (movedBy l (m .class) (m .instruction) (headerSize (m .long)) (toldIn m)) x ≡ pick (emptyAbort m) (refuse (faultAt 1 (length b))) x
 unfolding unlessRefused movedBy Goes toldIn
 moved-says b l m x e =
-    let P : Moved → Type 0 = λ y. unlessRefused y x ≡ pick (emptyAbort m) (refuse (no 1 (length b))) x in
+    let P : Moved → Type 0 = λ y. unlessRefused y x ≡ pick (emptyAbort m) (refuse (faultAt 1 (length b))) x in
     let class = m .class in
     let instruction = m .instruction in
     pick-test P (pairIs class instruction 0x06 0x0F)
@@ -305,7 +299,7 @@ moved-says b l m x e =
     let t = abort-plain b m e (k .0) (k .1) in
     let end : (isEmpty (m .body) ≡ true) → headerSize (m .long) ≡ length b = λ n. abort-end b m e (k .0) (k .1) (empty-test (m .body) .0 n) in
     aborted-says _ x (m .body) (t .0) (t .1)
-    ∙ rw a (pick-alike (isEmpty (m .body)) (λ n. ap (λ (p : ℕ). refuse (no 1 p)) (end n)) (λ _. refl)))
+    ∙ rw a (pick-alike (isEmpty (m .body)) (λ n. ap (λ (p : ℕ). refuse (faultAt 1 p)) (end n)) (λ _. refl)))
     (λ a. pick-test P (pairIs class instruction 0x04 0x0F) (λ r. reported-goes l _ _ x ∙ rw a) (λ r. rw a)))
 
 -- bytes that are read as m are an abort without a code, by what m is
@@ -351,7 +345,7 @@ module _ (p : Phase) (l : Lane) (b : List ℕ) (room : ℕ) where
   running-agrees e =
       row-reading (readOf b) _ (λ r. unlessRefused (afterBody l r) (replied Running room)) (λ f. refl) λ m r.
       rw (moved-says b l m (replied Running room) r)
-      (row-if (no 1 (length b)) _ _ (abort-reads b m r) λ _. row-if (unplaced 11) _ _ (λ t. (e, ltb-test room 3 .0 t), λ k. ltb-test room 3 .1 (k .1)) λ _. none-left)
+      (row-if (faultAt 1 (length b)) _ _ (abort-reads b m r) λ _. row-if (unplaced 11) _ _ (λ t. (e, ltb-test room 3 .0 t), λ k. ltb-test room 3 .1 (k .1)) λ _. none-left)
 
   -- what a waiting lane allows is read: its body is plain
   waiting-agrees : (h : Heading) → p ≡ Waiting → wholeHeader b ≡ got h → Allowed Waiting h → Agrees accept bodyRows
@@ -394,7 +388,7 @@ phase-first l b room Waiting = refl
 phase-first l b room Running = refl
 
 hearing-agrees : (s : State) (i : ℕ) (b : List ℕ) (room : ℕ) → Agrees (decide s (message i b) room) (hearingRows s i b room)
-unfolding decide moves writes needsPlace laneOf heard unlessRefused afterHeader replied bodyRows
+unfolding decide moves writes needsLine laneOf heard unlessRefused afterHeader replied bodyRows
 hearing-agrees s i b room =
     let l = laneAt (s .lanes) i in
     row-if (unplaced 12) _ _ (leb-test 8 i) λ _.
@@ -405,7 +399,7 @@ hearing-agrees s i b room =
 
 -- ---- a lost link
 losing-agrees : (s : State) (i room : ℕ) → Agrees (decide s (lost i) room) (losingRows s i)
-unfolding decide moves writes needsPlace laneOf lostBy unlessRefused
+unfolding decide moves writes needsLine laneOf lostBy unlessRefused
 losing-agrees s i room =
     let p = laneAt (s .lanes) i .phase in
     row-if (unplaced 12) _ _ (leb-test 8 i) λ _.

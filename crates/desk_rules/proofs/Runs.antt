@@ -8,9 +8,9 @@ use lib.ListN.{length}
 use borrow.Author.Tests.{eq-eqb}
 use Rattle.basics.specs.Choice.{pick}
 use Rattle.desk_rules.specs.Numbers.{laneCount, bookLines}
-use Rattle.desk_rules.specs.Lanes.{placeTaken}
-use Rattle.desk_rules.specs.Course.{Call, laneOf, needsPlace, moves, writes}
-use Rattle.desk_rules.specs.Desk.{State, fresh, laneAt, placesTaken, load, step, Accepted, run, wrote}
+use Rattle.desk_rules.specs.Lanes.{lineTaken}
+use Rattle.desk_rules.specs.Course.{Call, laneOf, needsLine, moves, writes}
+use Rattle.desk_rules.specs.Desk.{State, fresh, laneAt, linesTaken, load, step, Accepted, run, wrote}
 use Rattle.desk_rules.specs.Runs.{having, callsOf, Own, ownOf, total, oneOpened, openings, Exchange, replies}
 use Rattle.desk_rules.proofs.Calls.{Passes}
 use Rattle.desk_rules.proofs.Lanes.{moves-local, after, by-lane, Told, told, tell, opened-one, lanes-step, load-step}
@@ -36,7 +36,7 @@ load-run s (c ∷ cs) e h = omega (arith, load-step s c e (h .0), load-run (step
 
 room-step : (s : State) (c : Call) → load s ≤ bookLines → Told s c → load s + oneOpened c ≤ bookLines
 unfolding oneOpened
-room-step s c r t = go (needsPlace c) (t .room)
+room-step s c r t = go (needsLine c) (t .room)
   where
     go : (b : Bool) → (b ≡ true → load s < bookLines) → load s + pick b 1 0 ≤ bookLines
     go true f = omega (arith, f refl)
@@ -48,8 +48,8 @@ room-run s [] e r h = r
 room-run s (c ∷ cs) e r h =
     room-run (step s c) cs (lanes-step s c ∙ e) (omega (arith, load-step s c e (h .0), room-step s c r (told s c (h .0)))) (h .1)
 
-pub count : (cs : List Call) → Accepted fresh cs → (openings cs ≡ length (run fresh cs .lines) + placesTaken (run fresh cs .lanes)) × (openings cs ≤ bookLines)
-unfolding fresh load placesTaken placeTaken
+pub count : (cs : List Call) → Accepted fresh cs → (openings cs ≡ length (run fresh cs .lines) + linesTaken (run fresh cs .lanes)) × (openings cs ≤ bookLines)
+unfolding fresh load linesTaken lineTaken
 count cs h =
     let l = load-run fresh cs refl h in
     (omega arith, omega (arith, room-run fresh cs refl (omega arith) h))

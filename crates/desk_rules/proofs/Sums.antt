@@ -17,9 +17,9 @@ use Rattle.desk_rules.specs.declared.Desk.{Desk}
 use Rattle.desk_rules.specs.declared.Reference.{Reference}
 use Rattle.desk_rules.specs.Numbers.{mostAsked}
 use Rattle.desk_rules.specs.Kinds.{isApproved, isIdle}
-use Rattle.desk_rules.specs.Lanes.{blankLine, idleLane, placeTaken}
+use Rattle.desk_rules.specs.Lanes.{blankLine, idleLane, lineTaken}
 use Rattle.desk_rules.specs.Openings.{concerns, lastFrom, lastLine}
-use Rattle.desk_rules.specs.Desk.{placesTaken, allIdle}
+use Rattle.desk_rules.specs.Desk.{linesTaken, allIdle}
 use Rattle.desk_rules.specs.Runs.{total}
 use Rattle.desk_rules.specs.Memory.{Valid}
 use Rattle.desk_rules.specs.Turnover.{counted, adds, takes, gain, loss, gains, losses}
@@ -42,13 +42,13 @@ module _ {A : Type 0} (f : A → ℕ) (sum : List A → ℕ) (none : sum [] ≡ 
 
 -- ---- open payments
 
-pub places-take : (ls : List Lane) (i : ℕ) → i < length ls → placesTaken (take (i + 1) ls) ≡ placesTaken (take i ls) + placeTaken (getD ls i idleLane)
-unfolding placesTaken
-places-take = sum-take placeTaken placesTaken refl (λ l ls. refl) idleLane
+pub places-take : (ls : List Lane) (i : ℕ) → i < length ls → linesTaken (take (i + 1) ls) ≡ linesTaken (take i ls) + lineTaken (getD ls i idleLane)
+unfolding linesTaken
+places-take = sum-take lineTaken linesTaken refl (λ l ls. refl) idleLane
 
-pub places-most : (i : ℕ) (ls : List Lane) → placesTaken (take i ls) ≤ i
-unfolding placesTaken
-places-most i ls = omega (arith, sum-most placeTaken placesTaken refl (λ l ls. refl) idleLane 1 i ls (λ k. place-most (getD ls k idleLane)))
+pub places-most : (i : ℕ) (ls : List Lane) → linesTaken (take i ls) ≤ i
+unfolding linesTaken
+places-most i ls = omega (arith, sum-most lineTaken linesTaken refl (λ l ls. refl) idleLane 1 i ls (λ k. place-most (getD ls k idleLane)))
 
 -- ---- idle lanes
 pub idle-from : (ls : List Lane) (i : ℕ) → i < length ls

@@ -5,7 +5,8 @@ use mathlib.Core.List.{List, [], _∷_}
 use lib.Dec.{eqb}
 use Rattle.basics.specs.Choice.{pick}
 use Rattle.basics.specs.Lists.{among}
-use Rattle.zvt_rules.specs.Reading.{Reading, got, refused, no, unplaced}
+use Rattle.zvt_rules.specs.Reading.{Reading, got, refused, faultAt, unplaced}
+use Rattle.zvt_rules.specs.Refusals.{endsTooSoon, laneNotIdle, laneIsIdle, notAllowed, outsideLimits}
 use Rattle.zvt_rules.specs.Message.{Heading, headerSize, wholeHeader, Message, readOf}
 use Rattle.zvt_rules.specs.Heard.{toldIn}
 use Rattle.basics.specs.believed.Lists.{Bytes}
@@ -43,8 +44,8 @@ unfoldable pub heardWaiting : Lane → Heading → Moved
 heardWaiting l h =
     pick (eqb (h .size) 0)
     (pick (pairIs (h .class) (h .instruction) 0x80 0x00) (Becomes (runningLane l))
-    (pick (eqb (h .class) 0x84) (Ends Declined 0 (h .instruction)) (noMove 15)))
-    (noMove 15)
+    (pick (eqb (h .class) 0x84) (Ends Declined 0 (h .instruction)) (noMove notAllowed)))
+    (noMove notAllowed)
 
 -- P23: "The settled amount is field 04 of the remembered status; an amount of 0 counts as told." P24: "a remembered status without field
 -- 04 means unclear, for every kind". P25: "a reversal is unclear where field 04 says another amount than it asked for"
@@ -62,7 +63,7 @@ completedBy l (Code c) =
 -- P21: "06 1E ends the payment, declined. The first byte of its body is the code, the others are not read; an empty body is refused
 -- (1)." R48: "for an empty 06 1E (P21) the first byte behind the body": an empty body ends where it starts
 unfoldable pub abortedBy : ℕ → ToldCode → Moved
-abortedBy start no-code = Refused (no 1 start)
+abortedBy start no-code = Refused (faultAt endsTooSoon start)
 abortedBy start (Code b) = Ends Declined 0 b
 
 -- P20: "04 0F with field 27 becomes the remembered status, all of it .. Without field 27 it changes nothing."
@@ -87,7 +88,7 @@ runningPairs = 0x040F ∷ 0x04FF ∷ 0x060F ∷ 0x061E ∷ 0x06D1 ∷ 0x06D3 ∷
 
 unfoldable pub heardRunning : Lane → List ℕ → Heading → Moved
 heardRunning l s h =
-    pick (among runningPairs (h .class * 256 + h .instruction)) (afterBody l (readOf s)) (noMove 15)
+    pick (among runningPairs (h .class * 256 + h .instruction)) (afterBody l (readOf s)) (noMove notAllowed)
 
 unfoldable pub afterHeader : (Heading → Moved) → Reading Heading → Moved
 afterHeader hears (refused r) = Refused r
@@ -95,7 +96,7 @@ afterHeader hears (got h) = hears h
 
 -- R35: "14, header, 15, body"
 unfoldable pub heardBy : Phase → Lane → List ℕ → Moved
-heardBy Idle l s = noMove 14
+heardBy Idle l s = noMove laneIsIdle
 heardBy Waiting l s = afterHeader (heardWaiting l) (wholeHeader s)
 heardBy Running l s = afterHeader (heardRunning l s) (wholeHeader s)
 
@@ -104,7 +105,7 @@ heard l s = heardBy (l .phase) l s
 
 -- P27: "Where the link is lost, a waiting or running lane ends its payment, unclear". P33: "The code of a lost link is 0."
 unfoldable pub lostBy : Lane → Moved
-lostBy l = pick (isIdle (l .phase)) (noMove 14) (Ends Unclear 0 0)
+lostBy l = pick (isIdle (l .phase)) (noMove laneIsIdle) (Ends Unclear 0 0)
 
 -- ---- opening
 
@@ -114,8 +115,8 @@ openedBy l o line =
     pick (isIdle (l .phase))
     (pick (withinLimits o)
     (pick (stands (refersTo o) line) (Becomes (openedLane o line)) (noMove (missingNo (refersTo o))))
-    (noMove 16))
-    (noMove 13)
+    (noMove outsideLimits))
+    (noMove laneNotIdle)
 
 -- ---- the calls: an opening on a lane, a message from its terminal, a lost link
 pub data Call : Type 0 where
@@ -134,10 +135,10 @@ opens (message i s) = false
 opens (lost i) = false
 
 -- R18: an opening that needs a place in the book
-unfoldable pub needsPlace : Call → Bool
-needsPlace (opening i o) = booked (kindOf o)
-needsPlace (message i s) = false
-needsPlace (lost i) = false
+unfoldable pub needsLine : Call → Bool
+needsLine (opening i o) = booked (kindOf o)
+needsLine (message i s) = false
+needsLine (lost i) = false
 
 -- what a function's parameters are: a message is of bytes
 unfoldable pub NumbersFit : Call → Type 0

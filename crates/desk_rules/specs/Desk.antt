@@ -8,14 +8,15 @@ use lib.Dec.{ltb, leb}
 use Rattle.zvt_rules.specs.declared.Refusal.{Refusal}
 use Rattle.basics.specs.Choice.{pick}
 use Rattle.zvt_rules.specs.Reading.{unplaced}
+use Rattle.zvt_rules.specs.Refusals.{noSuchLane, bookFull, noRoom}
 use Rattle.desk_rules.specs.declared.Lane.{Lane}
 use Rattle.desk_rules.specs.declared.Line.{Line}
 use Rattle.desk_rules.specs.declared.Moved.{Moved}
 use Rattle.desk_rules.specs.declared.Moved.the-variants.{Refused, Stays, Becomes, Ends}
 use Rattle.desk_rules.specs.Numbers.{laneCount, bookLines}
 use Rattle.desk_rules.specs.Kinds.{booked, isIdle}
-use Rattle.desk_rules.specs.Lanes.{idleLane, lineAt, placeTaken}
-use Rattle.desk_rules.specs.Course.{Call, laneOf, needsPlace, moves, writes}
+use Rattle.desk_rules.specs.Lanes.{idleLane, lineAt, lineTaken}
+use Rattle.desk_rules.specs.Course.{Call, laneOf, needsLine, moves, writes}
 
 -- eight lanes, and the lines of the book in their order
 pub record State : Type 0 where
@@ -29,13 +30,13 @@ abbrev pub laneAt : List Lane → ℕ → Lane
 laneAt ls i = getD ls i idleLane
 
 -- P3: the places that open payments take
-unfoldable pub placesTaken : List Lane → ℕ
-placesTaken [] = 0
-placesTaken (l ∷ ls) = placeTaken l + placesTaken ls
+unfoldable pub linesTaken : List Lane → ℕ
+linesTaken [] = 0
+linesTaken (l ∷ ls) = lineTaken l + linesTaken ls
 
 -- R18: "lines and open payments"
 unfoldable pub load : State → ℕ
-load s = length (s .lines) + placesTaken (s .lanes)
+load s = length (s .lines) + linesTaken (s .lanes)
 
 -- R19: no payment, and nothing else, is open
 unfoldable pub allIdle : List Lane → Bool
@@ -58,9 +59,9 @@ unlessRefused (Ends outcome settled code) other = other
 unfoldable pub decide : State → Call → ℕ → Decision
 decide s c room =
     let l = laneAt (s .lanes) (laneOf c) in
-    pick (leb laneCount (laneOf c)) (refuse (unplaced 12))
+    pick (leb laneCount (laneOf c)) (refuse (unplaced noSuchLane))
     (unlessRefused (moves l (s .lines) c)
-    (pick (needsPlace c && leb bookLines (load s)) (refuse (unplaced 18)) (pick (ltb room (length (writes l c))) (refuse (unplaced 11)) accept)))
+    (pick (needsLine c && leb bookLines (load s)) (refuse (unplaced bookFull)) (pick (ltb room (length (writes l c))) (refuse (unplaced noRoom)) accept)))
 
 -- P29: "the lane is idle then and remembers nothing"
 unfoldable pub laneAfter : Lane → Moved → Lane

@@ -38,8 +38,8 @@ abbrev pub reportedLane : Lane → Status → Lane
 reportedLane l status = record { phase = l .phase; kind = l .kind; asked = l .asked; named = l .named; status = status }
 
 -- P3: "An open payment takes the place of the line that it will write."
-unfoldable pub placeTaken : Lane → ℕ
-placeTaken l = pick (isIdle (l .phase)) 0 (pick (booked (l .kind)) 1 0)
+unfoldable pub lineTaken : Lane → ℕ
+lineTaken l = pick (isIdle (l .phase)) 0 (pick (booked (l .kind)) 1 0)
 
 -- P32: "field 87 of the remembered status. 0 stands for none, and a told 0000 is none."
 abbrev pub toldReceipt : ToldReceipt → ℕ

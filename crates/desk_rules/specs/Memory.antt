@@ -7,6 +7,7 @@ use lib.Dec.{ltb}
 use Rattle.zvt_rules.specs.declared.Refusal.{Refusal}
 use Rattle.basics.specs.Choice.{pick}
 use Rattle.zvt_rules.specs.Reading.{unplaced}
+use Rattle.zvt_rules.specs.Refusals.{paymentOpen, noSuchLane}
 use Rattle.basics.specs.Buffers.{front}
 use Rattle.zvt_rules.specs.declared.ToldAmount.{ToldAmount}
 use Rattle.zvt_rules.specs.declared.ToldAmount.the-variants.{Missing as no-amount, Amount}
@@ -18,7 +19,7 @@ use Rattle.desk_rules.specs.Numbers.{laneCount, bookLines, mostAsked}
 use Rattle.desk_rules.specs.Kinds.{booked}
 use Rattle.desk_rules.specs.Lanes.{blankLine, idleLane, lineAt}
 use Rattle.desk_rules.specs.Course.{Call, laneOf, moves, writes}
-use Rattle.desk_rules.specs.Desk.{State, laneAt, placesTaken, allIdle, Decision, refuse, accept, decide}
+use Rattle.desk_rules.specs.Desk.{State, laneAt, linesTaken, allIdle, Decision, refuse, accept, decide}
 use Rattle.desk_rules.specs.declared.Book.{Book}
 use Rattle.desk_rules.specs.declared.Desk.{Desk}
 use Rattle.desk_rules.specs.declared.Reply.the-variants.{Written, Refused}
@@ -54,7 +55,7 @@ toldSmall (Amount a) = a ≤ mostAsked
 pub record Valid (d : Desk) : Type 0 where
   pub lanes : length (d .lanes) ≡ laneCount
   pub lines : length (d .book .lines) ≡ bookLines
-  pub room : d .book .count + placesTaken (d .lanes) ≤ bookLines
+  pub room : d .book .count + linesTaken (d .lanes) ≤ bookLines
   pub told : (i : ℕ) → toldSmall (getD (d .lanes) i idleLane .status .amount)
   pub settled : (k : ℕ) → getD (d .book .lines) k blankLine .settled ≤ mostAsked
 
@@ -96,10 +97,10 @@ leavesOf d c out = leavesBy (decide (view d) c (length out)) d c out
 
 -- R19: "a payment is open at closing". P36: "Closing leaves an empty book": what is given back is a fresh desk
 unfoldable pub closeAnswer : Desk → Answer
-closeAnswer d = pick (allIdle (d .lanes)) (record { reply = Written 0; desk = freshDesk }) (refusedAnswer d (unplaced 19))
+closeAnswer d = pick (allIdle (d .lanes)) (record { reply = Written 0; desk = freshDesk }) (refusedAnswer d (unplaced paymentOpen))
 
 unfoldable pub lineAnswer : ℕ → List Line → LineAnswer
 lineAnswer k ls = pick (ltb k (length ls)) (line-got (getD ls k blankLine)) End
 
 unfoldable pub laneAnswer : ℕ → List Lane → LaneAnswer
-laneAnswer i ls = pick (ltb i laneCount) (lane-got (getD ls i idleLane)) (lane-refused (unplaced 12))
+laneAnswer i ls = pick (ltb i laneCount) (lane-got (getD ls i idleLane)) (lane-refused (unplaced noSuchLane))

@@ -9,6 +9,7 @@ use Rattle.basics.specs.Choice.{pick}
 use Rattle.zvt_rules.specs.Fields.{Field, plain}
 use Rattle.zvt_rules.specs.Message.{Message, listed}
 use Rattle.zvt_rules.specs.believed.Writing.{messageBytes}
+use Rattle.zvt_rules.specs.Refusals.{noSale}
 use Rattle.zvt_rules.specs.Digits.{digitBytesOf, numberOf}
 use Rattle.desk_rules.specs.declared.Kind.{Kind}
 use Rattle.desk_rules.specs.declared.Kind.the-variants.{Sale, Refund, Reversal}
@@ -77,7 +78,7 @@ stands (Sold receipt) line = sold line
 -- ---- and the number of refusal where it is not. R17: "there is no sale to reverse (P12)". For nothing there is none
 abbrev pub missingNo : Reference → ℕ
 missingNo Nothing = 0
-missingNo (Sold receipt) = 17
+missingNo (Sold receipt) = noSale
 
 -- ---- the amount that it asks for. P13: "A reversal asks for the settled amount of that sale"
 abbrev pub askedBy : Opening → Line → ℕ

@@ -5,7 +5,7 @@ use lib.Dec.{eqb}
 use Rattle.basics.specs.Choice.{pick}
 use Rattle.desk_rules.specs.declared.Lane.{Lane}
 use Rattle.desk_rules.specs.declared.Line.{Line}
-use Rattle.desk_rules.specs.Course.{Call, laneOf, needsPlace}
+use Rattle.desk_rules.specs.Course.{Call, laneOf, needsLine}
 use Rattle.desk_rules.specs.Desk.{State, laneAt}
 
 -- ---- words for P35: "A call touches the lane that it names and no other."
@@ -39,7 +39,7 @@ total f (x ∷ xs) = f x + total f xs
 
 -- 1 for a call that opens a payment, and how many payments are opened
 unfoldable pub oneOpened : Call → ℕ
-oneOpened c = pick (needsPlace c) 1 0
+oneOpened c = pick (needsLine c) 1 0
 
 abbrev pub openings : List Call → ℕ
 openings cs = total oneOpened cs

@@ -30,12 +30,11 @@ pub enum Phase {
     Running,
 }
 
-// What a till asks a terminal for: a sale of an amount; a refund, by password and amount; the reversal of a sale, by password and
-// receipt.
+// What a till asks a terminal for.
 pub enum Opening {
-    Sale(u64),
-    Refund(u32, u64),
-    Reversal(u32, u16),
+    Sale { amount: u64 },
+    Refund { password: u32, amount: u64 },
+    Reversal { password: u32, receipt: u16 },
 }
 
 // The opening that the bytes of a command are, with password 0, or none.

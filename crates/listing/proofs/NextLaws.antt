@@ -1,15 +1,15 @@
 -- The next line of a listing, case by case, and the lines from there on. Assumes nothing.
-use mathlib.Core.Path.{_≡_, refl, sym, _∙_, ap}
+use mathlib.Core.Path.{_≡_, refl, _∙_, ap}
 use mathlib.Core.List.{List, [], _∷_, _++_}
 use Prim.Native.Nat.{ℕ, _+_, _-_, _*_, _≤_, _<_}
 use native.Mathlib.Omega.{arith}
 use borrow.Author.Tests.{lt-ltb, le-ltb, eq-eqb, ne-eqb, ltb-false, eqb-true, eqb-false}
 use lib.ListN.{length, take, drop, length-drop}
-use lib.Seq.{drop-drop, length-take-le}
+use lib.Seq.{drop-drop}
 use lib.Dec.{ltb, eqb}
 use Rattle.zvt_rules.specs.Reading.{Reading, got, refused}
 use Rattle.io.specs.Counts.{Counts}
-use Rattle.basics.specs.Buffers.{front, Whole}
+use Rattle.basics.specs.Buffers.{Whole}
 use Rattle.zvt_rules.specs.Message.{Message, firstOf}
 use Rattle.zvt_rules.specs.believed.Writing.{messageBytes}
 use Rattle.basics.specs.believed.Lists.{Bytes}
@@ -19,13 +19,12 @@ use Rattle.zvt_rules.proofs.ObjectReading.{tail}
 use Rattle.basics.proofs.Tests.{by-test, never}
 use Rattle.zvt.proofs.PlaceLaws.{own-within}
 use Rattle.zvt_rules.proofs.AnswerLaws.{first-refused-exactly}
-use Rattle.basics.proofs.Text.{put-exactly, put-whole, putEnd}
 use Rattle.zvt_rules.proofs.Listing.{lines-none, lines-refused, lines-message, listing-long}
 use Rattle.zvt_rules.specs.declared.Refusal.{Refusal}
 use Rattle.zvt_rules.specs.declared.Outline.{Outline}
 use Rattle.zvt_rules.specs.declared.FirstAnswer.the-variants.{Accepted as first-accepted, Refused as first-refused}
 use Rattle.zvt_rules.specs.Answers.{outlineOf, asFirstAnswer, firstAnswer}
-use Rattle.buffers.proofs.TextLaws.{addAll-append, addAll-room}
+use Rattle.buffers.proofs.TextLaws.{addAll-append, stands}
 use Rattle.listing.specs.Lines.{readText, NextLine, message, last, nextBy, nextOf, linesOf}
 
 pub next-over : (count : ℕ) (s : List ℕ) → 65536 < length s → nextOf count s ≡ last (refusedText count 2)
@@ -125,10 +124,4 @@ module _ (s : List ℕ) (from count : ℕ) (w : List ℕ) (t : Text) where
 -- what `list` leaves: where there is room for the longest listing, nothing is cut off; it never goes beyond the buffer
 pub listed-whole : (s out : List ℕ) (end : ℕ) (exit : List ℕ) → Bytes s → text end exit ≡ addAll (listing s) (text 0 out)
     → (text end exit ≡ addAll (listing s) (text 0 out)) × ((65536 * 7 ≤ length out → Whole (listing s) end out exit) × Counts end exit)
-listed-whole s out end exit b e =
-    let least : end ≡ putEnd (listing s) 0 out = ap (λ (x : Text). x .at) (e ∙ put-exactly (listing s) 0 out) in
-    let whole : 65536 * 7 ≤ length out → text end exit ≡ text (length (listing s)) (front (listing s) out) =
-    λ h. e ∙ put-whole (listing s) out (omega (arith, listing-long s b)) in
-    let room : length exit ≡ length out = ap (λ (x : Text). length (x .bytes)) e ∙ addAll-room (listing s) (text 0 out) in
-    let inside : end ≤ length exit = omega arith in
-    (e, (λ h. (ap (λ (x : Text). x .at) (whole h), ap (λ (x : Text). x .bytes) (whole h)), (inside, sym (length-take-le end exit inside))))
+listed-whole s out end exit b e = (e, stands (65536 * 7) (listing s) out end exit (listing-long s b) e)

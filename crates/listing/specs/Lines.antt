@@ -5,6 +5,7 @@ use mathlib.Core.List.{List, [], _∷_, _++_}
 use lib.ListN.{length}
 use lib.Dec.{ltb, eqb}
 use Rattle.basics.specs.Choice.{pick}
+use Rattle.zvt_rules.specs.Refusals.{tooLong}
 use Rattle.zvt_rules.specs.Reading.{Reading, got, refused}
 use Rattle.zvt_rules.specs.Message.{Message, firstOf}
 use Rattle.zvt_rules.specs.believed.Writing.{messageBytes}
@@ -32,12 +33,12 @@ nextBy count (refused f) = last (refusedText count (f .number))
 
 unfoldable pub nextOf : ℕ → List ℕ → NextLine
 nextOf count s =
-    pick (ltb 65536 (length s)) (last (refusedText count 2))
+    pick (ltb 65536 (length s)) (last (refusedText count tooLong))
     (pick (eqb (length s) 0) (last (okText count)) (nextBy count (firstOf s)))
 
 -- the lines from there on
 unfoldable pub linesOf : ℕ → List ℕ → List ℕ
-linesOf count s = pick (ltb 65536 (length s)) (refusedText count 2 ++ (10 ∷ [])) (linesFrom count 0 s)
+linesOf count s = pick (ltb 65536 (length s)) (refusedText count tooLong ++ (10 ∷ [])) (linesFrom count 0 s)
 
 -- the line n of the input s was put behind the first at bytes; a message, which is not empty, lies in the input
 unfoldable pub Added : NextLine → List ℕ → ℕ → List ℕ → Line → List ℕ → Type 0

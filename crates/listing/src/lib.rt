@@ -5,6 +5,7 @@ use buffers::add_decimal;
 use buffers::add_hex;
 use zvt_rules::FirstAnswer;
 use zvt_rules::Outline;
+use zvt_rules::Refusal;
 ghost use mathlib.Core.Path.{_≡_};
 ghost use Prim.Native.Nat.{_*_, _≤_};
 ghost use lib.ListN.{length};
@@ -111,7 +112,7 @@ fn next_line(rest: &[u8], count: u32, at: usize, out: &mut [u8]) -> Line
 {
     let listed = count as u64;
     if LIMIT < rest.len() {
-        return Line::Last(refused_line(listed, 2, at, out));
+        return Line::Last(refused_line(listed, Refusal::TOO_LONG, at, out));
     }
     if rest.len() == 0 {
         return Line::Last(ok_line(listed, at, out));

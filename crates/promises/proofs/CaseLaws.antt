@@ -9,14 +9,14 @@ use Rattle.zvt_rules.specs.believed.Writing.{lenBytes, sized, objBytes, runByte
 use Rattle.zvt_rules.specs.Shortest.{formFor, isShortest, shortObj, shortRun, shortField, shortList, shortBody, shortMessage, isShortObj, isShortRun, isShortField, isShortList, isShortBody, isShort, write, shorten}
 use Rattle.zvt_rules.specs.Digits.{digitBytesOf, decimalFrom, numberOf}
 use Rattle.zvt_rules.specs.Values.{valueIn, codeOf, amountOf, receiptOf, codeIn, amountIn, receiptIn, statusIn, statusFields, bodyFields}
-use Rattle.zvt_rules.specs.Heard.{firstOf, toldIn}
+use Rattle.zvt_rules.specs.Heard.{firstByte, toldIn}
 use Rattle.zvt_rules.specs.Answers.{outlineOf, asReadAnswer, readAnswer, shortened, asShortenAnswer, shortenAnswer, shortenLeaves}
 use Rattle.zvt_rules.specs.Listed.{listedAt, listedFrom, listedBody, listedMessage, namedListed, askedOf}
 use Rattle.zvt_rules.specs.Name.{upToZero, sizedName, nameIn, nameOf, nameAt, nameBytes, cardName}
-use Rattle.desk_rules.specs.Lanes.{receiptBy, lineAt, placeTaken}
+use Rattle.desk_rules.specs.Lanes.{receiptBy, lineAt, lineTaken}
 use Rattle.desk_rules.specs.Openings.{concerns, lastFrom, lastLine, commandOf, commandBytes}
-use Rattle.desk_rules.specs.Course.{heardWaiting, settledAs, completedBy, abortedBy, reportedBy, movedBy, afterBody, heardRunning, heardBy, afterHeader, heard, openedBy, laneOf, needsPlace, moves, answered, writes}
-use Rattle.desk_rules.specs.Desk.{placesTaken, load, unlessRefused, decide}
+use Rattle.desk_rules.specs.Course.{heardWaiting, settledAs, completedBy, abortedBy, reportedBy, movedBy, afterBody, heardRunning, heardBy, afterHeader, heard, openedBy, laneOf, needsLine, moves, answered, writes}
+use Rattle.desk_rules.specs.Desk.{linesTaken, load, unlessRefused, decide}
 use Rattle.desk_rules.specs.Memory.{view, endedDesk, movedDesk, refusedAnswer, answerBy, answerOf, leavesBy, leavesOf}
 use Rattle.desk_rules.specs.Runs.{total}
 use Rattle.desk_rules.specs.Turnover.{netOf}
@@ -35,9 +35,9 @@ unfolding unless andThen among secondTag tagSize formSize oneByteLen twoByteLen 
     bodyFields outlineOf asReadAnswer readAnswer shortened asShortenAnswer shortenAnswer writtenLeaves shortenLeaves
     listedAt listedFrom listedBody listedMessage namedListed askedOf upToZero sizedName nameIn nameOf nameAt nameBytes cardName
     receiptBy lineAt commandOf commandBytes
-    firstOf toldIn statusFields heardWaiting settledAs completedBy abortedBy reportedBy movedBy afterBody heardRunning heardBy afterHeader heard
-    concerns lastFrom lastLine openedBy laneOf needsPlace moves answered writes
-    placeTaken placesTaken load unlessRefused decide view endedDesk movedDesk refusedAnswer answerBy answerOf leavesBy leavesOf
+    firstByte toldIn statusFields heardWaiting settledAs completedBy abortedBy reportedBy movedBy afterBody heardRunning heardBy afterHeader heard
+    concerns lastFrom lastLine openedBy laneOf needsLine moves answered writes
+    lineTaken linesTaken load unlessRefused decide view endedDesk movedDesk refusedAnswer answerBy answerOf leavesBy leavesOf
     total netOf
     shown listShown status output afterDay answerTo computed stated buffer
     hex plainBody twoSales twoLines soldOnce table

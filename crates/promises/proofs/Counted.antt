@@ -16,7 +16,7 @@ use Rattle.desk_rules.specs.declared.Outcome.the-variants.{Unclear, Declined, A
 use Rattle.desk_rules.specs.declared.Line.{Line}
 use Rattle.desk_rules.specs.Course.{Call, message}
 use Rattle.desk_rules.specs.believed.LastSale.{Last}
-use Rattle.desk_rules.specs.believed.Due.{Reads, Report, Remembered, nothing, report, CodeIs, AmountIs, Ended, not-taken, aborted, cut, approved, amount-untold, differs, other-code, no-status, Due}
+use Rattle.desk_rules.specs.believed.Due.{Reads, Report, Remembered, nothing, report, CodeIs, AmountIs, Ended, not-taken, aborted, cut, approved, amount-untold, differs, other-code, no-status, LineDue}
 use Rattle.desk_rules.proofs.Due.{receipt-there, due-same}
 use Rattle.promises.specs.Counted.{AfterCode00, fieldsOf, Counted, WithoutAmount}
 
@@ -62,7 +62,7 @@ unfolding valueIn
 reported (report {s = s} l) z = (s, l, refl)
 reported (nothing n) z = absurd (let q : _≡_ {A = ℕ} 0 1 = cc (z .1) in omega arith)
 
-module _ {before : List Line} {calls : List Call} {line : Line} (d : Due before calls line) where
+module _ {before : List Line} {calls : List Call} {line : Line} (d : LineDue before calls line) where
   -- the line that is due for a completion after code 00, by how that ends it
   due-so : {kind : Kind} {o : Outcome} {settled code : ℕ} (c : AfterCode00 before calls kind)
       → Ended (c .lane) kind (c .asked) (fieldsOf c) (message (c .lane) (c .completion)) o settled code

@@ -3,7 +3,7 @@
 -- ended payments one after another in the order in which they ended, then the calls of each payment still open, lane by lane.
 -- Payments opened = book lines + open payments; net turnover = approved sales less approved reversals and refunds, judged from the
 -- terminals' messages by the rules and not from stored sums." A day is any list of calls that the desk accepted. Assumes nothing.
-use mathlib.Core.Path.{_≡_, refl}
+use mathlib.Core.Path.{_≡_}
 use mathlib.Core.Bool.{true}
 use mathlib.Core.Logic.{_↔_}
 use mathlib.Core.List.{List, []}
@@ -11,19 +11,19 @@ use Prim.Native.Nat.{ℕ, _+_, _<_}
 use lib.IntN.{pos, _-ℤ_}
 use lib.ListN.{length, getD, take}
 use Rattle.desk_rules.specs.declared.Opening.{Opening}
-use Rattle.desk_rules.specs.declared.Opening.the-variants.{Sale, Refund, Reversal}
 use Rattle.desk_rules.specs.declared.Lane.{Lane}
 use Rattle.desk_rules.specs.declared.Line.{Line}
 use Rattle.desk_rules.specs.Kinds.{booked}
 use Rattle.desk_rules.specs.Lanes.{blankLine}
 use Rattle.desk_rules.specs.Openings.{kindOf}
-use Rattle.desk_rules.specs.Desk.{State, laneAt, placesTaken}
+use Rattle.desk_rules.specs.Desk.{State, laneAt, linesTaken}
 use Rattle.desk_rules.specs.Memory.{freshDesk, view}
 use Rattle.desk_rules.specs.Runs.{callsOf, openings}
 use Rattle.desk_rules.specs.Payments.{Payments, paymentsOf, oneByOne}
 use Rattle.desk_rules.specs.Turnover.{netOf}
-use Rattle.desk_rules.specs.believed.Due.{Due, LaneIs, Takings}
+use Rattle.desk_rules.specs.believed.Due.{LineDue, LaneIs, Takings}
 use Rattle.desk_rules.specs.believed.Grouping.{Grouping}
+use Rattle.desk_rules.proofs.Calls.{every-kind}
 use Rattle.desk_rules.proofs.Runs as runs
 use Rattle.desk_rules.proofs.DayBook as book
 use Rattle.desk_rules.proofs.Order as law
@@ -48,11 +48,11 @@ module _ (day : List DeskTurn) (b : OfBytes (callsIn day)) (t : Taken freshDesk 
   same-calls = law.same-calls (callsIn day) (a-day day b t .accepted)
 
   -- Every payment that was opened has its line or is still open: none is lost, and none counted twice.
-  pub count : openings (callsIn day) ≡ length (linesIn day) + placesTaken (atEnd day .lanes)
+  pub count : openings (callsIn day) ≡ length (linesIn day) + linesTaken (atEnd day .lanes)
   unfolding view
   count =
       let its = a-day day b t in
-      of-desk (λ (s : State). openings (callsIn day) ≡ length (s .lines) + placesTaken (s .lanes)) day its (runs.count (callsIn day) (its .accepted) .0)
+      of-desk (λ (s : State). openings (callsIn day) ≡ length (s .lines) + linesTaken (s .lanes)) day its (runs.count (callsIn day) (its .accepted) .0)
 
   -- The payments of a day are the one grouping of its calls: each is of one lane and ends with the first call that ends it, they stand in
   -- the order in which they ended, and the others are open.
@@ -62,14 +62,14 @@ module _ (day : List DeskTurn) (b : OfBytes (callsIn day)) (t : Taken freshDesk 
   -- Line j is l exactly when l is due, by the rules, for the j-th payment that ended, after the lines before it; and there are as many
   -- lines as payments that ended.
   pub every-line : let ended = paymentsOf (callsIn day) .ended in (length ended ≡ length (linesIn day))
-      × ((j : ℕ) → j < length (linesIn day) → (l : Line) → (getD (linesIn day) j blankLine ≡ l) ↔ Due (take j (linesIn day)) (getD ended j []) l)
+      × ((j : ℕ) → j < length (linesIn day) → (l : Line) → (getD (linesIn day) j blankLine ≡ l) ↔ LineDue (take j (linesIn day)) (getD ended j []) l)
   unfolding view
   every-line =
       let its = a-day day b t in
       let ended = paymentsOf (callsIn day) .ended in
       of-desk
       (λ (s : State). (length ended ≡ length (s .lines))
-      × ((j : ℕ) → j < length (s .lines) → (l : Line) → (getD (s .lines) j blankLine ≡ l) ↔ Due (take j (s .lines)) (getD ended j []) l))
+      × ((j : ℕ) → j < length (s .lines) → (l : Line) → (getD (s .lines) j blankLine ≡ l) ↔ LineDue (take j (s .lines)) (getD ended j []) l))
       day its (book.lines-ended (callsIn day) (its .accepted), book.line-due (callsIn day) (its .accepted))
 
   -- Each lane is l exactly when the calls of its open payment say so: idle where there are none, waiting where only its opening came, else
@@ -96,6 +96,4 @@ module _ (day : List DeskTurn) (b : OfBytes (callsIn day)) (t : Taken freshDesk 
 
 -- A payment of every kind takes a place in the book, and so ends with a line.
 pub every-kind-booked : (o : Opening) → booked (kindOf o) ≡ true
-every-kind-booked (Sale amount) = refl
-every-kind-booked (Refund password amount) = refl
-every-kind-booked (Reversal password receipt) = refl
+every-kind-booked o = every-kind (kindOf o)

@@ -6,17 +6,17 @@ use Prim.Native.Nat.{ℕ, _≤_}
 use native.Mathlib.Omega.{arith}
 use lib.ListN.{length}
 use lib.Dec.{eqb}
-use borrow.Author.Tests.{lt-leb, le-ltb, eq-eqb, eqb-true}
+use borrow.Author.Tests.{eq-eqb, eqb-true}
 use Rattle.basics.specs.Choice.{pick}
 use Rattle.basics.proofs.Tests.{pick-test, pick-under, never}
 use Rattle.desk_rules.specs.declared.Desk.{Desk}
 use Rattle.desk_rules.specs.Numbers.{laneCount}
-use Rattle.desk_rules.specs.Course.{Call, laneOf, needsPlace, moves, writes}
-use Rattle.desk_rules.specs.Desk.{State, fresh, laneAt, load, accept, decide, step, Accepts, Accepted, run}
+use Rattle.desk_rules.specs.Course.{Call, laneOf, writes}
+use Rattle.desk_rules.specs.Desk.{State, fresh, laneAt, step, Accepted, run}
 use Rattle.desk_rules.specs.Memory.{freshDesk, view, Valid}
 use Rattle.desk_rules.specs.Runs.{having, callsOf, Own, ownOf}
 use Rattle.desk_rules.specs.Payments.{oneByOne}
-use Rattle.desk_rules.proofs.Lanes.{after, by-lane, told, passing, room-tell, lanes-step}
+use Rattle.desk_rules.proofs.Lanes.{after, by-lane, told, accepts-room, lanes-step}
 use Rattle.desk_rules.proofs.Runs.{repliesTo}
 use Rattle.desk_rules.proofs.Memory.{taken, follows, fresh-valid, answer-valid, view-fresh}
 use Rattle.desk_rules.proofs.Order.{order, same-calls}
@@ -43,27 +43,14 @@ lent-all (x ∷ ts) d v b t =
       subst (λ (s : State). Lent s ts) (follows d c room v e) (lent-all ts (answerIn d x .desk) (answer-valid d c room v (b .0)) (b .1) (t .1)),
     )
 
--- a call of the course is accepted in such room,
-fitting : (s : State) (c : Call) (room : ℕ) → Accepts s c → length (writes (laneAt (s .lanes) (laneOf c)) c) ≤ room → decide s c room ≡ accept
-unfolding decide
-fitting s c room h fits =
-    let t = told s c h in
-    let l = laneAt (s .lanes) (laneOf c) in
-    rw (
-      lt-leb laneCount (laneOf c) (t .lane),
-      passing (moves l (s .lines) c) _ (t .moved),
-      room-tell (needsPlace c) (load s) (t .room),
-      le-ltb room (length (writes l c)) fits,
-    )
-
--- and the desk takes all
+-- a call of the course is accepted in such room, and the desk takes all
 can : (ts : List DeskTurn) (d : Desk) → Valid d → OfBytes (callsIn ts) → Accepted (view d) (callsIn ts) → Lent (view d) ts → Taken d ts
 unfolding Taken OfBytes callsIn Accepted Lent
 can [] d v b h l = tt
 can (x ∷ ts) d v b h l =
     let c = x .call in
     let room = length (x .out) in
-    let e = fitting (view d) c room (h .0) (l .0) in
+    let e = accepts-room (view d) c room (h .0) (l .0) in
     let same = sym (follows d c room v e) in (
       decided-yes d c room .1 e,
       can ts (answerIn d x .desk) (answer-valid d c room v (b .0)) (b .1) (subst (λ (s : State). Accepted s (callsIn ts)) same (h .1))

@@ -14,7 +14,7 @@ use Rattle.desk_rules.specs.Desk.{State, laneAt, Decision, refuse, accept, deci
 use Rattle.desk_rules.specs.Memory.{freshDesk, linesOfDesk, view, Valid, refusedAnswer, answerOf}
 use Rattle.desk_rules.specs.Runs.{ofLane, callsOf}
 use Rattle.desk_rules.specs.Payments.{paymentsOf}
-use Rattle.desk_rules.specs.believed.Due.{Due}
+use Rattle.desk_rules.specs.believed.Due.{LineDue}
 use Rattle.desk_rules.proofs.Lanes.{isolation}
 use Rattle.desk_rules.proofs.Memory.{refused-same, follows}
 use Rattle.promises.specs.Days.{DeskTurn, callsIn, OfBytes, Taken, linesIn, openingsIn, firsts}
@@ -31,7 +31,7 @@ module _ (day : List DeskTurn) (b : OfBytes (callsIn day)) (t : Taken freshDesk 
   -- this payment had, and a completion say so.
   pub which-bytes : (j : ℕ) → j < length (linesIn day) → let calls = getD (paymentsOf (callsIn day) .ended) j [] in
       let line = getD (linesIn day) j blankLine in
-      Due (take j (linesIn day)) calls line
+      LineDue (take j (linesIn day)) calls line
       × ((kind : Kind) (amount : ℕ)
       → ((line .outcome ≡ Approved) × (line .kind ≡ kind) × (line .settled ≡ amount)) ↔ Counted (take j (linesIn day)) calls kind amount)
   which-bytes j small = let d = every-line day b t .1 j small _ .0 refl in (d, counted d)

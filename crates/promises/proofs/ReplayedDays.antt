@@ -30,8 +30,8 @@ use Rattle.desk_rules.proofs.Runs.{run-append}
 use Rattle.desk_rules.proofs.Memory.{accepted-answer, fresh-valid, view-fresh}
 use Rattle.tape_rules.specs.declared.Ending.{Ending}
 use Rattle.tape_rules.specs.declared.Ending.the-variants.{Whole, Refused}
-use Rattle.tape_rules.specs.Records.{Record, entriesOf, joined, recorded}
-use Rattle.tape_rules.specs.Tape.{cut}
+use Rattle.tape_rules.specs.Records.{Record, recordsOfRun, joined, recorded}
+use Rattle.tape_rules.specs.Tape.{piecesOf}
 use Rattle.tape_rules.specs.Good.{goodOf}
 use Rattle.tape_rules.specs.Taping.{TapeTurn, Day, freshDay}
 use Rattle.tape_rules.specs.believed.Tapes.{DrawnTape, all-good, up-to}
@@ -44,7 +44,7 @@ use Rattle.replaying_rules.specs.Replay.{replayOf}
 use Rattle.replaying_rules.specs.believed.Retold.{Opens, answers, Replays, to-the-end, up-to-a-record, callsMade}
 use Rattle.replaying_rules.proofs.MeaningLaws.{opens-exactly, none-exactly}
 use Rattle.replaying_rules.proofs.Rows.{replays-exactly}
-use Rattle.replaying_rules.proofs.Days.{deskRun, next-view, next-valid, run-view, CutOff, entries-cut}
+use Rattle.replaying_rules.proofs.Days.{deskRun, next-view, next-valid, run-view, CutOff, records-cut}
 use Rattle.replaying_rules.proofs.Calls.{replay-leads, replay-torn, replay-day}
 use Rattle.promises.specs.Answers.{no, yes, replySays, openingSays, replaySays}
 use Rattle.promises.specs.Days.{DeskTurn, callsIn, buffer, OfBytes, Taken, deskAfter}
@@ -161,26 +161,26 @@ alone-so cs d a n e =
 
 -- ---- what comes back of a tape of which the first bytes are left
 module _ {us : List TapeTurn} {e : Day} {cs : List Call} {p : List ℕ} (played : Played freshDay us e cs) (k : Known e cs p) where
-  small-entries : Each Small (entriesOf fresh cs)
-  small-entries =
+  small-records : Each Small (recordsOfRun fresh cs)
+  small-records =
       let r = its-records k in
       let same = records-exactly fresh cs (k .accepted) (k .fit) (r .0) .0 (r .1) in
       rw same (joined-exactly (r .0) p .0 (r .2) .1)
 
   module _ (m : ℕ) (x : Ending) (c : CutOff freshDesk cs m 0 x) where
     abbrev others : List Record
-    others = entriesOf (view (deskRun freshDesk (c .before))) (c .after)
+    others = recordsOfRun (view (deskRun freshDesk (c .before))) (c .after)
 
-    entries-so : entriesOf fresh cs ≡ c .whole ++ (c .missing ++ others)
-    entries-so =
-        rw view-fresh at (entries-cut freshDesk cs fresh-valid (rw view-fresh (k .accepted)) (k .fit) m 0 x c)
+    records-so : recordsOfRun fresh cs ≡ c .whole ++ (c .missing ++ others)
+    records-so =
+        rw view-fresh at (records-cut freshDesk cs fresh-valid (rw view-fresh (k .accepted)) (k .fit) m 0 x c)
 
     abbrev size : ℕ
     size = length (joined (c .whole))
 
     payload-is : p ≡ joined (c .whole) ++ joined (c .missing ++ others)
     unfolding recorded
-    payload-is = sym (k .payload) ∙ ap joined entries-so ∙ joined-append (c .whole) (c .missing ++ others)
+    payload-is = sym (k .payload) ∙ ap joined records-so ∙ joined-append (c .whole) (c .missing ++ others)
 
     front-is : take size p ≡ joined (c .whole)
     front-is = ap (take size) payload-is ∙ take-append-seam (joined (c .whole)) (joined (c .missing ++ others))
@@ -208,9 +208,9 @@ module _ {us : List TapeTurn} {e : Day} {cs : List Call} {p : List ℕ} (played 
           missing = c .missing;
           others = others;
           theirs = records-exactly fresh b a n (c .whole ++ c .missing) .1 (rw view-fresh at (sym (c .taken)));
-          day-has = records-exactly fresh cs (k .accepted) (k .fit) _ .1 entries-so;
+          day-has = records-exactly fresh cs (k .accepted) (k .fit) _ .1 records-so;
           a-reply = c .lacks;
-          place = rw front-is (joined-exactly (c .whole) (joined (c .whole)) .1 (refl, each-front Small (c .whole) _ (rw entries-so at small-entries)));
+          place = rw front-is (joined-exactly (c .whole) (joined (c .whole)) .1 (refl, each-front Small (c .whole) _ (rw records-so at small-records)));
           inside = (c .within, size-most);
           cut = c .next;
           ending = refl;
@@ -228,7 +228,7 @@ module _ {us : List TapeTurn} {e : Day} {cs : List Call} {p : List ℕ} (played 
   whole-back =
       let f = k .few in
       let all = replay-day cs (k .accepted) (k .fit) (rw (k .payload) (omega arith)) in
-      (p, length (cut p), k .drawn, rw (k .file, played-desk played, ← (k .payload)) all)
+      (p, length (piecesOf p), k .drawn, rw (k .file, played-desk played, ← (k .payload)) all)
 
   -- and its first bytes
   pub cut-back : (n : ℕ) → n ≤ length (e .file) → (q : List ℕ) × (j : ℕ) × DrawnTape q (e .file) j
@@ -236,7 +236,7 @@ module _ {us : List TapeTurn} {e : Day} {cs : List Call} {p : List ℕ} (played 
   cut-back n h =
       let f = k .few in
       let g = good-cut p n (omega arith) (rw (k .file) at h) in
-      (p, length (cut p), k .drawn, (cutEnding n, cut-so, torn-back (take n (e .file)) (n / 512 * 504) (cutEnding n) (rw (k .file) g)))
+      (p, length (piecesOf p), k .drawn, (cutEnding n, cut-so, torn-back (take n (e .file)) (n / 512 * 504) (cutEnding n) (rw (k .file) g)))
     where
       cut-so : CutAt n (cutEnding n)
       cut-so = by-test (eqb (n % 512) 0) (λ t. rw t (between-blocks (eqb-true (n % 512) 0 t))) (λ t. rw t (within-a-block (eqb-false (n % 512) 0 t)))

@@ -23,13 +23,13 @@ use Rattle.desk_rules.specs.declared.Opening.{Opening}
 use Rattle.desk_rules.specs.declared.Reference.{Reference}
 use Rattle.desk_rules.specs.Kinds.{booked}
 use Rattle.desk_rules.specs.Openings.{kindOf, refersTo, lastLine, commandOf, commandBytes, commandSize, withoutPassword}
-use Rattle.desk_rules.specs.Course.{openedBy, heard, Call, opening, message, lost, laneOf, needsPlace, moves, replyBytes, answered, writes, NumbersFit}
+use Rattle.desk_rules.specs.Course.{openedBy, heard, Call, opening, message, lost, laneOf, needsLine, moves, replyBytes, answered, writes, NumbersFit}
 use Rattle.desk_rules.specs.Desk.{State, laneAt, Decision, refuse, accept, step, Accepts, Accepted}
 use Rattle.desk_rules.specs.Memory.{linesOfDesk, view, answerBy}
 use Rattle.desk_rules.proofs.Commands.{command-size, command-reads}
 use Rattle.desk_rules.proofs.Recognised.{password-gone}
 use Rattle.tape_rules.specs.declared.Taped.{Taped}
-use Rattle.tape_rules.specs.Records.{maskBody, maskMessage, masked, Record, replyEntry, entriesBy, entriesOf}
+use Rattle.tape_rules.specs.Records.{maskBody, maskMessage, masked, Record, replyRecord, recordsBy, recordsOfRun}
 use Rattle.tape_rules.specs.declared.TapedAnswer.{TapedAnswer}
 use Rattle.tape_rules.specs.Block.{blockSize}
 use Rattle.tape_rules.specs.Cuts.{laid}
@@ -100,8 +100,8 @@ masked-hides s m b e =
     recorded-own (masked s) (λ n f. ap messageBytes (got-same (sym f ∙ read)) ∙ sym (masked-got s m e)) (masked s) .1
     ((maskMessage m, read), masked-twice s b)
 
-reply-hides : (i : ℕ) (p : Phase) → Hiding (replyEntry i (answered p))
-unfolding Hiding replyEntry answered maskMessage maskBody messageBytes bodyBytes lengthBytes
+reply-hides : (i : ℕ) (p : Phase) → Hiding (replyRecord i (answered p))
+unfolding Hiding replyRecord answered maskMessage maskBody messageBytes bodyBytes lengthBytes
 reply-hides i Idle = tt
 reply-hides i Waiting = tt
 reply-hides i Running = (
@@ -110,19 +110,19 @@ reply-hides i Running = (
   tt,
 )
 
-call-hides : (s : State) (c : Call) → Accepts s c → NumbersFit c → Hiding (entriesBy (laneAt (s .lanes) (laneOf c)) c)
-unfolding Hiding entriesBy laneOf writes NumbersFit
+call-hides : (s : State) (c : Call) → Accepts s c → NumbersFit c → Hiding (recordsBy (laneAt (s .lanes) (laneOf c)) c)
+unfolding Hiding recordsBy laneOf writes NumbersFit
 call-hides s (opening i o) a n = (inr (opening-hides o), tt)
 call-hides s (message i b) a n =
     let k = heard-reads s i b a in
     (inr (masked-hides b (k .0) n (k .1)), reply-hides i (laneAt (s .lanes) i .phase))
 call-hides s (lost i) a n = (inl refl, tt)
 
-pub run-hides : (s : State) (cs : List Call) → Accepted s cs → Each NumbersFit cs → Hiding (entriesOf s cs)
-unfolding Hiding Accepted entriesOf
+pub run-hides : (s : State) (cs : List Call) → Accepted s cs → Each NumbersFit cs → Hiding (recordsOfRun s cs)
+unfolding Hiding Accepted recordsOfRun
 run-hides s [] a n = tt
 run-hides s (c ∷ cs) a n =
-    hiding-append (entriesBy (laneAt (s .lanes) (laneOf c)) c) (entriesOf (step s c) cs) (call-hides s c (a .0) (n .0))
+    hiding-append (recordsBy (laneAt (s .lanes) (laneOf c)) c) (recordsOfRun (step s c) cs) (call-hides s c (a .0) (n .0))
     (run-hides (step s c) cs (a .1) (n .1))
 
 -- ---- calls that differ in secrets alone
@@ -138,8 +138,8 @@ alike-without (refunds p q amount hp hq) = (refl, refl, refl, refl)
 alike-without (reversals p q receipt hp hq) = (refl, refl, refl, refl)
 
 agree : {c e : Call} → AlikeCall c e → Agree c e
-unfolding laneOf needsPlace moves writes entriesBy
-agree (unchanged c) = record { lane = refl; needs = refl; move = λ l ls. refl; size = λ l. refl; entries = λ l. refl }
+unfolding laneOf needsLine moves writes recordsBy
+agree (unchanged c) = record { lane = refl; needs = refl; move = λ l ls. refl; size = λ l. refl; records = λ l. refl }
 agree (openings i o e a) =
     let w = alike-without a in
     record {
@@ -147,7 +147,7 @@ agree (openings i o e a) =
       needs = ap booked (w .2);
       move = λ l ls. alike-opened a l (lastLine i (refersTo o) ls) ∙ ap (λ (r : Reference). openedBy l e (lastLine i r ls)) (w .1);
       size = λ l. command-size o ∙ w .3 ∙ sym (command-size e);
-      entries = λ l. rw (opening-masked o, opening-masked e, w .0);
+      records = λ l. rw (opening-masked o, opening-masked e, w .0);
     }
 agree (messages i s t w b d r q) =
     let same : masked s ≡ masked t = recorded-exactly s w b .0 r .1 ∙ sym (recorded-exactly t w d .0 q .1) in
@@ -156,13 +156,13 @@ agree (messages i s t w b d r q) =
       needs = refl;
       move = λ l ls. sym (mask-heard l s b) ∙ ap (heard l) same ∙ mask-heard l t d;
       size = λ l. refl;
-      entries = λ l. rw same;
+      records = λ l. rw same;
     }
 
 module _ (c e : Call) (a : Agree c e) where
   bytes-agree : (s : State) → callBytes s c ≡ callBytes s e
   unfolding callBytes
-  bytes-agree s = rw (a .lane, a .entries (laneAt (s .lanes) (laneOf e)))
+  bytes-agree s = rw (a .lane, a .records (laneAt (s .lanes) (laneOf e)))
 
   module _ (t : Taped) where
     decide-taped-agree : (out room : ℕ) → decideTaped t c out room ≡ decideTaped t e out room

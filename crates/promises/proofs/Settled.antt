@@ -12,7 +12,7 @@ use Rattle.desk_rules.specs.declared.Line.{Line}
 use Rattle.desk_rules.specs.Course.{Call, message, NumbersFit}
 use Rattle.desk_rules.specs.Desk.{fresh, Accepted}
 use Rattle.desk_rules.specs.Payments.{paymentsOf, flattened, oneByOne}
-use Rattle.desk_rules.specs.believed.Due.{Due}
+use Rattle.desk_rules.specs.believed.Due.{LineDue}
 use Rattle.desk_rules.proofs.Due.{code-is, amount-is, report-status}
 use Rattle.desk_rules.proofs.Order.{same-calls}
 use Rattle.promises.specs.Days.{OfBytes}
@@ -46,7 +46,7 @@ in-messages : (i : ℕ) {s : List ℕ} (ss : List (List ℕ)) → In s ss → In
 in-messages i [] k = in-none k
 in-messages i (t ∷ ss) k = in-more (⊎-elim (λ e. inl (ap (message i) e)) (λ k. inr (in-messages i ss k)) (in-first k))
 
-module _ {before : List Line} {calls : List Call} {line : Line} (d : Due before calls line)
+module _ {before : List Line} {calls : List Call} {line : Line} (d : LineDue before calls line)
     (bytes : (s : List ℕ) → In (message (line .lane) s) calls → Bytes s) where
   approved-by : Completed (line .lane) (line .kind) (line .asked) (d .status) (d .last) (line .settled) → Reported before calls line
   unfolding counts

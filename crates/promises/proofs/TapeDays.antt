@@ -21,9 +21,9 @@ use Rattle.desk_rules.specs.Memory.{answerOf}
 use Rattle.tape_rules.specs.declared.Taped.{Taped}
 use Rattle.tape_rules.specs.declared.TapedAnswer.{TapedAnswer}
 use Rattle.tape_rules.specs.declared.ClosedAnswer.{ClosedAnswer}
-use Rattle.tape_rules.specs.Records.{Record, entriesOf, recorded}
+use Rattle.tape_rules.specs.Records.{Record, recordsOfRun, recorded}
 use Rattle.tape_rules.specs.Block.{mostNumber}
-use Rattle.tape_rules.specs.Tape.{cut, tapeBytes}
+use Rattle.tape_rules.specs.Tape.{piecesOf, tapeBytes}
 use Rattle.tape_rules.specs.Recording.{freshTaped, ValidTaped, readTape}
 use Rattle.tape_rules.specs.Taping.{TapeTurn, Day, freshDay, decideTurn, afterTurn, tapedRun, keptIf, keptCalls}
 use Rattle.tape_rules.specs.believed.Blocks.{usedOf}
@@ -79,8 +79,8 @@ pub record Known (e : Day) (cs : List Call) (p : List ℕ) : Type 0 where
   pub fit : Each NumbersFit cs
   pub valid : ValidTaped (e .taped)
   pub file : e .file ≡ tapeBytes p
-  pub few : length (cut p) ≤ mostNumber
-  pub drawn : DrawnTape p (e .file) (length (cut p))
+  pub few : length (piecesOf p) ≤ mostNumber
+  pub drawn : DrawnTape p (e .file) (length (piecesOf p))
   pub ends : EndsBehind 0 p (e .taped .tail)
 
 pub a-day : (us : List TapeTurn) → LentBytes us → (e : Day) (cs : List Call) → Played freshDay us e cs → Known e cs (recorded fresh cs)
@@ -117,15 +117,15 @@ module _ {e : Day} {cs : List Call} {p : List ℕ} (k : Known e cs p) where
         λ d. rw (sym (same rs .0 d) ∙ same (its .0) .0 (its .1)) (its .2),
       )
 
-  pub entries-are : (rs : List Record) → Joined rs p → entriesOf fresh cs ≡ rs
-  entries-are rs j = records-exactly fresh cs (k .accepted) (k .fit) rs .0 (records-are rs .0 j)
+  pub run-records : (rs : List Record) → Joined rs p → recordsOfRun fresh cs ≡ rs
+  run-records rs j = records-exactly fresh cs (k .accepted) (k .fit) rs .0 (records-are rs .0 j)
 
   pub file-reads : (room : ℕ) → length p ≤ room → readTape (e .file) room ≡ got p
-  file-reads room h = read-tape-drawn (e .file) p room .1 ((length (cut p), k .drawn), h)
+  file-reads room h = read-tape-drawn (e .file) p room .1 ((length (piecesOf p), k .drawn), h)
 
   -- no other payload is drawn on its file
   pub drawn-is : (q : List ℕ) (n : ℕ) → DrawnTape q (e .file) n → p ≡ q
-  drawn-is q n d = got-same (sym (payload-drawn (e .file) p .1 (length (cut p), k .drawn)) ∙ payload-drawn (e .file) q .1 (n, d))
+  drawn-is q n d = got-same (sym (payload-drawn (e .file) p .1 (length (piecesOf p), k .drawn)) ∙ payload-drawn (e .file) q .1 (n, d))
 
   pub read-is : (room : ℕ) (q : List ℕ) → readTape (e .file) room ≡ got q → p ≡ q
   read-is room q h = let d = read-tape-drawn (e .file) q room .0 h .0 in drawn-is q (d .0) (d .1)
@@ -133,7 +133,7 @@ module _ {e : Day} {cs : List Call} {p : List ℕ} (k : Known e cs p) where
   -- how many bytes block j has: none where there is no such block
   used-at : (j : ℕ) → usedOf (blockAt j (e .file)) ≡ min 504 (length p - j * 504)
   used-at j =
-      let n = length (cut p) in
+      let n = length (piecesOf p) in
       by-test (ltb j n)
       (λ t. k .drawn .blocks j (ltb-true j n t) .used ∙ length-take 504 (drop (j * 504) p) ∙ ap (min 504) (length-drop (j * 504) p))
       (λ t.
@@ -149,7 +149,7 @@ module _ {e : Day} {cs : List Call} {p : List ℕ} (k : Known e cs p) where
       → DrawnTape p (e .file) (a .blocks) × (length p ≡ a .bytes) × (a .taped ≡ freshTaped)
   closing-tells (still-open o) h = absurd (no-yes h)
   closing-tells (all-ended {blocks} {bytes} o held least most) h =
-      let n : length (cut p) ≡ blocks = omega arith in
+      let n : length (piecesOf p) ≡ blocks = omega arith in
       (rw n at (k .drawn), omega arith, refl)
 
 -- ---- T23: only the end changes

@@ -268,7 +268,7 @@ pub nothing-secret : (day : List TapeTurn) → LentBytes day → (atEnd : Day) (
     → (room : ℕ) (p : List ℕ) (rs : List Record) → readTape (atEnd .file) room ≡ got p → Joined rs p → Hiding rs
 nothing-secret day b atEnd calls played room p rs h j =
     let k = days.a-day day b atEnd calls played in
-    rw (← (days.entries-are k rs (rw (days.read-is k room p h) j))) (secrets.run-hides fresh calls (k .accepted) (k .fit))
+    rw (← (days.run-records k rs (rw (days.read-is k room p h) j))) (secrets.run-hides fresh calls (k .accepted) (k .fit))
 
 -- The reader says of a recorded message what it said of the message: pair, length of the body, shortness, number of objects, the ids of its
 -- fields in their order, where the value of each lies, and what a status information tells.

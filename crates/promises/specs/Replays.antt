@@ -16,10 +16,10 @@ use Rattle.tape_rules.specs.Taping.{TapeTurn, Day, freshDay}
 use Rattle.tape_rules.specs.believed.Tapes.{FirstNo, DrawnTape, GoodBlocks}
 use Rattle.tape_rules.specs.believed.Recorded.{Joined, DayRecords}
 use Rattle.tape_rules.specs.believed.Filed.{Played}
-use Rattle.replaying_rules.specs.declared.Due.the-variants.{Nothing}
+use Rattle.replaying_rules.specs.declared.ReplyDue.the-variants.{Nothing}
 use Rattle.replaying_rules.specs.declared.Standing.{Standing}
 use Rattle.replaying_rules.specs.declared.Replayed.{Replayed}
-use Rattle.replaying_rules.specs.believed.Entries.{Begins, NoneWhole}
+use Rattle.replaying_rules.specs.believed.Records.{Begins, NoneWhole}
 use Rattle.replaying_rules.specs.believed.Retold.{at, replyOn, Retold, Stops}
 use Rattle.promises.specs.TapeDays.{exchanges}
 

@@ -1,5 +1,6 @@
 // Files of cases: script lines, each with its answer behind it on lines that begin with `= `. A blank line ends a case, and the next
 // one starts with a fresh desk. The word `added`, in a line or in an answer, stands for the bytes that the lines `add` put together.
+use crate::files;
 use crate::turns;
 use crate::turns::BYTES;
 use crate::turns::TEXT;
@@ -7,9 +8,8 @@ use crate::turns::Turn;
 use buffers::upto;
 use check::same;
 use libc::STDOUT_FILENO;
-use script_reads::files;
-use script_text::orders::Script;
 use std::num::wrapping_add_u64;
+use words::Script;
 ghost use Rattle.tape_rules.specs.Recording.{ValidTaped};
 
 // How many answers a file of cases has, and how many of them differ.

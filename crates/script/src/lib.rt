@@ -1,12 +1,16 @@
 // Scripts of calls that drive a desk with its tape: played, one answer for each line, or checked against the answers beside them.
+mod calls;
 pub mod cases;
+mod changes;
+mod files;
 mod plain;
+mod standing;
+mod taping;
 mod turns;
 
 use buffers::upto;
 use libc::STDOUT_FILENO;
-use script_reads::files;
-use script_text::orders::Script;
+use words::Script;
 
 // The most bytes of a script.
 pub const LIMIT: usize = 65536;

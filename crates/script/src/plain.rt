@@ -1,31 +1,27 @@
 // Lines that leave the desk alone: what the reader, the lister, the blocks of a tape and the replay of one answer.
-use buffers::add_all;
-use buffers::add_decimal;
+use crate::calls::BYTE;
+use crate::calls::SHORT;
+use crate::calls::WORD;
+use crate::calls::cut;
+use crate::calls::due_of;
+use crate::changes;
+use crate::standing;
+use crate::standing::Spoken;
 use buffers::upto;
 use desk_rules::Reply;
-use script_reads::WORD;
-use script_reads::cut;
-use script_reads::desks;
-use script_reads::due_of;
-use script_reads::messages;
-use script_reads::standing;
-use script_reads::standing::Spoken;
-use script_text::answers;
-use script_text::answers::BLANK;
-use script_text::answers::bytes_line;
-use script_text::orders::Order;
-use script_text::orders::Script;
-use script_text::orders::What;
+use printing::answers;
+use printing::answers::BLANK;
+use printing::answers::bytes_line;
+use printing::desks;
+use printing::messages;
 use tape_rules::Block;
 use tape_rules::BlockAnswer;
-ghost use mathlib.Core.Path.{_≡_};
-ghost use Prim.Native.Nat.{_<_, _≤_};
+use words::Order;
+use words::Script;
+use words::What;
+use zvt_rules::ShortenAnswer;
+ghost use Prim.Native.Nat.{_≤_};
 ghost use lib.ListN.{length};
-
-// 1,024 digits of a block, each with 15 other values; so many changes of one byte.
-const CHANGES: usize = 15360;
-
-const OF_BYTE: usize = 30;
 
 // No line's bytes are the payload of a longer tape: 131 blocks.
 const TAPE: usize = 67_072;
@@ -35,61 +31,6 @@ fn block(due: Block, s: &[u8], out: &mut [u8]) -> usize {
         BlockAnswer::Payload(n) => answers::counted(b"payload", n as u64, 0, out),
         BlockAnswer::Refused(f) => answers::refused(f, out),
     }
-}
-
-// A byte with its change number k: the first 15 change its first digit, the others its second.
-fn changed(b: u8, k: u8) -> u8
-    requires { ⌜ k < 30 ⌝ }
-{
-    let high = b / 16;
-    let low = b % 16;
-    if k < 15 {
-        return (high + k + 1) % 16 * 16 + low;
-    }
-    high * 16 + (low + k - 14) % 16
-}
-
-// 1 where reading the block is refused with 20, else 0.
-fn seen_in(due: Block, s: &[u8]) -> u64
-    ensures { λ r. ⌜ r ≤ 1 ⌝ }
-{
-    match tape::read_block(due, s) {
-        BlockAnswer::Payload(_) => 0,
-        BlockAnswer::Refused(f) => {
-            if f.number == 20 {
-                return 1;
-            }
-            0
-        }
-    }
-}
-
-// How many changes of one digit of a block are refused with 20. The block is then what it was.
-fn seen_of(due: Block, s: &mut [u8]) -> u64
-    requires { ⌜ length (now s) ≡ 512 ⌝ }
-{
-    let mut seen: u64 = 0;
-    let mut i: usize = 0;
-    while i < CHANGES {
-        let at = i / OF_BYTE;
-        let was = s[at];
-        s[at] = changed(was, (i % OF_BYTE) as u8);
-        seen += seen_in(due, s);
-        s[at] = was;
-        i += 1;
-    }
-    seen
-}
-
-fn damage(due: Block, s: &mut [u8], out: &mut [u8]) -> usize {
-    if s.len() != Block::SIZE {
-        return add_all(b"no block\n", 0, out);
-    }
-    let seen = seen_of(due, s);
-    let mut to = add_decimal(CHANGES as u64, 0, out);
-    to = add_all(b" changes,", to, out);
-    to = answers::add_number(seen, to, out);
-    add_all(b" refused 20\n", to, out)
 }
 
 // The replay of a tape.
@@ -111,6 +52,18 @@ fn retold(s: &[u8], out: &mut [u8]) -> usize {
     }
 }
 
+// The digits of a number, as a command has them.
+fn digits(o: Order, out: &mut [u8]) -> usize {
+    let what = o.what;
+    let n = o.first;
+    match what {
+        What::Amount => bytes_line(&zvt::amount_bytes(n), out),
+        What::Password => bytes_line(&zvt::password_bytes(cut(n, WORD) as u32), out),
+        What::Receipt => bytes_line(&zvt::receipt_bytes(cut(n, SHORT) as u16), out),
+        _ => 0,
+    }
+}
+
 // What is read of bytes, and nothing changed; or the digits of a number.
 fn reading(o: Order, s: &[u8], out: &mut [u8]) -> usize {
     let what = o.what;
@@ -118,7 +71,13 @@ fn reading(o: Order, s: &[u8], out: &mut [u8]) -> usize {
         What::Block | What::LastBlock => block(due_of(o), s, out),
         What::ReplayTape => replayed(s, out),
         What::ReplayRecords => retold(s, out),
-        _ => messages::reading(o, s, out),
+        What::Read => messages::read(s, out),
+        What::Header => messages::header(s, out),
+        What::First => messages::first(s, out),
+        What::Status => messages::status(s, out),
+        What::Field => messages::field(s, cut(o.first, BYTE) as u8, out),
+        What::List => listing::list(s, out),
+        _ => digits(o, out),
     }
 }
 
@@ -134,10 +93,17 @@ fn reading_in(o: Order, bytes: &[u8], out: &mut [u8]) -> usize
     reading(o, &bytes[..size], out)
 }
 
+fn shorten(s: &[u8], lent: &mut [u8]) -> Reply {
+    match zvt::shorten(s, lent) {
+        ShortenAnswer::Refused(r) => Reply::Refused(r),
+        ShortenAnswer::Written(size) => Reply::Written(size),
+    }
+}
+
 fn write(o: Order, s: &[u8], lent: &mut [u8]) -> Reply {
     let what = o.what;
     match what {
-        What::Shorten => messages::shorten(s, lent),
+        What::Shorten => shorten(s, lent),
         What::Write => tape::write_block(cut(o.first, WORD) as u32, s, lent),
         What::Records => tape::read_tape(s, lent),
         _ => tape::write_tape(s, lent),
@@ -154,9 +120,9 @@ fn writing(o: Order, s: &[u8], lent: &mut [u8], out: &mut [u8]) -> usize {
 fn change(o: Order, s: &mut [u8], out: &mut [u8]) -> usize {
     let what = o.what;
     if let What::Each = what {
-        return messages::each(o.first as usize, s, out);
+        return changes::each(o.first as usize, s, out);
     }
-    damage(due_of(o), s, out)
+    changes::damage(due_of(o), s, out)
 }
 
 // What a line comes to that leaves the script as it is.

@@ -1,19 +1,21 @@
 // What a line does to a desk with its tape, and its answer.
+use crate::calls::BYTE;
+use crate::calls::cut;
+use crate::calls::opening_of;
 use crate::plain;
+use crate::taping::open_at;
+use crate::taping::tape_in;
 use buffers::fill;
 use buffers::upto;
-use script_reads::BYTE;
-use script_reads::cut;
-use script_reads::desks;
-use script_reads::opening_of;
-use script_text::answers;
-use script_text::orders;
-use script_text::orders::Order;
-use script_text::orders::Script;
-use script_text::orders::What;
+use printing::answers;
+use printing::desks;
 use std::num::wrapping_add_u64;
 use tape_rules::Taped;
 use tape_rules::TapedAnswer;
+use words::Order;
+use words::Script;
+use words::What;
+use words::order_of;
 ghost use Prim.Native.Nat.{_≤_};
 ghost use lib.ListN.{length};
 ghost use Rattle.tape_rules.specs.Recording.{ValidTaped};
@@ -53,7 +55,7 @@ fn made(taped: Taped, o: Order, s: &[u8], lent: &mut [u8], file: &mut [u8]) -> T
 {
     let what = o.what;
     let lane = cut(o.first, BYTE) as u8;
-    let at = desks::open_at(taped.tail, file);
+    let at = open_at(taped.tail, file);
     let room = &mut file[at..];
     match what {
         What::Terminal => tape::terminal(taped, lane, s, lent, room),
@@ -97,16 +99,27 @@ fn closed(turn: Turn, out: &mut [u8]) -> Turn
     }
 }
 
-// A question about the desk or its tape, which leaves all as it is.
+// What is asked about the desk: the book, the lanes, the net turnover; or about its tape: what a replay of it gives, or its blocks.
+fn question(taped: Taped, what: What, file: &[u8], out: &mut [u8]) -> usize
+    requires { ⌜ ValidTaped taped ⌝ }
+{
+    let desk = taped.desk;
+    match what {
+        What::Book => desks::book(desk, out),
+        What::Lanes => desks::lanes(desk, out),
+        What::Net => desks::net(desk, out),
+        What::Replay => plain::replayed(tape_in(taped.tail, file), out),
+        _ => desks::blocks(tape_in(taped.tail, file), out),
+    }
+}
+
+// A question leaves all as it is.
 fn asked(turn: Turn, what: What, file: &[u8], out: &mut [u8]) -> Turn
     requires { ⌜ ValidTaped (turn .taped) ⌝ }
     ensures { λ r. ⌜ ValidTaped (r .taped) ⌝ }
 {
     let mut after = turn;
-    after.size = match what {
-        What::Replay => plain::replayed(desks::tape_in(turn.taped.tail, file), out),
-        _ => desks::question(turn.taped, what, file, out),
-    };
+    after.size = question(turn.taped, what, file, out);
     after
 }
 
@@ -168,6 +181,6 @@ pub(crate) fn line(
     let number = wrapping_add_u64(turn.at.number, 1);
     let mut begun = turn;
     begun.at.number = number;
-    let o = orders::order_of(begun.at, s, &mut bytes);
+    let o = order_of(begun.at, s, &mut bytes);
     done(begun, o, &mut bytes, file, room, added, out)
 }

@@ -13,7 +13,7 @@ use Rattle.zvt_rules.specs.declared.Places.{Places}
 use Rattle.zvt_rules.specs.declared.Layout.{Layout}
 use Rattle.zvt_rules.specs.declared.Layout.the-variants.{Plain, List as FieldList, Secured}
 use Rattle.basics.specs.Lists.{part}
-use Rattle.zvt_rules.specs.Reading.{Reading, got, refused, no, unless, andThen}
+use Rattle.zvt_rules.specs.Reading.{Reading, got, refused, faultAt, unless, andThen}
 use Rattle.zvt_rules.specs.Fields.{unlessUndecimal, Field, countFields, ListRead, listOf}
 use Rattle.zvt_rules.specs.Message.{listed, layoutOf, bodyOf, securedOf, countBody}
 use Rattle.zvt_rules.specs.declared.Header.{Header}
@@ -61,7 +61,7 @@ fields-part password s t at b = go (listOf [] 0 at t) refl
     go (got r) e = ap Part (behind password s t at r b e)
     go (refused r) e = refl
 
-pub secured-cut : (at : ℕ) (s : List ℕ) → length s < 3 → securedAnswer at s ≡ part-refused (no 1 (at + length s))
+pub secured-cut : (at : ℕ) (s : List ℕ) → length s < 3 → securedAnswer at s ≡ part-refused (faultAt 1 (at + length s))
 unfolding securedAnswer asPart securedOf unless
 secured-cut at s h = rw (lt-ltb (length s) 3 h)
 

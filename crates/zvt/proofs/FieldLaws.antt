@@ -11,7 +11,7 @@ use Rattle.zvt_rules.specs.declared.Refusal.{Refusal}
 use Rattle.zvt_rules.specs.declared.Format.{Format}
 use Rattle.zvt_rules.specs.declared.Format.the-variants.{Unknown, Fixed, Digits, Container}
 use Rattle.basics.specs.Lists.{among, part}
-use Rattle.zvt_rules.specs.Reading.{Reading, got, refused, no, unless, andThen}
+use Rattle.zvt_rules.specs.Reading.{Reading, got, refused, faultAt, unless, andThen}
 use Rattle.zvt_rules.specs.Fields.{formatOf, decimal, unlessUndecimal, holdsDigits, digitsIn, plain}
 use Rattle.zvt_rules.specs.Shortest.{shortField}
 use Rattle.basics.proofs.Tests.{pick-true, pick-false, allFrom, at-from, never}
@@ -34,7 +34,7 @@ pub decimals-then : {A : Type 0} (at : ℕ) (s t : List ℕ) (x : Reading A)
     → unlessUndecimal at s x ≡ andThen (unlessUndecimal at s (got t)) (λ u. x)
 unfolding unlessUndecimal andThen
 decimals-then at [] t x = refl
-decimals-then at (b ∷ s) t x = ap (unless (not (decimal b)) (no 6 at)) (decimals-then (at + 1) s t x) ∙ sym (unless-then _ _ _ _)
+decimals-then at (b ∷ s) t x = ap (unless (not (decimal b)) (faultAt 6 at)) (decimals-then (at + 1) s t x) ∙ sym (unless-then _ _ _ _)
 
 pub decimals-got : (x : Reading (List ℕ)) → asDecimals x ≡ All → (t : List ℕ) × (x ≡ got t)
 unfolding asDecimals
@@ -108,7 +108,7 @@ module _ (at : ℕ) (s : List ℕ) where
   unfolding fieldBounds
   by-format f e = rw e
 
-  pub bounds-unknown : formatOf (getD s 0 0) ≡ Unknown → fieldBounds at s ≡ bounds-refused (no 5 at)
+  pub bounds-unknown : formatOf (getD s 0 0) ≡ Unknown → fieldBounds at s ≡ bounds-refused (faultAt 5 at)
   unfolding boundsBy asBounds
   bounds-unknown e = by-format Unknown e
 

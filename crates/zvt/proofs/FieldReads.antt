@@ -10,7 +10,7 @@ use Rattle.zvt_rules.specs.declared.Refusal.{Refusal}
 use Rattle.zvt_rules.specs.declared.Format.{Format}
 use Rattle.zvt_rules.specs.declared.Format.the-variants.{Unknown, Fixed, Digits, Container}
 use Rattle.basics.specs.Lists.{part}
-use Rattle.zvt_rules.specs.Reading.{Reading, got, refused, no, unless, andThen}
+use Rattle.zvt_rules.specs.Reading.{Reading, got, refused, faultAt, unless, andThen}
 use Rattle.zvt_rules.specs.Limits.{deepest}
 use Rattle.zvt_rules.specs.Objects.{formSize, Len, lenOf, RunRead, runOf}
 use Rattle.zvt_rules.specs.Fields.{formatOf, unknown, digitsOf, digitsIn, plain, container, FieldRead, valueOf, plainOf, containerOf, fieldBy}
@@ -134,19 +134,19 @@ module _ (id n at : ℕ) (s : List ℕ) where
 
 -- ---- the answer for a field
 when-by : (id n at : ℕ) (s : List ℕ) (f : Format)
-    → unless (unknown f) (no 5 at) (unless false (no 7 at) (fieldBy id n at s f)) ≡ fieldBy id n at s f
+    → unless (unknown f) (faultAt 5 at) (unless false (faultAt 7 at) (fieldBy id n at s f)) ≡ fieldBy id n at s f
 unfolding unless unknown fieldBy
 when-by id n at s Unknown = refl
 when-by id n at s (Fixed k) = refl
 when-by id n at s (Digits d) = refl
 when-by id n at s Container = refl
 
-pub field-unknown : (twice : Bool) (n at : ℕ) (s : List ℕ) → formatOf (getD s 0 0) ≡ Unknown → fieldPart twice n at s ≡ part-refused (no 5 at)
+pub field-unknown : (twice : Bool) (n at : ℕ) (s : List ℕ) → formatOf (getD s 0 0) ≡ Unknown → fieldPart twice n at s ≡ part-refused (faultAt 5 at)
 unfolding fieldPart fieldWhen unless unknown asPart
 field-unknown twice n at s e = rw e
 
 pub field-twice : (twice : Bool) (n at : ℕ) (s : List ℕ) → unknown (formatOf (getD s 0 0)) ≡ false → twice ≡ true
-    → fieldPart twice n at s ≡ part-refused (no 7 at)
+    → fieldPart twice n at s ≡ part-refused (faultAt 7 at)
 unfolding fieldPart fieldWhen unless asPart
 field-twice twice n at s e f = rw (e, f)
 

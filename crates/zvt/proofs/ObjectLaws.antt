@@ -8,7 +8,7 @@ use lib.ListN.{length, getD, take, drop, length-drop}
 use borrow.Author.Tests.{lt-ltb, le-ltb, ne-eqb}
 use Rattle.basics.proofs.Tests.{never}
 use Rattle.zvt_rules.specs.declared.Refusal.{Refusal}
-use Rattle.zvt_rules.specs.Reading.{Reading, got, refused, no, unless, andThen}
+use Rattle.zvt_rules.specs.Reading.{Reading, got, refused, faultAt, unless, andThen}
 use Rattle.zvt_rules.specs.Objects.{longTag, topBit, nested, formSize, secondTag, tagSize, Len, oneByteLen, twoByteLen, lenOf, Head, headWith, headOf}
 use Rattle.zvt_rules.specs.Shortest.{formFor}
 use Rattle.zvt.specs.declared.objects.TagRead.the-variants.{Size, Refused as tag-refused}
@@ -22,7 +22,7 @@ use Rattle.zvt.specs.declared.objects.BoundsRead.the-variants.{Bounds as
 use Rattle.zvt.specs.ObjectSteps.{asTag, asLen, asBounds, tagAnswer, lenAnswer, boundsIn, within, boundsOf, headAnswer, tallyOf}
 
 -- ---- the tag
-pub tag-none : (at : ℕ) (s : List ℕ) → length s ≡ 0 → tagAnswer at s ≡ tag-refused (no 1 at)
+pub tag-none : (at : ℕ) (s : List ℕ) → length s ≡ 0 → tagAnswer at s ≡ tag-refused (faultAt 1 at)
 unfolding tagAnswer asTag tagSize
 tag-none at [] h = refl
 tag-none at (b ∷ s) h = absurd (omega arith)
@@ -32,14 +32,14 @@ unfolding tagAnswer asTag tagSize
 tag-one at [] h e = absurd (omega arith)
 tag-one at (b ∷ s) h e = rw e
 
-pub tag-cut : (at : ℕ) (s : List ℕ) → length s ≡ 1 → longTag (getD s 0 0) ≡ true → tagAnswer at s ≡ tag-refused (no 1 (at + 1))
+pub tag-cut : (at : ℕ) (s : List ℕ) → length s ≡ 1 → longTag (getD s 0 0) ≡ true → tagAnswer at s ≡ tag-refused (faultAt 1 (at + 1))
 unfolding tagAnswer asTag tagSize secondTag
 tag-cut at [] h e = absurd (omega arith)
 tag-cut at (b ∷ []) h e = rw e
 tag-cut at (b ∷ (c ∷ s)) h e = absurd (omega arith)
 
 pub tag-high : (at : ℕ) (s : List ℕ) → 1 < length s → longTag (getD s 0 0) ≡ true → topBit (getD s 1 0) ≡ true
-    → tagAnswer at s ≡ tag-refused (no 8 (at + 1))
+    → tagAnswer at s ≡ tag-refused (faultAt 8 (at + 1))
 unfolding tagAnswer asTag tagSize secondTag unless
 tag-high at [] h e f = absurd (omega arith)
 tag-high at (b ∷ []) h e f = absurd (omega arith)
@@ -53,10 +53,10 @@ tag-two at (b ∷ []) h e f = absurd (omega arith)
 tag-two at (b ∷ (c ∷ s)) h e f = rw (e, f)
 
 -- ---- the length
-cut-at : (i j : ℕ) → i ≡ j → len-refused (no 1 i) ≡ len-refused (no 1 j)
+cut-at : (i j : ℕ) → i ≡ j → len-refused (faultAt 1 i) ≡ len-refused (faultAt 1 j)
 cut-at i j e = rw e
 
-pub len-none : (at : ℕ) (s : List ℕ) → length s ≡ 0 → lenAnswer at s ≡ len-refused (no 1 (at + length s))
+pub len-none : (at : ℕ) (s : List ℕ) → length s ≡ 0 → lenAnswer at s ≡ len-refused (faultAt 1 (at + length s))
 unfolding lenAnswer asLen lenOf
 len-none at [] h = cut-at at (at + 0) (omega arith)
 len-none at (b ∷ s) h = absurd (omega arith)
@@ -67,7 +67,7 @@ len-bare at [] h l = absurd (omega arith)
 len-bare at (b ∷ s) h l = rw (lt-ltb b 0x80 l)
 
 pub len-cut-one : (at : ℕ) (s : List ℕ) → 0 < length s → length s < 2 → getD s 0 0 ≡ 0x81
-    → lenAnswer at s ≡ len-refused (no 1 (at + length s))
+    → lenAnswer at s ≡ len-refused (faultAt 1 (at + length s))
 unfolding lenAnswer asLen lenOf oneByteLen
 len-cut-one at [] h l e = absurd (omega arith)
 len-cut-one at (b ∷ []) h l e = rw e
@@ -80,7 +80,7 @@ len-one at (b ∷ []) h e = absurd (omega arith)
 len-one at (b ∷ (v ∷ s)) h e = rw e
 
 pub len-cut-two : (at : ℕ) (s : List ℕ) → 0 < length s → length s < 3 → getD s 0 0 ≡ 0x82
-    → lenAnswer at s ≡ len-refused (no 1 (at + length s))
+    → lenAnswer at s ≡ len-refused (faultAt 1 (at + length s))
 unfolding lenAnswer asLen lenOf twoByteLen
 len-cut-two at [] h l e = absurd (omega arith)
 len-cut-two at (b ∷ []) h l e = rw e
@@ -95,14 +95,14 @@ len-two at (b ∷ (v ∷ [])) h e = absurd (omega arith)
 len-two at (b ∷ (v ∷ (w ∷ s))) h e = rw e
 
 pub len-bad : (at : ℕ) (s : List ℕ) → 0 < length s → 0x80 ≤ getD s 0 0 → (getD s 0 0 ≡ 0x81 → ⊥) → (getD s 0 0 ≡ 0x82 → ⊥)
-    → lenAnswer at s ≡ len-refused (no 22 at)
+    → lenAnswer at s ≡ len-refused (faultAt 22 at)
 unfolding lenAnswer asLen lenOf
 len-bad at [] h l e f = absurd (omega arith)
 len-bad at (b ∷ s) h l e f = rw (le-ltb b 0x80 l, ne-eqb b 0x81 e, ne-eqb b 0x82 f)
 
 -- ---- where a value ends
 pub value-cut : (at tag a v : ℕ) (run : Bool) (s : List ℕ) → a ≤ length s → length s - a < v
-    → within at tag a v run s ≡ bounds-refused (no 1 (at + length s))
+    → within at tag a v run s ≡ bounds-refused (faultAt 1 (at + length s))
 unfolding within asBounds boundsIn unless
 value-cut at tag a v run s h l = rw (lt-ltb (length s) (a + v) (omega arith))
 

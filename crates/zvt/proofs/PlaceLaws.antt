@@ -23,8 +23,8 @@ use Rattle.zvt_rules.proofs.ObjectReading.{tail}
 use Rattle.zvt_rules.proofs.ObjectBytes.{bytes-part}
 use Rattle.zvt_rules.proofs.FieldBytes.{list-complete}
 use Rattle.zvt_rules.proofs.FieldReading.{header-most, list-none}
-use Rattle.zvt_rules.proofs.MessageBytes.{first-sound, read-sound, read-complete, message-size}
-use Rattle.zvt_rules.proofs.MessageShort.{fields-ok, length-bound}
+use Rattle.zvt_rules.proofs.MessageBytes.{first-sound, read-sound, read-complete, message-size, length-most}
+use Rattle.zvt_rules.proofs.MessageShort.{fields-ok}
 use Rattle.zvt_rules.specs.declared.Outline.{Outline}
 use Rattle.zvt_rules.specs.declared.ReadAnswer.the-variants.{Accepted}
 use Rattle.zvt_rules.specs.declared.Span.{Span}
@@ -49,7 +49,7 @@ module _ (s : List ℕ) (m : Message) (b : Bytes s) (e : readOf s ≡ got m) whe
       let k = read-sound s m b e in
       let a = headerSize (m .long) + length password in
       let ok = fields-ok (layoutOf (m .class) (m .instruction)) password fs (rw q at (k .1 .0)) in
-      let short = length-bound (m .long) (length (bodyBytes (m .body))) (k .1 .1) in
+      let short = length-most (m .long) (length (bodyBytes (m .body))) (k .1 .1) in
       let size : length (bodyBytes (m .body)) ≡ length password + length (listBytes fs) = rw q (length-append password (listBytes fs)) in
       let long = ap length (sym (k .0)) ∙ message-size m in
       let w : part a (length s) s ≡ listBytes fs =

@@ -10,7 +10,7 @@ use lib.Seq.{drop-drop, length-take-le}
 use borrow.Author.Tests.{le-leb, lt-leb, eq-eqb, ne-eqb}
 use Rattle.zvt_rules.specs.declared.Refusal.{Refusal}
 use Rattle.basics.specs.Lists.{part}
-use Rattle.zvt_rules.specs.Reading.{Reading, got, refused, no, unless, andThen}
+use Rattle.zvt_rules.specs.Reading.{Reading, got, refused, faultAt, unless, andThen}
 use Rattle.zvt_rules.specs.Limits.{mostObjects}
 use Rattle.zvt_rules.specs.Objects.{nested, Form, formSize, Head, from, to, headOf, Obj, Objs, more, OneRead, RunRead, leafOf, branchOf, oneOf, runOf}
 use Rattle.zvt_rules.specs.believed.Writing.{objBytes, runBytes}
@@ -188,11 +188,11 @@ module _ (left at : ℕ) (s : List ℕ) where
           (g .0, omega (arith, length-drop i s), g .2, g .3 ∙ rw (drop-drop (t .size) i s, add-assoc at i (t .size)))
 
 -- ---- an object
-pub one-full : (left n at : ℕ) (s : List ℕ) → mostObjects ≤ n → oneAnswer left n at s ≡ part-refused (no 10 at)
+pub one-full : (left n at : ℕ) (s : List ℕ) → mostObjects ≤ n → oneAnswer left n at s ≡ part-refused (faultAt 10 at)
 unfolding oneAnswer asPart unless
 one-full left n at s h = rw (one-step left n at s, le-leb mostObjects n h)
 
-pub one-deep : (left n at : ℕ) (s : List ℕ) → n < mostObjects → left ≡ 0 → oneAnswer left n at s ≡ part-refused (no 9 at)
+pub one-deep : (left n at : ℕ) (s : List ℕ) → n < mostObjects → left ≡ 0 → oneAnswer left n at s ≡ part-refused (faultAt 9 at)
 unfolding oneAnswer asPart unless
 one-deep left n at s h e = rw (one-step left n at s, lt-leb mostObjects n h, eq-eqb left 0 e)
 

@@ -21,7 +21,7 @@ use Rattle.basics.specs.believed.Lists.{Bytes}
 use Rattle.zvt_rules.specs.believed.Grammar.{LayoutOk, MessageOk}
 use Rattle.zvt_rules.specs.Answers.{headerIn, outlineOf}
 use Rattle.zvt_rules.specs.Values.{statusOf}
-use Rattle.zvt_rules.specs.Heard.{firstOf, toldIn, toldAnswer, asHearAnswer, hearAnswer}
+use Rattle.zvt_rules.specs.Heard.{firstByte, toldIn, toldAnswer, asHearAnswer, hearAnswer}
 use Rattle.zvt_rules.proofs.MessageBytes.{read-sound}
 use Rattle.zvt.specs.declared.headers.HeaderRead.the-variants.{Refused as header-refused}
 use Rattle.zvt.specs.HeaderSteps.{wholeAnswer}
@@ -32,12 +32,12 @@ use Rattle.zvt.proofs.PlaceLaws.{behind, accepted}
 
 -- ---- the first byte of a body, by its layout
 unfoldable firstBy : Layout → List ℕ → ToldCode
-firstBy Plain w = firstOf (bytes w)
+firstBy Plain w = firstByte (bytes w)
 firstBy FieldList w = Missing
 firstBy Secured w = Missing
 
-body-first : (l : Layout) (x : Body) → LayoutOk l x → firstBy l (bodyBytes x) ≡ firstOf x
-unfolding firstBy firstOf LayoutOk bodyBytes
+body-first : (l : Layout) (x : Body) → LayoutOk l x → firstBy l (bodyBytes x) ≡ firstByte x
+unfolding firstBy firstByte LayoutOk bodyBytes
 body-first Plain (bytes w) ok = refl
 body-first Plain (listed password fs) ok = absurd ok
 body-first FieldList (bytes w) ok = absurd ok
@@ -46,7 +46,7 @@ body-first Secured (bytes w) ok = absurd ok
 body-first Secured (listed password fs) ok = refl
 
 no-first : (l : Layout) → firstBy l [] ≡ Missing
-unfolding firstBy firstOf
+unfolding firstBy firstByte
 no-first Plain = refl
 no-first FieldList = refl
 no-first Secured = refl
@@ -59,7 +59,7 @@ module _ (s : List ℕ) (m : Message) (b : Bytes s) (e : readOf s ≡ got m) whe
       let at = headerSize (m .long) in
       sym (behind (m .long) (m .class) (m .instruction) (length w) w 0) ∙ ap (drop (at + 0)) (read-sound s m b e .0) ∙ rw (add-zero at)
 
-  message-first : firstBy (layoutOf (m .class) (m .instruction)) (drop (headerSize (m .long)) s) ≡ firstOf (m .body)
+  message-first : firstBy (layoutOf (m .class) (m .instruction)) (drop (headerSize (m .long)) s) ≡ firstByte (m .body)
   unfolding MessageOk
   message-first = rw (← body-behind) (body-first (layoutOf (m .class) (m .instruction)) (m .body) (read-sound s m b e .1 .0))
 
@@ -72,7 +72,7 @@ module _ (s : List ℕ) (x : Outline) (w : Was s x) where
   first-none h = sym (no-first _) ∙ rw (drop-of-length-le s h) at first-by
 
   pub first-plain : layoutOf (x .class) (x .instruction) ≡ Plain → x .start < length s → Code (getD s (x .start) 0) ≡ firstIn (readOf s)
-  unfolding firstBy firstOf
+  unfolding firstBy firstByte
   first-plain l h = rw (l, drop-cons s (x .start) 0 h) at first-by
 
   pub first-list : layoutOf (x .class) (x .instruction) ≡ FieldList → Missing ≡ firstIn (readOf s)

@@ -12,7 +12,8 @@ use Rattle.zvt_rules.specs.declared.Listed.{Listed}
 use Rattle.zvt_rules.specs.declared.Span.{Span}
 use Rattle.basics.specs.Choice.{pick}
 use Rattle.basics.specs.Lists.{part}
-use Rattle.zvt_rules.specs.Reading.{Reading, got, refused, no, unless, andThen}
+use Rattle.zvt_rules.specs.Reading.{Reading, got, refused, faultAt, unless, andThen}
+use Rattle.zvt_rules.specs.Refusals.{unknownField, fieldTwice}
 use Rattle.zvt_rules.specs.Objects.{formSize, lenOf}
 use Rattle.zvt_rules.specs.Fields.{formatOf, unknown, digitsOf, unlessUndecimal, digitsIn, Field, plain, FieldRead, ListRead, fieldBy, listOf}
 use Rattle.zvt_rules.specs.believed.Writing.{fieldBytes, listBytes, fieldValue}
@@ -47,7 +48,7 @@ decimalsAnswer at s = asDecimals (unlessUndecimal at s (got s))
 
 -- where the parts of a field lie, by the format of its id
 unfoldable pub boundsBy : ℕ → List ℕ → Format → Reading Bounds
-boundsBy at s Unknown = refused (no 5 at)
+boundsBy at s Unknown = refused (faultAt unknownField at)
 boundsBy at s (Fixed k) = boundsIn at 1 1 k false s
 boundsBy at s (Digits d) = andThen (digitsOf d 0 (at + 1) (drop 1 s)) λ v. boundsIn at 1 (1 + d) v false s
 boundsBy at s Container = andThen (lenOf (at + 1) (drop 1 s)) λ l. boundsIn at 1 (1 + formSize (l .form)) (l .value) true s
@@ -78,14 +79,14 @@ plainAnswer n at b s =
 unfoldable pub fieldWhen : Bool → ℕ → ℕ → List ℕ → Reading FieldRead
 fieldWhen twice n at s =
     let id = getD s 0 0 in
-    unless (unknown (formatOf id)) (no 5 at) (unless twice (no 7 at) (fieldBy id n at s (formatOf id)))
+    unless (unknown (formatOf id)) (faultAt unknownField at) (unless twice (faultAt fieldTwice at) (fieldBy id n at s (formatOf id)))
 
 unfoldable pub fieldPart : Bool → ℕ → ℕ → List ℕ → PartRead
 fieldPart twice n at s = asPart fieldTally (fieldWhen twice n at s)
 
 -- refused at its id
 abbrev pub refusedAt : ℕ → ℕ → FieldFound
-refusedAt at number = record { part = part-refused (no number at); from = 0 }
+refusedAt at number = record { part = part-refused (faultAt number at); from = 0 }
 
 -- where the value of a field that is read begins
 abbrev pub ValueFrom : Bool → ℕ → ℕ → List ℕ → ℕ → Type 0

@@ -4,6 +4,7 @@ use mathlib.Core.List.{List}
 use lib.ListN.{length}
 use lib.Dec.{ltb}
 use Rattle.zvt_rules.specs.Reading.{Reading, got, refused, unplaced, unless, andThen}
+use Rattle.zvt_rules.specs.Refusals.{tooLong, endsTooSoon}
 use Rattle.zvt_rules.specs.Limits.{mostBody}
 use Rattle.zvt_rules.specs.Message.{Heading, headerOf, wholeHeader}
 use Rattle.zvt_rules.specs.Answers.{headerIn}
@@ -17,7 +18,7 @@ asHeader (refused r) = header-refused r
 
 unfoldable pub fitting : Header → List ℕ → HeaderRead
 fitting h s =
-    asHeader (unless (ltb mostBody (h .length)) (unplaced 2) (unless (ltb (length s) (h .start + h .length)) (unplaced 1) (got h)))
+    asHeader (unless (ltb mostBody (h .length)) (unplaced tooLong) (unless (ltb (length s) (h .start + h .length)) (unplaced endsTooSoon) (got h)))
 
 -- a header in the code's terms: the one that s begins with, and the one of a message that s is
 abbrev pub inCode : Reading Heading → HeaderRead

@@ -4,7 +4,8 @@ use mathlib.Core.Bool.{Bool}
 use mathlib.Core.List.{List}
 use lib.ListN.{length, getD}
 use lib.Dec.{ltb}
-use Rattle.zvt_rules.specs.Reading.{Reading, got, refused, no, unless, andThen}
+use Rattle.zvt_rules.specs.Reading.{Reading, got, refused, faultAt, unless, andThen}
+use Rattle.zvt_rules.specs.Refusals.{endsTooSoon}
 use Rattle.zvt_rules.specs.Objects.{nested, formSize, tagSize, Len, lenOf, Head, from, to, headOf, Obj, Objs, OneRead, RunRead, oneOf, runOf}
 use Rattle.zvt_rules.specs.believed.Writing.{objBytes, runBytes}
 use Rattle.zvt_rules.specs.Shortest.{formFor, shortObj, shortRun}
@@ -45,7 +46,7 @@ lenAnswer at s = asLen (lenOf at s)
 -- a value of v bytes from place a on, within s
 unfoldable pub boundsIn : ℕ → ℕ → ℕ → ℕ → Bool → List ℕ → Reading Bounds
 boundsIn at tag a v run s =
-    unless (ltb (length s) (a + v)) (no 1 (at + length s)) (got (record { tag = tag; from = a; to = a + v; nested = run }))
+    unless (ltb (length s) (a + v)) (faultAt endsTooSoon (at + length s)) (got (record { tag = tag; from = a; to = a + v; nested = run }))
 
 unfoldable pub within : ℕ → ℕ → ℕ → ℕ → Bool → List ℕ → BoundsRead
 within at tag a v run s = asBounds (boundsIn at tag a v run s)

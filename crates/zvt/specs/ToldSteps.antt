@@ -9,7 +9,7 @@ use Rattle.zvt_rules.specs.declared.ToldBody.{ToldBody}
 use Rattle.zvt_rules.specs.declared.ToldAnswer.the-variants.{Told}
 use Rattle.zvt_rules.specs.Reading.{Reading, got, refused}
 use Rattle.zvt_rules.specs.Message.{Message, readOf}
-use Rattle.zvt_rules.specs.Heard.{firstOf, toldAnswer}
+use Rattle.zvt_rules.specs.Heard.{firstByte, toldAnswer}
 use Rattle.zvt.specs.declared.headers.HeaderRead.the-variants.{Header as header-read}
 use Rattle.zvt.specs.HeaderSteps.{wholeAnswer}
 
@@ -22,5 +22,5 @@ abbrev pub Tells : ToldBody → List ℕ → Type 0
 Tells t s = toldAnswer (readOf s) ≡ Told t
 
 unfoldable pub firstIn : Reading Message → ToldCode
-firstIn (got m) = firstOf (m .body)
+firstIn (got m) = firstByte (m .body)
 firstIn (refused f) = Missing

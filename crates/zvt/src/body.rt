@@ -62,7 +62,7 @@ pub(crate) fn read_secured(s: &[u8], at: usize, ids: [u8; 4]) -> BodyFound
     if s.len() < 3 {
         let end = at + s.len();
         return refused_body(Refusal {
-            number: 1,
+            number: Refusal::ENDS_TOO_SOON,
             place: Place::At(end),
         });
     }

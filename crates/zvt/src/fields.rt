@@ -62,14 +62,14 @@ pub(crate) fn digits_of(s: &[u8], at: usize, d: usize) -> DigitsRead
         let place = at + i;
         if s.len() <= i {
             return DigitsRead::Refused(Refusal {
-                number: 1,
+                number: Refusal::ENDS_TOO_SOON,
                 place: Place::At(place),
             });
         }
         let b = s[i];
         if b < 0xF0 || 0xF9 < b {
             return DigitsRead::Refused(Refusal {
-                number: 4,
+                number: Refusal::NO_LENGTH_DIGIT,
                 place: Place::At(place),
             });
         }
@@ -90,7 +90,7 @@ pub(crate) fn all_decimal(s: &[u8], at: usize) -> Decimals
         if 0x90 < s[i] & 0xF0 || 0x09 < s[i] & 0x0F {
             let place = at + i;
             return Decimals::Refused(Refusal {
-                number: 6,
+                number: Refusal::NOT_DECIMAL,
                 place: Place::At(place),
             });
         }
@@ -106,7 +106,7 @@ pub(crate) fn field_bounds(s: &[u8], at: usize, format: Format) -> BoundsRead
 {
     match format {
         Format::Unknown => BoundsRead::Refused(Refusal {
-            number: 5,
+            number: Refusal::UNKNOWN_FIELD,
             place: Place::At(at),
         }),
         Format::Fixed(k) => bounds_in(s, at, 1, 1, k, false),
@@ -178,10 +178,10 @@ pub(crate) fn read_field(s: &[u8], at: usize, n: u8, twice: bool) -> FieldFound
 {
     let format = format_of(s[0]);
     if let Format::Unknown = format {
-        return refused_at(at, 5);
+        return refused_at(at, Refusal::UNKNOWN_FIELD);
     }
     if twice {
-        return refused_at(at, 7);
+        return refused_at(at, Refusal::FIELD_TWICE);
     }
     match field_bounds(s, at, format) {
         BoundsRead::Refused(f) => FieldFound {

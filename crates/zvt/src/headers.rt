@@ -17,13 +17,13 @@ pub(crate) fn fitted(s: &[u8], h: Header) -> HeaderRead
 {
     if Outline::MOST_BODY < h.length {
         return HeaderRead::Refused(Refusal {
-            number: 2,
+            number: Refusal::TOO_LONG,
             place: Place::Nowhere,
         });
     }
     if s.len() < h.start || s.len() - h.start < h.length {
         return HeaderRead::Refused(Refusal {
-            number: 1,
+            number: Refusal::ENDS_TOO_SOON,
             place: Place::Nowhere,
         });
     }
@@ -35,7 +35,7 @@ pub(crate) fn header_of(s: &[u8]) -> HeaderRead
     ensures { λ r. ⌜ r ≡ firstHeader (now (s .entry)) ⌝ }
 {
     let cut = Refusal {
-        number: 1,
+        number: Refusal::ENDS_TOO_SOON,
         place: Place::Nowhere,
     };
     if s.len() < 3 {
@@ -78,7 +78,7 @@ pub(crate) fn whole_header(s: &[u8]) -> HeaderRead
         HeaderRead::Header(h) => {
             if h.length < s.len() - h.start {
                 return HeaderRead::Refused(Refusal {
-                    number: 3,
+                    number: Refusal::LEFT_OVER,
                     place: Place::Nowhere,
                 });
             }

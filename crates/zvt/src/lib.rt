@@ -94,7 +94,7 @@ pub fn shorten(s: &[u8], out: &mut [u8]) -> ShortenAnswer
                 PartRead::Part(t) => {
                     let size = writing::message_size(h.length - t.spare);
                     if out.len() < size {
-                        return ShortenAnswer::Refused(Refusal::unplaced(11));
+                        return ShortenAnswer::Refused(Refusal::unplaced(Refusal::NO_ROOM));
                     }
                     writing::put_message(s, h, &mut out[..size]);
                     ShortenAnswer::Written(size)

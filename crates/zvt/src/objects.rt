@@ -55,7 +55,7 @@ pub(crate) fn tag_size(s: &[u8], at: usize) -> TagRead
 {
     if s.len() == 0 {
         return TagRead::Refused(Refusal {
-            number: 1,
+            number: Refusal::ENDS_TOO_SOON,
             place: Place::At(at),
         });
     }
@@ -65,13 +65,13 @@ pub(crate) fn tag_size(s: &[u8], at: usize) -> TagRead
     let second = at + 1;
     if s.len() == 1 {
         return TagRead::Refused(Refusal {
-            number: 1,
+            number: Refusal::ENDS_TOO_SOON,
             place: Place::At(second),
         });
     }
     if s[1] & 0x80 != 0 {
         TagRead::Refused(Refusal {
-            number: 8,
+            number: Refusal::TAG_TOO_LONG,
             place: Place::At(second),
         })
     } else {
@@ -85,7 +85,7 @@ pub(crate) fn len_of(s: &[u8], at: usize) -> LenRead
 {
     let end = at + s.len();
     let cut = Refusal {
-        number: 1,
+        number: Refusal::ENDS_TOO_SOON,
         place: Place::At(end),
     };
     if s.len() == 0 {
@@ -113,7 +113,7 @@ pub(crate) fn len_of(s: &[u8], at: usize) -> LenRead
         return LenRead::Len(3, two);
     }
     LenRead::Refused(Refusal {
-        number: 22,
+        number: Refusal::NO_LENGTH,
         place: Place::At(at),
     })
 }
@@ -133,7 +133,7 @@ pub(crate) fn bounds_in(
     if s.len() - from < v {
         let end = at + s.len();
         return BoundsRead::Refused(Refusal {
-            number: 1,
+            number: Refusal::ENDS_TOO_SOON,
             place: Place::At(end),
         });
     }
@@ -226,13 +226,13 @@ pub(crate) fn read_one(s: &[u8], at: usize, left: u8, n: u8) -> PartRead
 {
     if Outline::MOST_OBJECTS <= n {
         return PartRead::Refused(Refusal {
-            number: 10,
+            number: Refusal::TOO_MANY_OBJECTS,
             place: Place::At(at),
         });
     }
     if left == 0 {
         return PartRead::Refused(Refusal {
-            number: 9,
+            number: Refusal::TOO_DEEP,
             place: Place::At(at),
         });
     }

@@ -10,7 +10,7 @@ use Rattle.zvt_rules.specs.declared.Refusal.{Refusal}
 use Rattle.zvt_rules.specs.declared.Place.the-variants.{Nowhere}
 use Rattle.zvt_rules.specs.declared.Layout.{Layout}
 use Rattle.zvt_rules.specs.declared.Layout.the-variants.{Plain, List as FieldList, Secured}
-use Rattle.zvt_rules.specs.Reading.{no}
+use Rattle.zvt_rules.specs.Reading.{faultAt}
 use Rattle.zvt_rules.specs.Fields.{formatOf}
 use Rattle.zvt_rules.specs.Message.{layoutOf}
 use Rattle.zvt_rules.specs.believed.Writing.{lenBytes, sized, objBytes, lengthIn, fieldBytes, lengthBytes}
@@ -21,17 +21,17 @@ use Rattle.zvt_rules.proofs.RowReadings.{placed}
 
 -- ---- the place lies in bytes that begin at a place of the message, or directly behind them
 data Within (at : ℕ) (s : List ℕ) : Refusal → Type 0 where
-  byte : {n : ℕ} (i : ℕ) → i < length s → WrongByte (getD s i 0) n → Within at s (no n (at + i))
-  edge : (i : ℕ) → i ≤ length s → Within at s (no 1 (at + i))
+  byte : {n : ℕ} (i : ℕ) → i < length s → WrongByte (getD s i 0) n → Within at s (faultAt n (at + i))
+  edge : (i : ℕ) → i ≤ length s → Within at s (faultAt 1 (at + i))
 
 -- at their first byte, at one behind others, and at their end
-first : {at n : ℕ} {s : List ℕ} → 0 < length s → WrongByte (getD s 0 0) n → Within at s (no n at)
+first : {at n : ℕ} {s : List ℕ} → 0 < length s → WrongByte (getD s 0 0) n → Within at s (faultAt n at)
 first {at} {n} {s} l w = let z : at + 0 ≡ at = omega arith in placed (Within at s) n z (byte 0 l w)
 
-later : {at n : ℕ} (front : List ℕ) (b : ℕ) (s : List ℕ) → WrongByte b n → Within at (front ++ (b ∷ s)) (no n (at + length front))
+later : {at n : ℕ} (front : List ℕ) (b : ℕ) (s : List ℕ) → WrongByte b n → Within at (front ++ (b ∷ s)) (faultAt n (at + length front))
 later {n = n} front b s w = byte {n = n} (length front) (omega (arith, length-append front (b ∷ s))) (rw (getD-append-seam front b s 0) w)
 
-ends : {at : ℕ} (s : List ℕ) → Within at s (no 1 (at + length s))
+ends : {at : ℕ} (s : List ℕ) → Within at s (faultAt 1 (at + length s))
 ends s = edge (length s) (omega arith)
 
 -- also where other bytes stand before them, or behind

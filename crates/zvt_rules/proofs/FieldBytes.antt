@@ -21,7 +21,7 @@ use Rattle.basics.specs.believed.Lists.{Bytes}
 use Rattle.zvt_rules.specs.believed.Grammar.{RunOk, Decimals, FormOk, SizeOk, FieldOk, ListOk}
 use Rattle.zvt_rules.proofs.Readings.{got-same, got-not-refused, unless-got, unless-on, then-got, then-on}
 use Rattle.basics.proofs.Tests.{pick-test, allFrom, at-from}
-use Rattle.zvt_rules.proofs.FieldReading.{digit-in, digits-last, digits-in, plain-got, container-got, field-got, field-in, list-none, list-step}
+use Rattle.zvt_rules.proofs.FieldReading.{digit-test, digits-last, digits-in, plain-got, container-got, field-got, field-in, list-none, list-step}
 use Rattle.zvt_rules.proofs.ObjectReading.{part-length}
 use Rattle.zvt_rules.proofs.Lengths.{lenBytes-size, len-sound, len-written}
 use Rattle.zvt_rules.proofs.ObjectBytes.{bytes-drop, bytes-part, run-sound, run-complete}
@@ -63,7 +63,7 @@ unfolding digitBytes
 digits-sound zero v at s w e = refl
 digits-sound (suc d) v at s w e =
     let l = digits-last d v at s w e in
-    let t = digit-in (getD s d 0) (l .3) in
+    let t = digit-test (getD s d 0) .0 (l .3) in
     let high : w / 10 ≡ l .0 = omega (arith, l .4, t) in
     let low : 0xF0 + w % 10 ≡ getD s d 0 = omega (arith, l .4, t) in
     rw (high, low, digits-sound d v at s (l .0) (l .1)) (sym (take-suc s d 0 (l .2)))

@@ -1,6 +1,7 @@
 -- What the reading of fields, lists and headers gives step by step, with no bound on the steps. Assumes nothing.
 use mathlib.Core.Path.{_≡_, refl, sym, _∙_}
 use mathlib.Core.Bool.{Bool, true, false, not}
+use mathlib.Core.Logic.{_↔_, _⊎_}
 use mathlib.Core.List.{List, [], _∷_}
 use Prim.Native.Nat.{ℕ, zero, suc, _+_, _-_, _*_, _^_, _<_, _≤_}
 use native.Mathlib.Numerals.{add-one}
@@ -13,22 +14,25 @@ use borrow.Author.Tests.{ltb-false, not-false}
 use Rattle.zvt_rules.specs.declared.Format.{Format}
 use Rattle.zvt_rules.specs.declared.Format.the-variants.{Unknown, Fixed, Digits, Container}
 use Rattle.basics.specs.Lists.{part, among}
-use Rattle.zvt_rules.specs.Reading.{Reading, got, refused, no, unless, andThen}
+use Rattle.zvt_rules.specs.Reading.{Reading, got, refused, faultAt, unless, andThen}
 use Rattle.zvt_rules.specs.Limits.{mostBody, deepest}
 use Rattle.zvt_rules.specs.Objects.{formSize, Len, lenOf, RunRead, runOf}
 use Rattle.zvt_rules.specs.Fields.{formatOf, unknown, lengthDigit, digitsOf, decimal, unlessUndecimal, digitsIn, holdsDigits, plain, container, FieldRead, valueOf, plainOf, containerOf, fieldBy, fieldOf, listBy, listOf}
 use Rattle.zvt_rules.specs.Message.{BodyLength, lengthOf, Heading, headerSize, end, headerWith, headerOf}
 use Rattle.zvt_rules.specs.believed.Grammar.{Decimals}
 use Rattle.zvt_rules.proofs.Readings.{got-same, got-not-refused, unless-got, unless-on, then-got, then-alike}
-use Rattle.basics.proofs.Tests.{pick-test, leb-test, and-test, never}
+use Rattle.basics.proofs.Tests.{pick-test, leb-test, leb-fails, and-test, nand-test, never}
 
 -- ---- length digits, from the i-th on
-pub digit-in : (b : ℕ) → lengthDigit b ≡ true → (0xF0 ≤ b) × (b ≤ 0xF9)
-digit-in b e = and-test (leb-test 0xF0 b) (leb-test b 0xF9) .0 e
+pub digit-test : (b : ℕ) → (lengthDigit b ≡ true) ↔ ((0xF0 ≤ b) × (b ≤ 0xF9))
+digit-test b = and-test (leb-test 0xF0 b) (leb-test b 0xF9)
+
+pub digit-fails : (b : ℕ) → (lengthDigit b ≡ false) ↔ ((b < 0xF0) ⊎ (0xF9 < b))
+digit-fails b = nand-test (leb-fails 0xF0 b) (leb-fails b 0xF9)
 
 digits-first : (d v at : ℕ) (s : List ℕ) (i : ℕ) → i < d → i < length s
     → digitsOf (d - i) v (at + i) (drop i s)
-    ≡ unless (not (lengthDigit (getD s i 0))) (no 4 (at + i)) (digitsOf (d - (i + 1)) (v * 10 + (getD s i 0 - 0xF0)) (at + (i + 1)) (drop (i + 1) s))
+    ≡ unless (not (lengthDigit (getD s i 0))) (faultAt 4 (at + i)) (digitsOf (d - (i + 1)) (v * 10 + (getD s i 0 - 0xF0)) (at + (i + 1)) (drop (i + 1) s))
 unfolding digitsOf
 digits-first d v at s i h l =
     let k : d - i ≡ suc (d - (i + 1)) = omega arith in
@@ -40,7 +44,7 @@ module _ (d v at : ℕ) (s : List ℕ) (i : ℕ) where
   unfolding digitsOf
   digits-end h = let k : d - i ≡ 0 = omega arith in rw k
 
-  pub digits-cut : i < d → length s ≤ i → digitsOf (d - i) v (at + i) (drop i s) ≡ refused (no 1 (at + i))
+  pub digits-cut : i < d → length s ≤ i → digitsOf (d - i) v (at + i) (drop i s) ≡ refused (faultAt 1 (at + i))
   unfolding digitsOf
   digits-cut h l = let k : d - i ≡ suc (d - (i + 1)) = omega arith in rw (k, drop-of-length-le s l)
 
@@ -50,7 +54,7 @@ module _ (d v at : ℕ) (s : List ℕ) (i : ℕ) where
   digits-on h l e = digits-first d v at s i h l ∙ rw e
 
   pub digits-stop : i < d → i < length s → lengthDigit (getD s i 0) ≡ false
-      → digitsOf (d - i) v (at + i) (drop i s) ≡ refused (no 4 (at + i))
+      → digitsOf (d - i) v (at + i) (drop i s) ≡ refused (faultAt 4 (at + i))
   unfolding unless
   digits-stop h l e = digits-first d v at s i h l ∙ rw e
 
@@ -74,14 +78,14 @@ digits-in zero v at s w e = let k = got-same e in (omega arith, omega arith)
 digits-in (suc d) v at s w e =
     let l = digits-last d v at s w e in
     let h = digits-in d v at s (l .0) (l .1) in
-    let t = digit-in (getD s d 0) (l .3) in
+    let t = digit-test (getD s d 0) .0 (l .3) in
     (omega arith, rw (pow-succ' 10 d) (omega (arith, h .1, l .4, t)))
 
 -- ---- bytes of decimal digits, from the i-th on
 module _ {A : Type 0} (at : ℕ) (s : List ℕ) (x : Reading A) where
   undecimal-first : (i : ℕ) → i < length s
       → unlessUndecimal (at + i) (drop i s) x
-      ≡ unless (not (decimal (getD s i 0))) (no 6 (at + i)) (unlessUndecimal (at + (i + 1)) (drop (i + 1) s) x)
+      ≡ unless (not (decimal (getD s i 0))) (faultAt 6 (at + i)) (unlessUndecimal (at + (i + 1)) (drop (i + 1) s) x)
   unfolding unlessUndecimal
   undecimal-first i l = let p : at + i + 1 ≡ at + (i + 1) = omega arith in rw (drop-cons s i 0 l, ← p, add-one i)
 
@@ -95,7 +99,7 @@ module _ {A : Type 0} (at : ℕ) (s : List ℕ) (x : Reading A) where
   undecimal-on i l e = undecimal-first i l ∙ rw e
 
   pub undecimal-stop : (i : ℕ) → i < length s → decimal (getD s i 0) ≡ false
-      → unlessUndecimal (at + i) (drop i s) x ≡ refused (no 6 (at + i))
+      → unlessUndecimal (at + i) (drop i s) x ≡ refused (faultAt 6 (at + i))
   unfolding unless
   undecimal-stop i l e = undecimal-first i l ∙ rw e
 
@@ -103,7 +107,7 @@ module _ {A : Type 0} (at : ℕ) (s : List ℕ) (x : Reading A) where
 pub value-in : (at a v : ℕ) (s w : List ℕ) → valueOf at a v s ≡ got w → (a + v ≤ length s) × (part a (a + v) s ≡ w)
 unfolding valueOf
 value-in at a v s w e =
-    let k = unless-got (ltb (length s) (a + v)) (no 1 (at + length s)) (got (part a (a + v) s)) w e in
+    let k = unless-got (ltb (length s) (a + v)) (faultAt 1 (at + length s)) (got (part a (a + v) s)) w e in
     (ltb-false (length s) (a + v) (k .0), got-same (k .1))
 
 -- where decimal digits are asked for they are there, and what is read is as without
@@ -111,7 +115,7 @@ pub undecimal-got : {A : Type 0} (at : ℕ) (s : List ℕ) (x : Reading A) (a : 
 unfolding unlessUndecimal Decimals
 undecimal-got at [] x a e = (tt, e)
 undecimal-got at (b ∷ s) x a e =
-    let k = unless-got (not (decimal b)) (no 6 at) (unlessUndecimal (at + 1) s x) a e in
+    let k = unless-got (not (decimal b)) (faultAt 6 at) (unlessUndecimal (at + 1) s x) a e in
     let h = undecimal-got (at + 1) s x a (k .1) in
     ((not-false (decimal b) (k .0), h .0), h .1)
 
@@ -161,8 +165,8 @@ pub field-got : (seen : List ℕ) (n at : ℕ) (s : List ℕ) (o : FieldRead) �
 unfolding fieldOf
 field-got seen n at s o e =
     let id = getD s 0 0 in
-    let k = unless-got (unknown (formatOf id)) (no 5 at) (unless (among seen id) (no 7 at) (fieldBy id n at s (formatOf id))) o e in
-    let j = unless-got (among seen id) (no 7 at) (fieldBy id n at s (formatOf id)) o (k .1) in
+    let k = unless-got (unknown (formatOf id)) (faultAt 5 at) (unless (among seen id) (faultAt 7 at) (fieldBy id n at s (formatOf id))) o e in
+    let j = unless-got (among seen id) (faultAt 7 at) (fieldBy id n at s (formatOf id)) o (k .1) in
     (k .0, j .0, j .1)
 
 pub field-in : (seen : List ℕ) (n at : ℕ) (s : List ℕ) (o : FieldRead) → fieldOf seen n at s ≡ got o → (1 ≤ o .size) × (o .size ≤ length s)

@@ -13,7 +13,7 @@ use Rattle.zvt_rules.specs.declared.Layout.the-variants.{Plain, List as 
 use Rattle.basics.specs.Lists.{among}
 use Rattle.zvt_rules.specs.Fields.{formatOf, holdsDigits}
 use Rattle.zvt_rules.specs.Message.{layoutOf}
-use Rattle.zvt_rules.specs.believed.Grids.{··, says, ids, lists, secured, LaidOut}
+use Rattle.zvt_rules.specs.believed.Grids.{··, cellSays, ids, lists, secured, LaidOut}
 use Rattle.basics.specs.believed.Lists.{In}
 use Rattle.basics.proofs.Tests.{true-false, pick-test, pick-false, or-test, no-for}
 use Rattle.basics.proofs.Lists.{in-none, in-first, in-more, Each, in-each}
@@ -34,9 +34,9 @@ pub grid : {A : Type 0} (f : ℕ → A) (cells : List A) (d : A) → drawn f 256
 grid f cells d e b h = let from-0 : b ≡ 0 + b = omega arith in rw (← e, drawn-at f d 256 0 b h) (ap f from-0)
 
 -- F2 and F5
-pub id-grid : (id : ℕ) → id < 256 → (formatOf id, holdsDigits id) ≡ says (getD ids id ··)
-unfolding drawn formatOf among ids says
-id-grid id h = grid (λ i. (formatOf i, holdsDigits i)) (map says ids) (says ··) refl id h ∙ List·getD-map says ids id ··
+pub id-grid : (id : ℕ) → id < 256 → (formatOf id, holdsDigits id) ≡ cellSays (getD ids id ··)
+unfolding drawn formatOf among ids cellSays
+id-grid id h = grid (λ i. (formatOf i, holdsDigits i)) (map cellSays ids) (cellSays ··) refl id h ∙ List·getD-map cellSays ids id ··
 
 -- ---- pairs
 -- a pair as one number

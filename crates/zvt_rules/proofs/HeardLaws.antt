@@ -31,7 +31,7 @@ use Rattle.zvt_rules.specs.believed.Values.{Is}
 use Rattle.zvt_rules.specs.Values.{statusIn, statusFields, statusOf}
 use Rattle.zvt_rules.specs.Answers.{headerIn, asHeaderAnswer, headerAnswer, asReadAnswer, readAnswer}
 use Rattle.zvt_rules.specs.Listed.{askedOf, fieldAnswer, nowhere, spanOf, spansOf, passwordIn, passwordSpan, placesAnswer}
-use Rattle.zvt_rules.specs.Heard.{firstOf, toldIn, toldAnswer, asHearAnswer, hearAnswer}
+use Rattle.zvt_rules.specs.Heard.{firstByte, toldIn, toldAnswer, asHearAnswer, hearAnswer}
 use Rattle.zvt_rules.proofs.Readings.{got-same, got-not-refused}
 use Rattle.zvt_rules.specs.believed.Found.{StandsBy}
 use Rattle.zvt_rules.proofs.Found.{stands-read, value-exactly, behind-password}
@@ -66,8 +66,8 @@ told-by s t e = go (readOf s) refl e
     go (got m) q h = (m, q, cc)
     go (refused f) q h = never cc
 
-begins : (x : Body) (c : ℕ) → firstOf x ≡ Code c → (w : List ℕ) × (x ≡ bytes (c ∷ w))
-unfolding firstOf
+begins : (x : Body) (c : ℕ) → firstByte x ≡ Code c → (w : List ℕ) × (x ≡ bytes (c ∷ w))
+unfolding firstByte
 begins (bytes []) c e = never cc
 begins (bytes (b ∷ w)) c e = (w, cc)
 begins (listed password fs) c e = never cc
@@ -80,7 +80,7 @@ module _ (s : List ℕ) (t : ToldBody) (e : toldAnswer (readOf s) ≡ Told t) wh
       sym (ap (λ (x : ToldBody). x .status) k) ∙ ap (λ (x : Reading Message). statusIn (statusFields x)) (sym q)
 
   pub first-heard : Bytes s → (c : ℕ) → (t .first ≡ Code c) ↔ ((m : Message) × (w : List ℕ) × Is s m × (m .body ≡ bytes (c ∷ w)))
-  unfolding toldIn firstOf toldAnswer
+  unfolding toldIn firstByte toldAnswer
   first-heard b c = (
     λ h.
         let (m, q, k) = told-by s t e in
@@ -88,7 +88,7 @@ module _ (s : List ℕ) (t : ToldBody) (e : toldAnswer (readOf s) ≡ Told t) wh
         (m, w, stands-read s b m .1 q, f),
     λ (m, w, is, f).
         let k : toldIn m ≡ t = cc (ap toldAnswer (stands-read s b m .0 is), e) in
-        sym (ap (λ (x : ToldBody). x .first) k) ∙ ap firstOf f,
+        sym (ap (λ (x : ToldBody). x .first) k) ∙ ap firstByte f,
   )
 
 -- ---- what a tape asks: each place is that of the field with its id, and the password lies at its own

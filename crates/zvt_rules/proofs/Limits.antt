@@ -4,7 +4,7 @@ use mathlib.Core.List.{List, [], _∷_}
 use Prim.Native.Nat.{ℕ, zero, suc}
 use lib.ListN.{replicate}
 use Rattle.basics.specs.Lists.{among}
-use Rattle.zvt_rules.specs.Reading.{got, refused, no, unplaced, unless, andThen}
+use Rattle.zvt_rules.specs.Reading.{got, refused, faultAt, unplaced, unless, andThen}
 use Rattle.zvt_rules.specs.Objects.{secondTag, tagSize, formSize, oneByteLen, twoByteLen, lenOf, headWith, headOf, runBy, oneBy, runOf, countObj, countObjs}
 use Rattle.zvt_rules.specs.Fields.{formatOf, unknown, fieldId, countField, countFields, valueOf, containerOf, fieldBy, fieldOf, listBy, listOf}
 use Rattle.zvt_rules.specs.Message.{longLength, lengthOf, headerWith, headerOf, layoutOf, bodyOf, Message, messageOf, wholeHeader, readOf}
@@ -28,9 +28,9 @@ objects (suc n) = 0x07 ∷ 0x00 ∷ objects n
 -- depth 4."; the one at depth 5 begins at byte 13
 pub object-limits :
     Reads (0x04 ∷ 0x0F ∷ 0x83 ∷ 0x06 ∷ 0x81 ∷ 0x80 ∷ objects 64)
-    × (readOf (0x04 ∷ 0x0F ∷ 0x85 ∷ 0x06 ∷ 0x81 ∷ 0x82 ∷ objects 65) ≡ refused (no 10 134))
+    × (readOf (0x04 ∷ 0x0F ∷ 0x85 ∷ 0x06 ∷ 0x81 ∷ 0x82 ∷ objects 65) ≡ refused (faultAt 10 134))
     × Reads (0x04 ∷ 0x0F ∷ 0x0A ∷ 0x06 ∷ 0x08 ∷ 0x20 ∷ 0x06 ∷ 0x20 ∷ 0x04 ∷ 0x20 ∷ 0x02 ∷ 0x07 ∷ 0x00 ∷ [])
-    × (readOf (0x04 ∷ 0x0F ∷ 0x0C ∷ 0x06 ∷ 0x0A ∷ 0x20 ∷ 0x08 ∷ 0x20 ∷ 0x06 ∷ 0x20 ∷ 0x04 ∷ 0x20 ∷ 0x02 ∷ 0x07 ∷ 0x00 ∷ []) ≡ refused (no 9 13))
+    × (readOf (0x04 ∷ 0x0F ∷ 0x0C ∷ 0x06 ∷ 0x0A ∷ 0x20 ∷ 0x08 ∷ 0x20 ∷ 0x06 ∷ 0x20 ∷ 0x04 ∷ 0x20 ∷ 0x02 ∷ 0x07 ∷ 0x00 ∷ []) ≡ refused (faultAt 9 13))
 unfolding unless andThen among secondTag tagSize formSize oneByteLen twoByteLen lenOf headWith headOf runBy oneBy runOf countObj countObjs
     formatOf unknown fieldId countField countFields valueOf containerOf fieldBy fieldOf listBy listOf
     longLength lengthOf headerWith headerOf layoutOf bodyOf messageOf wholeHeader readOf objects

@@ -19,16 +19,16 @@ use Rattle.basics.specs.believed.Lists.{Bytes}
 use Rattle.zvt_rules.specs.believed.Grammar.{MessageOk}
 use Rattle.zvt_rules.specs.Values.{bodyFields}
 use Rattle.basics.specs.Text.{hexText, decimalText}
-use Rattle.zvt_rules.specs.Listing.{idsText, bodyIds, formText, startText, sizeText, messageText, endText, okText, refusedText, lineAnd, linesFrom, listing}
+use Rattle.zvt_rules.specs.Listing.{idsText, bodyIds, idsOf, shortOrLong, startText, sizeText, messageText, endText, okText, refusedText, lineAnd, linesFrom, listing}
 use Rattle.basics.specs.believed.Text.{ascii}
-use Rattle.zvt_rules.specs.believed.Listing.{words, Ids, Form, Line, Last, Lists, Listing}
+use Rattle.zvt_rules.specs.believed.Listing.{words, Ids, ShortOrLong, Line, Last, Lists, Listing}
 use Rattle.basics.proofs.Tests.{by-test, true-false, pick-test}
 use Rattle.zvt_rules.proofs.ObjectBytes.{bytes-drop, bytes-take}
 use Rattle.zvt_rules.proofs.MessageBytes.{first-sound, first-complete, message-size}
 use Rattle.zvt_rules.proofs.MessageShort.{short-exactly}
 use Rattle.zvt_rules.proofs.Numbers.{first-numbers}
 use Rattle.zvt_rules.proofs.Found.{list-ends}
-use Rattle.basics.proofs.Text.{hex-only, hex-is, decimal-exactly, decimal-one, decimal-more}
+use Rattle.basics.proofs.Text.{hex-only, hex-is, decimal-exactly, decimal-one, decimal-more, decimal-long}
 
 -- ---- the lines from a place on
 passed : (count left : ℕ) (s : List ℕ) → linesFrom count left s ≡ linesFrom count 0 (drop left s)
@@ -106,19 +106,19 @@ unfoldable formWord : Bool → List ℕ
 formWord true = ascii "short"
 formWord false = ascii "long"
 
-form-text : (t : Bool) → formText t ≡ 32 ∷ formWord t
-unfolding formText formWord
+form-text : (t : Bool) → shortOrLong t ≡ 32 ∷ formWord t
+unfolding shortOrLong formWord
 form-text true = refl
 form-text false = refl
 
-form-only : (m : Message) (w : List ℕ) → MessageOk m → Form m w → w ≡ formWord (isShort m)
-unfolding Form formWord
+form-only : (m : Message) (w : List ℕ) → MessageOk m → ShortOrLong m w → w ≡ formWord (isShort m)
+unfolding ShortOrLong formWord
 form-only m w ok =
     ⊎-elim (λ (e, k). rw (short-exactly m ok .0 e) k)
     (λ (n, k). by-test (isShort m) (λ t. absurd (n (short-exactly m ok .1 t))) (λ t. rw t k))
 
-form-is : (m : Message) → MessageOk m → Form m (formWord (isShort m))
-unfolding Form formWord
+form-is : (m : Message) → MessageOk m → ShortOrLong m (formWord (isShort m))
+unfolding ShortOrLong formWord
 form-is m ok =
     by-test (isShort m) (λ t. inl (short-exactly m ok .1 t, rw t)) (λ t. inr (λ e. true-false (short-exactly m ok .0 e) t, rw t))
 
@@ -131,7 +131,7 @@ line-words n m =
     let pair = hexText (m .class) ++ hexText (m .instruction) in
     let size = decimalText (length (bodyBytes (m .body))) in
     let ids = bodyIds (m .body) in
-    let form = formText (isShort m) in
+    let form = shortOrLong (isShort m) in
     let behind : (size ++ form) ++ ids ≡ size ++ (32 ∷ (formWord (isShort m) ++ ids)) =
     append-assoc size form ids ∙ ap (λ (w : List ℕ). size ++ (w ++ ids)) (form-text (isShort m)) in
     words-spaced _ _
@@ -265,14 +265,6 @@ listing-exactly s t b = (
 )
 
 -- ---- how long it is
-decimal-long : (k n : ℕ) → n < 10 ^ suc k → length (decimalText n) ≤ suc k
-decimal-long zero n h = omega (arith, ap length (decimal-one n h))
-decimal-long (suc k) n h =
-    by-test (ltb n 10) (λ t. omega (arith, ap length (decimal-one n (ltb-true n 10 t))))
-    (λ t.
-    let less : n / 10 < 10 ^ suc k = omega arith in
-    omega (arith, ap length (decimal-more n (ltb-false n 10 t)), length-append (decimalText (n / 10)) ((48 + n % 10) ∷ []), decimal-long k (n / 10) less))
-
 -- no number has more digits than its value and one
 decimal-few : (f n : ℕ) → n < f → length (decimalText n) ≤ n + 1
 decimal-few zero n h = absurd (omega arith)
@@ -296,8 +288,17 @@ ids-few (listed password fs) = omega (arith, length-append password (listBytes f
     go [] = omega arith
     go (f ∷ fs) = omega (arith, some f, length-append (fieldBytes f) (listBytes fs), go fs)
 
-form-long : (t : Bool) → length (formText t) ≤ 6
-unfolding formText
+-- the ids of the message that bytes begin with
+pub ids-long : (s : List ℕ) → Bytes s → length (idsOf (firstOf s)) ≤ 3 * length s
+unfolding idsOf
+ids-long s b = go (firstOf s) refl
+  where
+    go : (x : Reading Message) → firstOf s ≡ x → length (idsOf x) ≤ 3 * length s
+    go (got m) e = omega (arith, ids-few (m .body), message-size m, first-within s b m e)
+    go (refused f) e = omega arith
+
+pub form-long : (t : Bool) → length (shortOrLong t) ≤ 6
+unfolding shortOrLong
 form-long true = omega arith
 form-long false = omega arith
 
@@ -317,7 +318,7 @@ line-long n m h =
       length-append start (behind ++ ids),
       length-append (decimalText n) (32 ∷ (hexText (m .class) ++ hexText (m .instruction))),
       length-append behind ids,
-      length-append (decimalText size) (formText (isShort m)),
+      length-append (decimalText size) (shortOrLong (isShort m)),
       decimal-long 4 n h,
       decimal-few (suc size) size (omega arith),
       form-long (isShort m),

@@ -218,7 +218,7 @@ message-size m =
     let w = bodyBytes (m .body) in
     omega (arith, length-append (lengthBytes (m .long) (length w)) w, lengthBytes-size (m .long) (length w))
 
-length-most : (long : Bool) (v : ℕ) → LengthOk long v → v ≤ mostBody
+pub length-most : (long : Bool) (v : ℕ) → LengthOk long v → v ≤ mostBody
 unfolding LengthOk
 length-most false v ok = omega arith
 length-most true v ok = ok

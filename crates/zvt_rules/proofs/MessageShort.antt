@@ -24,7 +24,7 @@ use Rattle.zvt_rules.proofs.Readings.{got-same, then-got, then-on}
 use Rattle.basics.proofs.Tests.{by-test}
 use Rattle.zvt_rules.proofs.FieldReading.{header-most}
 use Rattle.zvt_rules.proofs.FieldShort.{list-shorter, list-short-ok, list-count, list-same, list-short, list-kept, list-strict}
-use Rattle.zvt_rules.proofs.MessageBytes.{message-size, read-sound, read-complete}
+use Rattle.zvt_rules.proofs.MessageBytes.{message-size, length-most, read-sound, read-complete}
 
 -- ---- a body
 fields-short-ok : (fs : List Field) → FieldsOk fs → FieldsOk (shortList fs)
@@ -89,11 +89,6 @@ pub body-exactly : (l : Layout) (b : Body) → LayoutOk l b
 body-exactly l b ok = (body-strict l b ok, λ e. ap (λ (x : Body). length (bodyBytes x)) (body-kept l b ok e))
 
 -- ---- the shortest form of a body's length
-pub length-bound : (long : Bool) (v : ℕ) → LengthOk long v → v ≤ mostBody
-unfolding LengthOk
-length-bound false v ok = omega arith
-length-bound true v ok = ok
-
 shortest-ok : (v : ℕ) → v ≤ mostBody → LengthOk (leb 255 v) v
 unfolding LengthOk
 shortest-ok v h = by-test (leb 255 v) (λ e. rw e h) (λ e. rw e (leb-false 255 v e))
@@ -114,7 +109,7 @@ unfolding MessageOk shortMessage
 short-ok m ok =
     let l = layoutOf (m .class) (m .instruction) in
     let w = length (bodyBytes (shortBody (m .body))) in
-    let v = length-bound (m .long) (length (bodyBytes (m .body))) (ok .1) in
+    let v = length-most (m .long) (length (bodyBytes (m .body))) (ok .1) in
     (body-short-ok l (m .body) (ok .0), shortest-ok w (omega (arith, body-shorter l (m .body) (ok .0))))
 
 pub same-values : (m : Message) → SameValues m (shortMessage m)

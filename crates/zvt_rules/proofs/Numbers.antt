@@ -14,7 +14,7 @@ use Rattle.zvt_rules.specs.declared.Layout.{Layout}
 use Rattle.zvt_rules.specs.declared.Layout.the-variants.{Plain, List as FieldList, Secured}
 use Rattle.basics.specs.Choice.{pick}
 use Rattle.basics.specs.Lists.{part}
-use Rattle.zvt_rules.specs.Reading.{Reading, got, refused, no as no-at, unless, andThen}
+use Rattle.zvt_rules.specs.Reading.{Reading, got, refused, faultAt, unless, andThen}
 use Rattle.zvt_rules.specs.Objects.{longTag, nested, secondTag, tagSize, oneByteLen, twoByteLen, lenOf, from, to, headWith, headOf, runBy, oneBy, runOf, oneOf}
 use Rattle.zvt_rules.specs.Fields.{digitsOf, unlessUndecimal, holdsDigits, digitsIn, valueOf, plainOf, containerOf, fieldBy, fieldOf, listBy, listOf}
 use Rattle.zvt_rules.specs.Message.{longLength, lengthOf, headerWith, headerOf, securedOf, bodyOf, messageOf, wholeHeader, firstOf, readOf}
@@ -203,7 +203,7 @@ first-numbers s f e = small-number f (small-then _ _ (header-small s) λ h. smal
 
 -- ---- fuel: where it is spent the answer is a refusal with 0, and no run, no object and no list is refused with 0
 pub spent : (left n at : ℕ) (seen s : List ℕ)
-    → (runBy 0 left n at s ≡ refused (no-at 0 at)) × (oneBy 0 left n at s ≡ refused (no-at 0 at)) × (listBy 0 seen n at s ≡ refused (no-at 0 at))
+    → (runBy 0 left n at s ≡ refused (faultAt 0 at)) × (oneBy 0 left n at s ≡ refused (faultAt 0 at)) × (listBy 0 seen n at s ≡ refused (faultAt 0 at))
 unfolding runBy oneBy listBy
 spent left n at seen s = (refl, refl, refl)
 

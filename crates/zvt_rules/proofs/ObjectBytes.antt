@@ -10,7 +10,7 @@ use lib.ListN.{length, getD, take, drop, length-append, length-drop, take-append
 use lib.Seq.{getD-drop, take-add, take-append-seam, drop-append-seam, drop-append-add, drop-at}
 use borrow.Author.Tests.{lt-leb, ne-eqb, le-ltb}
 use Rattle.basics.specs.Lists.{part}
-use Rattle.zvt_rules.specs.Reading.{Reading, got, no, unless}
+use Rattle.zvt_rules.specs.Reading.{Reading, got, faultAt, unless}
 use Rattle.zvt_rules.specs.Limits.{mostObjects}
 use Rattle.zvt_rules.specs.Objects.{longTag, topBit, nested, secondTag, tagSize, Form, formSize, lenOf, Head, from, to, headWith, headOf, Obj, leaf, branch, Objs, none, more, OneRead, RunRead, runOf, oneOf, countObj, countObjs}
 use Rattle.zvt_rules.specs.believed.Writing.{lenBytes, sized, objBytes, runBytes}
@@ -41,7 +41,7 @@ second-sound : (at b : ℕ) (s : List ℕ) (k : ℕ) → longTag b ≡ true → 
 unfolding secondTag TagOk
 second-sound at b [] k t e = absurd (got-not-refused (sym e))
 second-sound at b (c ∷ s) k t e =
-    let g = unless-got (topBit c) (no 8 at) (got 2) k e in
+    let g = unless-got (topBit c) (faultAt 8 at) (got 2) k e in
     subst (λ (m : ℕ). TagOk (take m (b ∷ (c ∷ s))) (nested b)) (got-same (g .1)) (t, g .0, refl)
 
 pub tag-sound : (at : ℕ) (s : List ℕ) (k : ℕ) → tagSize at s ≡ got k → TagOk (take k s) (nested (getD s 0 0))

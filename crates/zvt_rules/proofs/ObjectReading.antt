@@ -11,7 +11,7 @@ use lib.Dec.{ltb, leb, eqb}
 use borrow.Author.Tests.{ltb-false, leb-false, eqb-false}
 use Rattle.basics.specs.Choice.{pick}
 use Rattle.basics.specs.Lists.{part}
-use Rattle.zvt_rules.specs.Reading.{Reading, got, no, unless, andThen}
+use Rattle.zvt_rules.specs.Reading.{Reading, got, faultAt, unless, andThen}
 use Rattle.zvt_rules.specs.Limits.{mostObjects}
 use Rattle.zvt_rules.specs.Objects.{longTag, topBit, nested, secondTag, tagSize, formSize, Len, oneByteLen, twoByteLen, lenOf, Head, from, to, headWith, headOf, Obj, none, more, OneRead, RunRead, leafOf, branchOf, runBy, oneBy, runOf, oneOf}
 use Rattle.basics.proofs.Tests.{pick-test}
@@ -28,7 +28,7 @@ part-length s a e h l = omega (arith, length-take (e - a) (drop a s), length-dro
 second-in : (at : ℕ) (s : List ℕ) (k : ℕ) → secondTag at s ≡ got k → (k ≡ 2) × (1 ≤ length s)
 unfolding secondTag
 second-in at [] k e = absurd (got-not-refused (sym e))
-second-in at (b ∷ s) k e = (got-same (sym (unless-got (topBit b) (no 8 at) (got 2) k e .1)), omega arith)
+second-in at (b ∷ s) k e = (got-same (sym (unless-got (topBit b) (faultAt 8 at) (got 2) k e .1)), omega arith)
 
 pub tag-in : (at : ℕ) (s : List ℕ) (k : ℕ) → tagSize at s ≡ got k → (1 ≤ k) × (k ≤ length s)
 unfolding tagSize
@@ -93,7 +93,7 @@ inside run left n at s h =
 
 abbrev object : RunReader → ℕ → ℕ → ℕ → List ℕ → Reading OneRead
 object run left n at s =
-    unless (leb mostObjects n) (no 10 at) (unless (eqb left 0) (no 9 at) (andThen (headOf at s) λ h. inside run left n at s h))
+    unless (leb mostObjects n) (faultAt 10 at) (unless (eqb left 0) (faultAt 9 at) (andThen (headOf at s) λ h. inside run left n at s h))
 
 -- what an object that was read says
 abbrev pub Inside : RunReader → ℕ → ℕ → ℕ → List ℕ → OneRead → Head → Type 0
@@ -120,8 +120,8 @@ inside-got run left n at s h o =
 
 object-got : (run : RunReader) (left n at : ℕ) (s : List ℕ) (o : OneRead) → object run left n at s ≡ got o → ObjRead run left n at s o
 object-got run left n at s o e =
-    let c = unless-got (leb mostObjects n) (no 10 at) _ o e in
-    let d = unless-got (eqb left 0) (no 9 at) _ o (c .1) in
+    let c = unless-got (leb mostObjects n) (faultAt 10 at) _ o e in
+    let d = unless-got (eqb left 0) (faultAt 9 at) _ o (c .1) in
     let h = then-got (headOf at s) _ o (d .1) in
     let z = eqb-false left 0 (d .0) in
     record { room = leb-false mostObjects n (c .0); deep = omega arith; head = h .0; read = h .1; inside = inside-got run left n at s (h .0) o (h .2) }
@@ -150,7 +150,7 @@ Agree p q s = (l m a : ℕ) (t : List ℕ) → length t + 2 ≤ length s → p l
 
 object-alike : (p q : RunReader) (left n at : ℕ) (s : List ℕ) → Agree p q s → object p left n at s ≡ object q left n at s
 object-alike p q left n at s f =
-    ap (λ (x : Reading OneRead). unless (leb mostObjects n) (no 10 at) (unless (eqb left 0) (no 9 at) x))
+    ap (λ (x : Reading OneRead). unless (leb mostObjects n) (faultAt 10 at) (unless (eqb left 0) (faultAt 9 at) x))
     (then-alike (headOf at s) _ _ (λ h e.
     let i = head-in at s h e in
     rw (f (left - 1) (n + 1) (at + from h) (part (from h) (to h) s) (omega (arith, part-length s (from h) (to h) (omega arith) (i .2))))))
@@ -208,7 +208,7 @@ run-step left n at (b ∷ s) h =
 
 pub one-step : (left n at : ℕ) (s : List ℕ)
     → oneOf left n at s
-    ≡ unless (leb mostObjects n) (no 10 at) (unless (eqb left 0) (no 9 at) (andThen (headOf at s) λ h. inside runOf left n at s h))
+    ≡ unless (leb mostObjects n) (faultAt 10 at) (unless (eqb left 0) (faultAt 9 at) (andThen (headOf at s) λ h. inside runOf left n at s h))
 unfolding runOf oneOf oneBy
 one-step left n at s =
     object-alike (λ l m a t. runBy (length s) l m a t) runOf left n at s

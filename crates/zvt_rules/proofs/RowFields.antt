@@ -13,7 +13,7 @@ use Rattle.zvt_rules.specs.declared.Refusal.{Refusal}
 use Rattle.zvt_rules.specs.declared.Format.{Format}
 use Rattle.zvt_rules.specs.declared.Format.the-variants.{Unknown, Fixed, Digits, Container}
 use Rattle.basics.specs.Lists.{among}
-use Rattle.zvt_rules.specs.Reading.{Reading, got, refused, no, unless}
+use Rattle.zvt_rules.specs.Reading.{Reading, got, refused, faultAt, unless}
 use Rattle.zvt_rules.specs.Objects.{Form, formSize, lenOf, runOf}
 use Rattle.zvt_rules.specs.Fields.{formatOf, unknown, lengthDigit, digitsOf, decimal, unlessUndecimal, holdsDigits, digitsIn, Field, plain, fieldId, countField, valueOf, plainOf, containerOf, fieldBy, fieldOf, listOf}
 use Rattle.zvt_rules.specs.believed.Writing.{lenBytes, sized, digitBytes, lengthIn, fieldBytes}
@@ -21,24 +21,18 @@ use Rattle.basics.specs.believed.Lists.{Bytes}
 use Rattle.zvt_rules.specs.believed.Grammar.{FormOk, Decimals, SizeOk, FieldOk}
 use Rattle.zvt_rules.specs.believed.Digits.{Number, Says}
 use Rattle.zvt_rules.specs.believed.Rows.{Cut, RunNo, New, Undecimal, ListNo, noField, twice, short, noDigit, undecimal, sizedIn, inside, behind}
-use Rattle.basics.proofs.Tests.{by-test, pick-true, leb-test, leb-fails, and-test, nand-test, fails, never}
+use Rattle.basics.proofs.Tests.{by-test, pick-true, leb-fails, nand-test, fails, never}
 use Rattle.zvt_rules.proofs.Readings.{unless-on, then-on, then-stop}
 use Rattle.zvt_rules.proofs.ObjectReading.{part-length}
 use Rattle.zvt_rules.proofs.Lengths.{lenBytes-size, len-sound, len-written}
 use Rattle.zvt_rules.proofs.ObjectBytes.{bytes-drop, bytes-part}
-use Rattle.zvt_rules.proofs.FieldReading.{digits-in, value-in, field-in, field-got, list-none, list-step}
+use Rattle.zvt_rules.proofs.FieldReading.{digit-test, digit-fails, digits-in, value-in, field-in, field-got, list-none, list-step}
 use Rattle.zvt_rules.proofs.FieldBytes.{digitBytes-size, digits-written, digits-sound, cut, value-back, back-within, back, field-by, six, container-id, begins, field-sound, field-complete}
 use Rattle.basics.proofs.Lists.{among-exactly}
 use Rattle.zvt_rules.proofs.RowReadings.{Told, is, not, told-unless, moved, placed, told-pick, told-then, told-as, filled}
 use Rattle.zvt_rules.proofs.RowObjects.{SizedRead, sized-read, len-told, value-short, run-refused, run-told}
 
 -- ---- the tests of single bytes and ids, as the rows say them
-digit-test : (b : ℕ) → (lengthDigit b ≡ true) ↔ ((0xF0 ≤ b) × (b ≤ 0xF9))
-digit-test b = and-test (leb-test 0xF0 b) (leb-test b 0xF9)
-
-digit-fails : (b : ℕ) → (lengthDigit b ≡ false) ↔ ((b < 0xF0) ⊎ (0xF9 < b))
-digit-fails b = nand-test (leb-fails 0xF0 b) (leb-fails b 0xF9)
-
 decimal-fails : (b : ℕ) → (decimal b ≡ false) ↔ Undecimal b
 decimal-fails b = nand-test (leb-fails (b / 16) 9) (leb-fails (b % 16) 9)
 
@@ -55,7 +49,7 @@ unknown-test Container = (λ e. absurd (false≢true e), λ e. never cc)
 -- ---- what a row says is refused
 -- the first byte that is not decimal
 pub undecimal-stops : {A : Type 0} (at : ℕ) (front : List ℕ) (b : ℕ) (s : List ℕ) (x : Reading A) → Decimals front → Undecimal b
-    → unlessUndecimal at (front ++ (b ∷ s)) x ≡ refused (no 6 (at + length front))
+    → unlessUndecimal at (front ++ (b ∷ s)) x ≡ refused (faultAt 6 (at + length front))
 unfolding unlessUndecimal Decimals unless
 undecimal-stops at [] b s x h e = let z : at ≡ at + 0 = omega arith in rw (decimal-fails b .1 e) (moved 6 z)
 undecimal-stops at (c ∷ front) b s x h e =
@@ -81,7 +75,7 @@ said-digits (b ∷ s) v (d, m, k, e, r) = ((omega arith, omega arith), said-digi
 
 -- the first byte that is no length digit, and length digits that break off
 digits-stop : (d v at : ℕ) (front : List ℕ) (b : ℕ) (s : List ℕ) → LengthDigits front → length front < d → ((b < 0xF0) ⊎ (0xF9 < b))
-    → digitsOf d v at (front ++ (b ∷ s)) ≡ refused (no 4 (at + length front))
+    → digitsOf d v at (front ++ (b ∷ s)) ≡ refused (faultAt 4 (at + length front))
 unfolding digitsOf LengthDigits unless
 digits-stop zero v at front b s h l e = absurd (omega arith)
 digits-stop (suc d) v at [] b s h l e = let z : at ≡ at + 0 = omega arith in rw (digit-fails b .1 e) (moved 4 z)
@@ -89,7 +83,7 @@ digits-stop (suc d) v at (c ∷ front) b s h l e =
     let z : at + 1 + length front ≡ at + suc (length front) = omega arith in
     rw (digit-test c .1 (h .0)) (digits-stop d _ (at + 1) front b s (h .1) (omega arith) e ∙ moved 4 z)
 
-digits-out : (d v at : ℕ) (s : List ℕ) → LengthDigits s → length s < d → digitsOf d v at s ≡ refused (no 1 (at + length s))
+digits-out : (d v at : ℕ) (s : List ℕ) → LengthDigits s → length s < d → digitsOf d v at s ≡ refused (faultAt 1 (at + length s))
 unfolding digitsOf LengthDigits unless
 digits-out zero v at s h l = absurd (omega arith)
 digits-out (suc d) v at [] h l = let z : at ≡ at + 0 = omega arith in moved 1 z
@@ -115,13 +109,13 @@ digitBytes-are zero v = tt
 digitBytes-are (suc d) v = digits-join (digitBytes d (v / 10)) _ (digitBytes-are d (v / 10)) ((omega arith, omega arith), tt)
 
 -- a value that is cut
-plain-short : (id n at a v : ℕ) (s : List ℕ) → length s < a + v → plainOf id n at a v s ≡ refused (no 1 (at + length s))
+plain-short : (id n at a v : ℕ) (s : List ℕ) → length s < a + v → plainOf id n at a v s ≡ refused (faultAt 1 (at + length s))
 unfolding plainOf valueOf unless
 plain-short id n at a v s l = then-stop _ _ (rw (lt-ltb (length s) (a + v) l))
 
 -- length or value that are cut, by the format
 by-short : (id n at : ℕ) (s : List ℕ) (f : Format) (w m : List ℕ) → SizeOk f (length w) → 0 < length m → s ++ m ≡ lengthIn f (length w) ++ w
-    → fieldBy id n at (id ∷ s) f ≡ refused (no 1 (at + length (id ∷ s)))
+    → fieldBy id n at (id ∷ s) f ≡ refused (faultAt 1 (at + length (id ∷ s)))
 unfolding SizeOk lengthIn fieldBy
 by-short id n at s Unknown w m ok l e = absurd ok
 by-short id n at s (Fixed k) w m ok l e = plain-short id n at 1 k (id ∷ s) (omega (arith, length-append s m, ap length e))
@@ -158,7 +152,7 @@ plain-at id n at p value rest d size =
 by-undecimal : (id n at : ℕ) (f : Format) (front : List ℕ) (b : ℕ) (tail s : List ℕ) → SizeOk f (length (front ++ (b ∷ tail)))
     → holdsDigits id ≡ true → Decimals front → Undecimal b
     → fieldBy id n at (id ∷ ((lengthIn f (length (front ++ (b ∷ tail))) ++ (front ++ (b ∷ tail))) ++ s)) f
-    ≡ refused (no 6 (at + length (id ∷ (lengthIn f (length (front ++ (b ∷ tail))) ++ front))))
+    ≡ refused (faultAt 6 (at + length (id ∷ (lengthIn f (length (front ++ (b ∷ tail))) ++ front))))
 unfolding SizeOk lengthIn fieldBy digitsIn
 by-undecimal id n at Unknown front b tail s ok h ds e = absurd ok
 by-undecimal id n at (Fixed k) front b tail s ok h ds e =
@@ -228,15 +222,15 @@ sized-known Container v ok = refl
 -- each row of a list
 pub list-refused : {seen : List ℕ} {n at : ℕ} {s : List ℕ} {r : Refusal} → ListNo seen n at s r → listOf seen n at s ≡ refused r
 unfolding fieldOf unless unknown fieldBy fieldBytes
-list-refused {seen} {n} {at} (noField {id = id} {s = s} e) = list-stop seen n at id s (no 5 at) (rw e)
+list-refused {seen} {n} {at} (noField {id = id} {s = s} e) = list-stop seen n at id s (faultAt 5 at) (rw e)
 list-refused {seen} {n} {at} (twice {id = id} {s = s} known e) =
-    list-stop seen n at id s (no 7 at) (rw (fails (unknown-test (formatOf id)) .1 known, among-exactly seen id .1 e))
+    list-stop seen n at id s (faultAt 7 at) (rw (fails (unknown-test (formatOf id)) .1 known, among-exactly seen id .1 e))
 list-refused {seen} {n} {at} (short {id = id} {s = s} value new ok c) =
-    list-by seen n at id s (no 1 (at + length (id ∷ s))) (sized-known (formatOf id) (length value) ok) new
+    list-by seen n at id s (faultAt 1 (at + length (id ∷ s))) (sized-known (formatOf id) (length value) ok) new
     (by-short id n at s (formatOf id) value (c .missing) ok (c .some) (c .joined))
 list-refused {seen} {n} {at} (noDigit {id = id} {d = d} front v b s new f l h e) =
     let z : at + 1 + length front ≡ at + suc (length front) = omega arith in
-    list-by seen n at id (front ++ (b ∷ s)) (no 4 (at + length (id ∷ front))) (rw f) new
+    list-by seen n at id (front ++ (b ∷ s)) (faultAt 4 (at + length (id ∷ front))) (rw f) new
     (rw f (then-stop _ _ (digits-stop d 0 (at + 1) front b s (said-digits front v h) l e ∙ moved 4 z)))
 list-refused {seen} {n} {at} (undecimal id front b tail s new ok h ds e) =
     list-by seen n at id _ _ (sized-known (formatOf id) (length (front ++ (b ∷ tail))) ok) new
@@ -256,9 +250,9 @@ list-refused {seen} {n} {at} {r = r} (behind {s = s} f ok new few h) =
 -- ---- what is refused a row says
 -- length digits
 data DigitsNo : ℕ → ℕ → List ℕ → Refusal → Type 0 where
-  out : {d at : ℕ} {s : List ℕ} → LengthDigits s → length s < d → DigitsNo d at s (no 1 (at + length s))
+  out : {d at : ℕ} {s : List ℕ} → LengthDigits s → length s < d → DigitsNo d at s (faultAt 1 (at + length s))
   bad : {d at : ℕ} (front : List ℕ) (b : ℕ) (s : List ℕ) → LengthDigits front → length front < d → ((b < 0xF0) ⊎ (0xF9 < b))
-      → DigitsNo d at (front ++ (b ∷ s)) (no 4 (at + length front))
+      → DigitsNo d at (front ++ (b ∷ s)) (faultAt 4 (at + length front))
 
 -- a digit before them moves the place by one
 one-more : {d at : ℕ} {s : List ℕ} {r : Refusal} (b : ℕ) → (0xF0 ≤ b) × (b ≤ 0xF9) → DigitsNo d (at + 1) s r → DigitsNo (suc d) at (b ∷ s) r
@@ -276,10 +270,10 @@ unfolding digitsOf LengthDigits
 digits-told zero v at s = is v
 digits-told (suc d) v at [] =
     let z : at + 0 ≡ at = omega arith in
-    not (no 1 at) (placed (DigitsNo (suc d) at []) 1 z (out {s = []} tt (omega arith)))
+    not (faultAt 1 at) (placed (DigitsNo (suc d) at []) 1 z (out {s = []} tt (omega arith)))
 digits-told (suc d) v at (b ∷ s) =
     let z : at + 0 ≡ at = omega arith in
-    told-unless (inverse (lengthDigit b)) (no 4 at)
+    told-unless (inverse (lengthDigit b)) (faultAt 4 at)
     (λ t. placed (DigitsNo (suc d) at (b ∷ s)) 4 z (bad [] b s tt (omega arith) (digit-fails b .0 (not-true (lengthDigit b) t))))
     (λ t. told-as (digits-told d _ (at + 1) s) (λ r. one-more b (digit-test b .0 (not-false (lengthDigit b) t))))
 
@@ -313,7 +307,7 @@ out-row d s h l =
 
 -- decimal digits
 pub data UndecimalNo : ℕ → List ℕ → Refusal → Type 0 where
-  first : {at : ℕ} (front : List ℕ) (b : ℕ) (s : List ℕ) → Decimals front → Undecimal b → UndecimalNo at (front ++ (b ∷ s)) (no 6 (at + length front))
+  first : {at : ℕ} (front : List ℕ) (b : ℕ) (s : List ℕ) → Decimals front → Undecimal b → UndecimalNo at (front ++ (b ∷ s)) (faultAt 6 (at + length front))
 
 one-more-decimal : {at : ℕ} {s : List ℕ} {r : Refusal} (b : ℕ) → decimal b ≡ true → UndecimalNo (at + 1) s r → UndecimalNo at (b ∷ s) r
 unfolding Decimals
@@ -328,8 +322,8 @@ unfolding unlessUndecimal Decimals
 undecimal-told at [] x m g = g tt
 undecimal-told at (b ∷ s) x m g =
     let z : at + 0 ≡ at = omega arith in
-    told-unless (inverse (decimal b)) (no 6 at)
-    (λ t. m (no 6 at) (placed (UndecimalNo at (b ∷ s)) 6 z (first [] b s tt (decimal-fails b .0 (not-true (decimal b) t)))))
+    told-unless (inverse (decimal b)) (faultAt 6 at)
+    (λ t. m (faultAt 6 at) (placed (UndecimalNo at (b ∷ s)) 6 z (first [] b s tt (decimal-fails b .0 (not-true (decimal b) t)))))
     (λ t.
     let e = not-false (decimal b) t in
     undecimal-told (at + 1) s x (λ r h. m r (one-more-decimal b e h)) (λ h. g (e, h)))
@@ -344,7 +338,7 @@ undecimal-row {seen} {n} {at} {d} {t = t} id s new ok h e size (first front b ta
     let head = lengthIn (formatOf id) (length value) in
     let z : at + suc (length (head ++ front)) ≡ at + (1 + d) + length front = omega (arith, length-append head front) in
     placed (ListNo seen n at (id ∷ t)) 6 z
-    (subst (λ (x : List ℕ). ListNo seen n at x (no 6 (at + suc (length (head ++ front))))) e (undecimal id front b tail s new ok h ds f))
+    (subst (λ (x : List ℕ). ListNo seen n at x (faultAt 6 (at + suc (length (head ++ front))))) e (undecimal id front b tail s new ok h ds f))
 
 -- a plain value
 plain-told : (seen : List ℕ) (id n at d v : ℕ) (t : List ℕ) → New seen id → SizeOk (formatOf id) v
@@ -353,7 +347,7 @@ unfolding plainOf valueOf digitsIn fieldBytes
 plain-told seen id n at d v t new ok p l =
     let s = id ∷ t in
     told-then _
-    (told-unless (ltb (length s) (1 + d + v)) (no 1 (at + length s))
+    (told-unless (ltb (length s) (1 + d + v)) (faultAt 1 (at + length s))
     (λ u.
     let less : length t < d + v = omega (arith, ltb-true (length s) (1 + d + v) u) in
     let f = filled (lengthIn (formatOf id) v) t d v p l less in
@@ -406,7 +400,7 @@ container-told seen n at t new b =
     let a = 1 + formSize (l .form) in
     let w = len-sound (at + 1) t l bs e in
     told-then _
-    (told-unless (ltb (length s) (a + l .value)) (no 1 (at + length s))
+    (told-unless (ltb (length s) (a + l .value)) (faultAt 1 (at + length s))
     (λ u.
     let less : length t < formSize (l .form) + l .value = omega (arith, ltb-true (length s) (a + l .value) u) in
     let end : at + 1 + length t ≡ at + length s = omega arith in
@@ -428,7 +422,7 @@ container-told seen n at t new b =
 format-told : (seen : List ℕ) (id n at : ℕ) (t : List ℕ) (f : Format) → formatOf id ≡ f → New seen id → Bytes (id ∷ t)
     → Told (ListNo seen n at (id ∷ t)) (fieldBy id n at (id ∷ t) f)
 unfolding fieldBy SizeOk lengthIn Bytes
-format-told seen id n at t Unknown e new b = not (no 5 at) (noField e)
+format-told seen id n at t Unknown e new b = not (faultAt 5 at) (noField e)
 format-told seen id n at t (Fixed k) e new b = plain-told seen id n at 0 k t new (rw e) (rw e) (omega arith)
 format-told seen id n at t (Digits d) e new b =
     told-then _ (digits-told d 0 (at + 1) t) (λ r. digits-row d e new)
@@ -443,8 +437,8 @@ format-told seen id n at t Container e new b =
 field-told : (seen : List ℕ) (n at id : ℕ) (t : List ℕ) → Bytes (id ∷ t) → Told (ListNo seen n at (id ∷ t)) (fieldOf seen n at (id ∷ t))
 unfolding fieldOf
 field-told seen n at id t b =
-    told-unless (unknown (formatOf id)) (no 5 at) (λ u. noField (unknown-test (formatOf id) .0 u))
-    (λ u. told-unless (among seen id) (no 7 at) (λ v. twice (fails (unknown-test (formatOf id)) .0 u) (among-exactly seen id .0 v))
+    told-unless (unknown (formatOf id)) (faultAt 5 at) (λ u. noField (unknown-test (formatOf id) .0 u))
+    (λ u. told-unless (among seen id) (faultAt 7 at) (λ v. twice (fails (unknown-test (formatOf id)) .0 u) (among-exactly seen id .0 v))
     (λ v. format-told seen id n at t (formatOf id) refl (new-test seen id .0 v) b))
 
 -- a row behind one more field

@@ -13,7 +13,7 @@ use Rattle.zvt_rules.specs.declared.Refusal.{Refusal}
 use Rattle.zvt_rules.specs.declared.Layout.{Layout}
 use Rattle.zvt_rules.specs.declared.Layout.the-variants.{Plain, List as FieldList, Secured}
 use Rattle.basics.specs.Lists.{part}
-use Rattle.zvt_rules.specs.Reading.{Reading, got, refused, no, unplaced, unless, andThen}
+use Rattle.zvt_rules.specs.Reading.{Reading, got, refused, faultAt, unplaced, unless, andThen}
 use Rattle.zvt_rules.specs.Message.{BodyLength, longLength, lengthOf, Heading, headerSize, start, end, headerWith, headerOf, layoutOf, securedOf, bodyOf, Message, messageOf, firstOf, wholeHeader, readOf}
 use Rattle.zvt_rules.specs.believed.Writing.{lengthBytes, messageBytes}
 use Rattle.zvt_rules.specs.Shortest.{write, shorten}
@@ -59,7 +59,7 @@ undecimal-row t size e (first front b back ds f) = rw (← e) (undecimal front b
 secured-told : (at : ℕ) (s : List ℕ) → Bytes s → Told (SecuredNo at s) (securedOf at s)
 unfolding securedOf
 secured-told at s b =
-    told-unless (ltb (length s) 3) (no 1 (at + length s)) (λ u. short (ltb-true (length s) 3 u))
+    told-unless (ltb (length s) 3) (faultAt 1 (at + length s)) (λ u. short (ltb-true (length s) 3 u))
     (λ u.
     let size = length-take-le 3 s (ltb-false (length s) 3 u) in
     undecimal-told at (take 3 s) _ (λ r row. undecimal-row (drop 3 s) size (take-append-drop 3 s) row)

@@ -12,12 +12,12 @@ use lib.Dec.{ltb, leb, eqb}
 use borrow.Author.Tests.{lt-leb, le-leb, ne-eqb, lt-ltb, le-ltb, eq-eqb, eqb-true, eqb-false, ltb-true, ltb-false, leb-true, leb-false}
 use Rattle.zvt_rules.specs.declared.Refusal.{Refusal}
 use Rattle.basics.specs.Lists.{part}
-use Rattle.zvt_rules.specs.Reading.{got, refused, no, unless}
+use Rattle.zvt_rules.specs.Reading.{got, refused, faultAt, unless}
 use Rattle.zvt_rules.specs.Objects.{longTag, topBit, nested, secondTag, tagSize, Form, bare, one, two, formSize, Len, oneByteLen, twoByteLen, lenOf, from, to, headWith, headOf, Obj, runOf, oneOf, countObj}
 use Rattle.zvt_rules.specs.believed.Writing.{lenBytes, sized, objBytes}
 use Rattle.basics.specs.believed.Lists.{Bytes}
 use Rattle.zvt_rules.specs.believed.Grammar.{TagOk, FormOk, ObjOk}
-use Rattle.zvt_rules.specs.believed.Rows.{SizedNo, short, wrong, Room, RunNo, tooMany, tooDeep, tagShort, tagWrong, sizedIn, inside, behind}
+use Rattle.zvt_rules.specs.believed.Rows.{SizedNo, short, wrong, ObjectFits, RunNo, tooMany, tooDeep, tagShort, tagWrong, sizedIn, inside, behind}
 use Rattle.basics.proofs.Tests.{pick-true}
 use Rattle.zvt_rules.proofs.Readings.{then-on, then-stop}
 use Rattle.zvt_rules.proofs.ObjectReading.{part-length, tag-in, len-in, head-in, one-in, run-none, run-step, one-step}
@@ -30,11 +30,11 @@ use Rattle.zvt_rules.proofs.RowReadings.{Told, is, not, told-unless, mo
 abbrev pub SizedRead : ℕ → List ℕ → Refusal → Type 0
 SizedRead at s r =
     (lenOf at s ≡ refused r)
-    ⊎ ((l : Len) × (lenOf at s ≡ got l) × (length s < formSize (l .form) + l .value) × (no 1 (at + length s) ≡ r))
+    ⊎ ((l : Len) × (lenOf at s ≡ got l) × (length s < formSize (l .form) + l .value) × (faultAt 1 (at + length s) ≡ r))
 
 -- one that is cut, by its form and by how many bytes of it are there
 short-read : (at : ℕ) (s : List ℕ) (form : Form) (w m : List ℕ) → FormOk form (length w) → 0 < length m
-    → s ++ m ≡ lenBytes form (length w) ++ w → SizedRead at s (no 1 (at + length s))
+    → s ++ m ≡ lenBytes form (length w) ++ w → SizedRead at s (faultAt 1 (at + length s))
 unfolding lenOf oneByteLen twoByteLen lenBytes formSize
 short-read at [] form w m ok l e = let z : at ≡ at + 0 = omega arith in inl (moved 1 z)
 short-read at (x ∷ s) bare w m ok l e =
@@ -73,7 +73,7 @@ sized-read {at} (wrong {b = b} {s = s} h) =
 
 -- the front of a tag
 tag-cut : (at : ℕ) (s tag : List ℕ) (run : Bool) (m : List ℕ) → TagOk tag run → 0 < length s → 0 < length m → s ++ m ≡ tag
-    → tagSize at s ≡ refused (no 1 (at + length s))
+    → tagSize at s ≡ refused (faultAt 1 (at + length s))
 unfolding TagOk tagSize secondTag
 tag-cut at s [] run m ok h l e = absurd ok
 tag-cut at s (b ∷ []) run m ok h l e = absurd (omega (arith, length-append s m, ap length e))
@@ -87,7 +87,7 @@ run-stop : (left n at : ℕ) (s : List ℕ) (r : Refusal) → 0 < length s → o
 run-stop left n at s r l e = run-step left n at s l ∙ then-stop _ _ e
 
 -- an object with room is refused where its head is
-one-head : (left n at : ℕ) (s : List ℕ) (r : Refusal) → Room left n → headOf at s ≡ refused r → oneOf left n at s ≡ refused r
+one-head : (left n at : ℕ) (s : List ℕ) (r : Refusal) → ObjectFits left n → headOf at s ≡ refused r → oneOf left n at s ≡ refused r
 unfolding unless
 one-head left n at s r room e = one-step left n at s ∙ rw (lt-leb 64 n (room .0), ne-eqb left 0 (λ z. omega (arith, room .1))) (then-stop _ _ e)
 
@@ -116,14 +116,14 @@ tag-append (b ∷ t) s run ok = omega arith
 -- each row of a run
 pub run-refused : {left n at : ℕ} {s : List ℕ} {r : Refusal} → RunNo left n at s r → runOf left n at s ≡ refused r
 unfolding unless headOf tagSize secondTag
-run-refused {left} {n} {at} {s} (tooMany l h) = run-stop left n at s (no 10 at) l (one-step left n at s ∙ rw (le-leb 64 n h))
-run-refused {left} {n} {at} {s} (tooDeep l h z) = run-stop left n at s (no 9 at) l (one-step left n at s ∙ rw (lt-leb 64 n h, z))
+run-refused {left} {n} {at} {s} (tooMany l h) = run-stop left n at s (faultAt 10 at) l (one-step left n at s ∙ rw (le-leb 64 n h))
+run-refused {left} {n} {at} {s} (tooDeep l h z) = run-stop left n at s (faultAt 9 at) l (one-step left n at s ∙ rw (lt-leb 64 n h, z))
 run-refused {left} {n} {at} {s} (tagShort tag run room l ok c) =
-    run-stop left n at s (no 1 (at + length s)) l
-    (one-head left n at s (no 1 (at + length s)) room (then-stop _ _ (tag-cut at s tag run (c .missing) ok l (c .some) (c .joined))))
+    run-stop left n at s (faultAt 1 (at + length s)) l
+    (one-head left n at s (faultAt 1 (at + length s)) room (then-stop _ _ (tag-cut at s tag run (c .missing) ok l (c .some) (c .joined))))
 run-refused {left} {n} {at} (tagWrong {b = b} {c = c} {s = s} room e f) =
-    run-stop left n at (b ∷ (c ∷ s)) (no 8 (at + 1)) (omega arith)
-    (one-head left n at (b ∷ (c ∷ s)) (no 8 (at + 1)) room (then-stop _ _ (rw (eq-eqb (b % 32) 31 e, le-leb 128 c f))))
+    run-stop left n at (b ∷ (c ∷ s)) (faultAt 8 (at + 1)) (omega arith)
+    (one-head left n at (b ∷ (c ∷ s)) (faultAt 8 (at + 1)) room (then-stop _ _ (rw (eq-eqb (b % 32) 31 e, le-leb 128 c f))))
 run-refused {left} {n} {at} {r = r} (sizedIn {s = s} tag run room ok h) =
     run-stop left n at (tag ++ s) r (tag-append tag s run ok)
     (one-head left n at (tag ++ s) r room (head-sized at tag s run r ok (sized-read h)))
@@ -151,35 +151,35 @@ other b h i j =
     (λ l. ⊎-elim (λ e. absurd (i (sym e))) (λ m. ⊎-elim (λ e. absurd (j (sym e))) inr (eq-or-lt-of-le m)) (eq-or-lt-of-le l)) (eq-or-lt-of-le h)
 
 -- a tag
-tag-told : (left n at : ℕ) (s : List ℕ) → Room left n → 0 < length s → Told (RunNo left n at s) (tagSize at s)
+tag-told : (left n at : ℕ) (s : List ℕ) → ObjectFits left n → 0 < length s → Told (RunNo left n at s) (tagSize at s)
 unfolding tagSize secondTag TagOk
 tag-told left n at [] r l = absurd (omega arith)
 tag-told left n at (b ∷ []) r l =
     told-pick (longTag b)
-    (λ t. not (no 1 (at + 1))
+    (λ t. not (faultAt 1 (at + 1))
     (tagShort (b ∷ (0 ∷ [])) (nested b) r l (t, refl, refl) (record { missing = 0 ∷ []; some = omega arith; joined = refl })))
     (λ t. is 1)
 tag-told left n at (b ∷ (c ∷ s)) r l =
     told-pick (longTag b)
-    (λ t. told-unless (topBit c) (no 8 (at + 1)) (λ u. tagWrong r (eqb-true (b % 32) 31 t) (leb-true 128 c u)) (λ u. is 2)) (λ t. is 1)
+    (λ t. told-unless (topBit c) (faultAt 8 (at + 1)) (λ u. tagWrong r (eqb-true (b % 32) 31 t) (leb-true 128 c u)) (λ u. is 2)) (λ t. is 1)
 
 -- 81 and one byte, 82 and two
 one-told : (at b : ℕ) (s : List ℕ) → b ≡ 0x81 → Told (SizedNo at (b ∷ s)) (oneByteLen (at + 1) s)
 unfolding oneByteLen FormOk sized lenBytes
-one-told at b [] e = not (no 1 (at + 1)) (short {s = b ∷ []} one [] (omega arith) (record { missing = 0 ∷ []; some = omega arith; joined = rw e }))
+one-told at b [] e = not (faultAt 1 (at + 1)) (short {s = b ∷ []} one [] (omega arith) (record { missing = 0 ∷ []; some = omega arith; joined = rw e }))
 one-told at b (v ∷ s) e = is _
 
 two-told : (at b : ℕ) (s : List ℕ) → b ≡ 0x82 → Bytes s → Told (SizedNo at (b ∷ s)) (twoByteLen (at + 1) s)
 unfolding twoByteLen FormOk sized lenBytes Bytes
 two-told at b [] e h =
-    not (no 1 (at + 1)) (short {s = b ∷ []} two [] (omega arith) (record { missing = 0 ∷ (0 ∷ []); some = omega arith; joined = rw e }))
+    not (faultAt 1 (at + 1)) (short {s = b ∷ []} two [] (omega arith) (record { missing = 0 ∷ (0 ∷ []); some = omega arith; joined = rw e }))
 two-told at b (x ∷ []) e h =
     let w : List ℕ = replicate (x * 256) 0 in
     let size : length w ≡ x * 256 = length-replicate (x * 256) 0 in
     let high : length w / 256 ≡ x = omega arith in
     let low : length w % 256 ≡ 0 = omega arith in
     let z : at + 2 ≡ at + 1 + 1 = omega arith in
-    not (no 1 (at + 1 + 1))
+    not (faultAt 1 (at + 1 + 1))
     (placed (SizedNo at (b ∷ (x ∷ []))) 1 z
     (short {s = b ∷ (x ∷ [])} two w (omega (arith, h 0)) (record { missing = 0 ∷ w; some = omega arith; joined = cc })))
 two-told at b (x ∷ (y ∷ s)) e h = is _
@@ -189,16 +189,16 @@ pub len-told : (at : ℕ) (s : List ℕ) → Bytes s → Told (SizedNo at s) (le
 unfolding lenOf FormOk sized lenBytes Bytes
 len-told at [] h =
     let z : at + 0 ≡ at = omega arith in
-    not (no 1 at) (placed (SizedNo at []) 1 z (short bare [] (omega arith) (record { missing = 0 ∷ []; some = omega arith; joined = refl })))
+    not (faultAt 1 at) (placed (SizedNo at []) 1 z (short bare [] (omega arith) (record { missing = 0 ∷ []; some = omega arith; joined = refl })))
 len-told at (b ∷ s) h =
     told-pick (ltb b 0x80) (λ t. is _)
     (λ t. told-pick (eqb b 0x81) (λ u. one-told at b s (eqb-true b 0x81 u))
     (λ u. told-pick (eqb b 0x82) (λ w. two-told at b s (eqb-true b 0x82 w) (λ i. h (suc i)))
-    (λ w. not (no 22 at) (wrong (other b (ltb-false b 0x80 t) (eqb-false b 0x81 u) (eqb-false b 0x82 w))))))
+    (λ w. not (faultAt 22 at) (wrong (other b (ltb-false b 0x80 t) (eqb-false b 0x81 u) (eqb-false b 0x82 w))))))
 
 -- a value that is too short, behind a length that was read
 pub value-short : (at : ℕ) (s : List ℕ) (l : Len) → Bytes s → lenOf at s ≡ got l → length s < formSize (l .form) + l .value
-    → SizedNo at s (no 1 (at + length s))
+    → SizedNo at s (faultAt 1 (at + length s))
 unfolding sized
 value-short at s l b e h =
     let w = len-sound at s l b e in
@@ -210,7 +210,7 @@ tag-first : (at : ℕ) (s : List ℕ) (t : ℕ) → tagSize at s ≡ got t → (
 tag-first at s t e = (length-take-le t s (tag-in at s t e .1), take-append-drop t s)
 
 -- a head
-head-told : (left n at : ℕ) (s : List ℕ) → Room left n → 0 < length s → Bytes s → Told (RunNo left n at s) (headOf at s)
+head-told : (left n at : ℕ) (s : List ℕ) → ObjectFits left n → 0 < length s → Bytes s → Told (RunNo left n at s) (headOf at s)
 unfolding headOf headWith
 head-told left n at s room l b =
     told-then _ (tag-told left n at s room l) (λ r h. h)
@@ -224,12 +224,12 @@ head-told left n at s room l b =
     (sizedIn (take t s) (nested (getD s 0 0)) room (tag-sound at s t e) (rw (f .0) h)) in
     told-then _ (len-told (at + t) rest bs) row
     (λ m g.
-    told-unless _ (no 1 (at + length s))
+    told-unless _ (faultAt 1 (at + length s))
     (λ u.
     let less : length rest < formSize (m .form) + m .value
     = omega (arith, ltb-true (length s) (t + formSize (m .form) + m .value) u, length-drop t s, tag-in at s t e) in
     let end : at + t + length rest ≡ at + length s = omega (arith, length-drop t s, tag-in at s t e) in
-    row (no 1 (at + length s)) (rw end at (value-short (at + t) rest m bs g less)))
+    row (faultAt 1 (at + length s)) (rw end at (value-short (at + t) rest m bs g less)))
     (λ u. is _)))
 
 -- an object, where that is known of the shorter runs
@@ -240,11 +240,11 @@ Shorter s = (left n at : ℕ) (t : List ℕ) → length t < length s → Bytes t
 one-told-by : (left n at : ℕ) (s : List ℕ) → 0 < length s → Bytes s → Shorter s → Told (RunNo left n at s) (oneOf left n at s)
 one-told-by left n at s l b ih =
     rw (one-step left n at s)
-    (told-unless (leb 64 n) (no 10 at) (λ t. tooMany l (leb-true 64 n t))
-    (λ t. told-unless (eqb left 0) (no 9 at) (λ u. tooDeep l (leb-false 64 n t) (eqb-true left 0 u))
+    (told-unless (leb 64 n) (faultAt 10 at) (λ t. tooMany l (leb-true 64 n t))
+    (λ t. told-unless (eqb left 0) (faultAt 9 at) (λ u. tooDeep l (leb-false 64 n t) (eqb-true left 0 u))
     (λ u.
     let zero = eqb-false left 0 u in
-    let room : Room left n = (leb-false 64 n t, omega arith) in
+    let room : ObjectFits left n = (leb-false 64 n t, omega arith) in
     told-then _ (head-told left n at s room l b) (λ r h. h)
     (λ h e.
     let i = head-in at s h e in

@@ -8,7 +8,7 @@ use native.Mathlib.Omega.{arith}
 use lib.ListN.{length, take, drop, replicate, length-append, length-drop, length-replicate, take-append-drop}
 use Rattle.zvt_rules.specs.declared.Refusal.{Refusal}
 use Rattle.basics.specs.Choice.{pick}
-use Rattle.zvt_rules.specs.Reading.{Reading, got, refused, no, unless, andThen}
+use Rattle.zvt_rules.specs.Reading.{Reading, got, refused, faultAt, unless, andThen}
 use Rattle.zvt_rules.specs.believed.Rows.{Cut}
 use Rattle.zvt_rules.proofs.Readings.{got-not-refused}
 
@@ -50,12 +50,12 @@ told-as (is a) m = is a
 told-as (not r h) m = not r (m r h)
 
 -- the same refusal, its place written otherwise
-pub moved : {A : Type 0} (k : ℕ) {p q : ℕ} → p ≡ q → _≡_ {A = Reading A} (refused (no k p)) (refused (no k q))
-moved k e = ap (λ (x : ℕ). refused (no k x)) e
+pub moved : {A : Type 0} (k : ℕ) {p q : ℕ} → p ≡ q → _≡_ {A = Reading A} (refused (faultAt k p)) (refused (faultAt k q))
+moved k e = ap (λ (x : ℕ). refused (faultAt k x)) e
 
 -- the same row
-pub placed : (P : Refusal → Type 0) (k : ℕ) {p q : ℕ} → p ≡ q → P (no k p) → P (no k q)
-placed P k e h = subst (λ (x : ℕ). P (no k x)) e h
+pub placed : (P : Refusal → Type 0) (k : ℕ) {p q : ℕ} → p ≡ q → P (faultAt k p) → P (faultAt k q)
+placed P k e h = subst (λ (x : ℕ). P (faultAt k x)) e h
 
 -- bytes that begin with p and end before v bytes more are the front of p and v bytes
 pub filled : (p t : List ℕ) (d v : ℕ) → p ≡ take d t → d ≤ length t → length t < d + v

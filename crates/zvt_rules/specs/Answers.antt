@@ -14,6 +14,7 @@ use Rattle.zvt_rules.specs.declared.FirstAnswer.the-variants.{Accepted a
 use Rattle.zvt_rules.specs.declared.ShortenAnswer.{ShortenAnswer}
 use Rattle.zvt_rules.specs.declared.ShortenAnswer.the-variants.{Written, Refused as short-refused}
 use Rattle.zvt_rules.specs.Reading.{Reading, got, refused, unplaced, unless, andThen, writtenLeaves}
+use Rattle.zvt_rules.specs.Refusals.{noRoom}
 use Rattle.zvt_rules.specs.Message.{Heading, headerSize, start, wholeHeader, Message, readOf, firstOf, countOf}
 use Rattle.zvt_rules.specs.believed.Writing.{bodyBytes, messageBytes}
 use Rattle.zvt_rules.specs.Shortest.{isShort, shorten}
@@ -59,7 +60,7 @@ firstAnswer s = asFirstAnswer (firstOf s)
 
 -- R37: "Shortening: header, body, 11." R38: "shortening needs as many as it writes". What is written into so much room
 unfoldable pub shortened : ℕ → List ℕ → Reading (List ℕ)
-shortened room s = andThen (shorten s) λ w. unless (ltb room (length w)) (unplaced 11) (got w)
+shortened room s = andThen (shorten s) λ w. unless (ltb room (length w)) (unplaced noRoom) (got w)
 
 unfoldable pub asShortenAnswer : Reading (List ℕ) → ShortenAnswer
 asShortenAnswer (got w) = Written (length w)

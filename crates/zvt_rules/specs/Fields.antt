@@ -9,7 +9,8 @@ use Rattle.zvt_rules.specs.declared.Format.{Format}
 use Rattle.zvt_rules.specs.declared.Format.the-variants.{Unknown, Fixed, Digits, Container}
 use Rattle.basics.specs.Choice.{pick}
 use Rattle.basics.specs.Lists.{part, among}
-use Rattle.zvt_rules.specs.Reading.{Reading, got, refused, no, unless, andThen}
+use Rattle.zvt_rules.specs.Reading.{Reading, got, refused, faultAt, unless, andThen}
+use Rattle.zvt_rules.specs.Refusals.{endsTooSoon, noLengthDigit, notDecimal, unknownField, fieldTwice, neverGiven}
 use Rattle.zvt_rules.specs.Limits.{deepest}
 use Rattle.zvt_rules.specs.Objects.{Form, formSize, lenOf, Objs, countObjs, runOf}
 
@@ -47,8 +48,8 @@ lengthDigit b = leb 0xF0 b && leb b 0xF9
 -- R42: "length 1 or 4". R47: "the wrong byte itself for 4": d digits more behind those that gave v
 unfoldable pub digitsOf : ℕ → ℕ → ℕ → List ℕ → Reading ℕ
 digitsOf zero v at s = got v
-digitsOf (suc d) v at [] = refused (no 1 at)
-digitsOf (suc d) v at (b ∷ s) = unless (not (lengthDigit b)) (no 4 at) (digitsOf d (v * 10 + (b - 0xF0)) (at + 1) s)
+digitsOf (suc d) v at [] = refused (faultAt endsTooSoon at)
+digitsOf (suc d) v at (b ∷ s) = unless (not (lengthDigit b)) (faultAt noLengthDigit at) (digitsOf d (v * 10 + (b - 0xF0)) (at + 1) s)
 
 -- F5: "a decimal digit in each half of each byte"
 abbrev pub decimal : ℕ → Bool
@@ -57,7 +58,7 @@ decimal b = leb (b / 16) 9 && leb (b % 16) 9
 -- R6 at the first byte that is not, else as what follows says
 unfoldable pub unlessUndecimal : {A : Type 0} → ℕ → List ℕ → Reading A → Reading A
 unlessUndecimal at [] x = x
-unlessUndecimal at (b ∷ s) x = unless (not (decimal b)) (no 6 at) (unlessUndecimal (at + 1) s x)
+unlessUndecimal at (b ∷ s) x = unless (not (decimal b)) (faultAt notDecimal at) (unlessUndecimal (at + 1) s x)
 
 -- F5: "Fields 04, 0B, 37, 49, 87 and 88 .. The values of all other fields but 06 are just bytes."
 abbrev pub holdsDigits : ℕ → Bool
@@ -95,7 +96,7 @@ pub record ListRead : Type 0 where
 
 -- R42: "value 1": v bytes, which begin at element a of s and end within s
 unfoldable pub valueOf : ℕ → ℕ → ℕ → List ℕ → Reading (List ℕ)
-valueOf at a v s = unless (ltb (length s) (a + v)) (no 1 (at + length s)) (got (part a (a + v) s))
+valueOf at a v s = unless (ltb (length s) (a + v)) (faultAt endsTooSoon (at + length s)) (got (part a (a + v) s))
 
 -- R42: "value 1, digits 6"
 unfoldable pub plainOf : ℕ → ℕ → ℕ → ℕ → ℕ → List ℕ → Reading FieldRead
@@ -114,7 +115,7 @@ containerOf n at s =
 
 -- R42: "length 1 or 4 (of a container 1 or 22), value 1, digits 6, then the inside of a container"
 unfoldable pub fieldBy : ℕ → ℕ → ℕ → List ℕ → Format → Reading FieldRead
-fieldBy id n at s Unknown = refused (no 5 at)
+fieldBy id n at s Unknown = refused (faultAt unknownField at)
 fieldBy id n at s (Fixed k) = plainOf id n at 1 k s
 fieldBy id n at s (Digits d) = andThen (digitsOf d 0 (at + 1) (drop 1 s)) λ v. plainOf id n at (1 + d) v s
 fieldBy id n at s Container = containerOf n at s
@@ -123,12 +124,12 @@ fieldBy id n at s Container = containerOf n at s
 unfoldable pub fieldOf : List ℕ → ℕ → ℕ → List ℕ → Reading FieldRead
 fieldOf seen n at s =
     let id = getD s 0 0 in
-    unless (unknown (formatOf id)) (no 5 at) (unless (among seen id) (no 7 at) (fieldBy id n at s (formatOf id)))
+    unless (unknown (formatOf id)) (faultAt unknownField at) (unless (among seen id) (faultAt fieldTwice at) (fieldBy id n at s (formatOf id)))
 
 -- F1: "A list is any number of fields, also none." R40: "from left to right". f is fuel, as in the reading of objects: it is never
 -- spent, since a field takes a byte or more (proofs/Numbers.antt, never-spent)
 unfoldable pub listBy : ℕ → List ℕ → ℕ → ℕ → List ℕ → Reading ListRead
-listBy zero seen n at s = refused (no 0 at)
+listBy zero seen n at s = refused (faultAt neverGiven at)
 listBy (suc f) seen n at [] = got (record { fields = []; count = n })
 listBy (suc f) seen n at (id ∷ s) =
     andThen (fieldOf seen n at (id ∷ s)) λ o.

@@ -13,13 +13,13 @@ use Rattle.zvt_rules.specs.Message.{Heading, start, wholeHeader, Body, b
 use Rattle.zvt_rules.specs.Values.{statusFields, statusIn}
 
 -- the first byte of a plain body, if it has one
-unfoldable pub firstOf : Body → ToldCode
-firstOf (bytes []) = Missing
-firstOf (bytes (b ∷ s)) = Code b
-firstOf (listed password fs) = Missing
+unfoldable pub firstByte : Body → ToldCode
+firstByte (bytes []) = Missing
+firstByte (bytes (b ∷ s)) = Code b
+firstByte (listed password fs) = Missing
 
 unfoldable pub toldIn : Message → ToldBody
-toldIn m = record { first = firstOf (m .body); status = statusIn (statusFields (got m)) }
+toldIn m = record { first = firstByte (m .body); status = statusIn (statusFields (got m)) }
 
 unfoldable pub toldAnswer : Reading Message → ToldAnswer
 toldAnswer (got m) = told (toldIn m)

@@ -6,6 +6,7 @@ use lib.ListN.{length}
 use lib.Dec.{ltb}
 use Rattle.basics.specs.Choice.{pick}
 use Rattle.zvt_rules.specs.Reading.{Reading, got, refused}
+use Rattle.zvt_rules.specs.Refusals.{tooLong}
 use Rattle.zvt_rules.specs.Fields.{Field, fieldId}
 use Rattle.zvt_rules.specs.Message.{Message, Body, bytes, listed, firstOf}
 use Rattle.zvt_rules.specs.believed.Writing.{bodyBytes, messageBytes}
@@ -28,9 +29,9 @@ idsOf (got m) = bodyIds (m .body)
 idsOf (refused f) = []
 
 -- M17: "`short` for a shortest message, else `long`"
-unfoldable pub formText : Bool → List ℕ
-formText true = 32 ∷ 115 ∷ 104 ∷ 111 ∷ 114 ∷ 116 ∷ []
-formText false = 32 ∷ 108 ∷ 111 ∷ 110 ∷ 103 ∷ []
+unfoldable pub shortOrLong : Bool → List ℕ
+shortOrLong true = 32 ∷ 115 ∷ 104 ∷ 111 ∷ 114 ∷ 116 ∷ []
+shortOrLong false = 32 ∷ 108 ∷ 111 ∷ 110 ∷ 103 ∷ []
 
 -- M17: "its number, from 1; the pair"
 unfoldable pub startText : ℕ → ℕ → ℕ → List ℕ
@@ -38,7 +39,7 @@ startText number class instruction = decimalText number ++ (32 ∷ (hexText clas
 
 -- M17: "the length of the body as sent"
 unfoldable pub sizeText : ℕ → Bool → List ℕ
-sizeText size short = 32 ∷ (decimalText size ++ formText short)
+sizeText size short = 32 ∷ (decimalText size ++ shortOrLong short)
 
 -- M17: "It prints a line for each", with none of the fields where there are none
 unfoldable pub messageText : ℕ → Message → List ℕ
@@ -69,4 +70,4 @@ linesFrom count (suc left) (b ∷ s) = linesFrom count left s
 
 -- M19: "More than 65,536 bytes of input give `end 0 refused 2` and nothing else."
 unfoldable pub listing : List ℕ → List ℕ
-listing s = pick (ltb 65536 (length s)) (refusedText 0 2 ++ (10 ∷ [])) (linesFrom 0 0 s)
+listing s = pick (ltb 65536 (length s)) (refusedText 0 tooLong ++ (10 ∷ [])) (linesFrom 0 0 s)

@@ -8,7 +8,8 @@ use Rattle.zvt_rules.specs.declared.Layout.{Layout}
 use Rattle.zvt_rules.specs.declared.Layout.the-variants.{Plain, List as FieldList, Secured}
 use Rattle.basics.specs.Choice.{pick}
 use Rattle.basics.specs.Lists.{part, among}
-use Rattle.zvt_rules.specs.Reading.{Reading, got, refused, no, unplaced, unless, andThen}
+use Rattle.zvt_rules.specs.Reading.{Reading, got, refused, faultAt, unplaced, unless, andThen}
+use Rattle.zvt_rules.specs.Refusals.{endsTooSoon, tooLong, leftOver}
 use Rattle.zvt_rules.specs.Limits.{mostBody}
 use Rattle.zvt_rules.specs.Fields.{Field, countFields, unlessUndecimal, listOf}
 
@@ -19,13 +20,13 @@ pub record BodyLength : Type 0 where
 
 -- M2: "After FF the next two bytes are the length, low byte first."
 unfoldable pub longLength : List ℕ → Reading BodyLength
-longLength [] = refused (unplaced 1)
-longLength (l ∷ []) = refused (unplaced 1)
+longLength [] = refused (unplaced endsTooSoon)
+longLength (l ∷ []) = refused (unplaced endsTooSoon)
 longLength (l ∷ (h ∷ s)) = got (record { long = true; value = h * 256 + l })
 
 -- M2: "A length byte 00 to FE is itself the length."
 unfoldable pub lengthOf : List ℕ → Reading BodyLength
-lengthOf [] = refused (unplaced 1)
+lengthOf [] = refused (unplaced endsTooSoon)
 lengthOf (b ∷ s) = pick (eqb b 0xFF) (longLength s) (got (record { long = false; value = b }))
 
 -- a header as it was sent: its pair, how its length was written, and the length of its body
@@ -48,14 +49,14 @@ end h = start h + h .size
 -- R39: "2, 1 for a body cut short"
 unfoldable pub headerWith : ℕ → ℕ → List ℕ → BodyLength → Reading Heading
 headerWith class instruction s l =
-    unless (ltb mostBody (l .value)) (unplaced 2)
-    (unless (ltb (length s) (headerSize (l .long) + l .value)) (unplaced 1)
+    unless (ltb mostBody (l .value)) (unplaced tooLong)
+    (unless (ltb (length s) (headerSize (l .long) + l .value)) (unplaced endsTooSoon)
     (got (record { class = class; instruction = instruction; long = l .long; size = l .value })))
 
 -- R39: "A header: 1 for a missing byte of pair or length, 2, 1 for a body cut short"
 unfoldable pub headerOf : List ℕ → Reading Heading
-headerOf [] = refused (unplaced 1)
-headerOf (c ∷ []) = refused (unplaced 1)
+headerOf [] = refused (unplaced endsTooSoon)
+headerOf (c ∷ []) = refused (unplaced endsTooSoon)
 headerOf (c ∷ (i ∷ s)) = andThen (lengthOf s) λ l. headerWith c i (c ∷ (i ∷ s)) l
 
 -- M5: "The body of 06 01, 04 0F, 06 0F and 06 D3 is a field list." M6: "The body of 06 21, 06 30, 06 31 and 06 50 is a password of
@@ -74,7 +75,7 @@ pub data Body : Type 0 where
 -- R41: "A password: 1 where three bytes are not there, then 6."
 unfoldable pub securedOf : ℕ → List ℕ → Reading Body
 securedOf at s =
-    unless (ltb (length s) 3) (no 1 (at + length s))
+    unless (ltb (length s) 3) (faultAt endsTooSoon (at + length s))
     (unlessUndecimal at (take 3 s) (andThen (listOf [] 0 (at + 3) (drop 3 s)) λ l. got (listed (take 3 s) (l .fields))))
 
 unfoldable pub bodyOf : ℕ → List ℕ → Layout → Reading Body
@@ -99,7 +100,7 @@ firstOf s = andThen (headerOf s) λ h. messageOf s h
 
 -- R3: "bytes are left over behind the one message": a header behind whose body there are none
 unfoldable pub wholeHeader : List ℕ → Reading Heading
-wholeHeader s = andThen (headerOf s) λ h. unless (ltb (end h) (length s)) (unplaced 3) (got h)
+wholeHeader s = andThen (headerOf s) λ h. unless (ltb (end h) (length s)) (unplaced leftOver) (got h)
 
 -- M8: "Reading takes all the bytes as one message."
 unfoldable pub readOf : List ℕ → Reading Message

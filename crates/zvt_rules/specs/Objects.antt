@@ -7,7 +7,8 @@ use lib.ListN.{length, getD, take, drop}
 use lib.Dec.{ltb, leb, eqb}
 use Rattle.basics.specs.Choice.{pick}
 use Rattle.basics.specs.Lists.{part}
-use Rattle.zvt_rules.specs.Reading.{Reading, got, refused, no, unless, andThen}
+use Rattle.zvt_rules.specs.Reading.{Reading, got, refused, faultAt, unless, andThen}
+use Rattle.zvt_rules.specs.Refusals.{endsTooSoon, tagTooLong, noLength, neverGiven, tooManyObjects, tooDeep}
 use Rattle.zvt_rules.specs.Limits.{mostObjects}
 
 -- O3: "A tag has two bytes where the low five bits of its first byte are ones, else one."
@@ -24,11 +25,11 @@ nested b = eqb (b / 32 % 2) 1
 
 -- R43: "tag 1, 8": how many bytes the tag takes
 unfoldable pub secondTag : ℕ → List ℕ → Reading ℕ
-secondTag at [] = refused (no 1 at)
-secondTag at (b ∷ s) = unless (topBit b) (no 8 at) (got 2)
+secondTag at [] = refused (faultAt endsTooSoon at)
+secondTag at (b ∷ s) = unless (topBit b) (faultAt tagTooLong at) (got 2)
 
 unfoldable pub tagSize : ℕ → List ℕ → Reading ℕ
-tagSize at [] = refused (no 1 at)
+tagSize at [] = refused (faultAt endsTooSoon at)
 tagSize at (b ∷ s) = pick (longTag b) (secondTag (at + 1) s) (got 1)
 
 -- O6: "A length is one byte 00 to 7F; or 81 and one byte; or 82 and two bytes, high byte first."
@@ -46,21 +47,21 @@ pub record Len : Type 0 where
   pub value : ℕ
 
 unfoldable pub oneByteLen : ℕ → List ℕ → Reading Len
-oneByteLen at [] = refused (no 1 at)
+oneByteLen at [] = refused (faultAt endsTooSoon at)
 oneByteLen at (v ∷ s) = got (record { form = one; value = v })
 
 unfoldable pub twoByteLen : ℕ → List ℕ → Reading Len
-twoByteLen at [] = refused (no 1 at)
-twoByteLen at (h ∷ []) = refused (no 1 (at + 1))
+twoByteLen at [] = refused (faultAt endsTooSoon at)
+twoByteLen at (h ∷ []) = refused (faultAt endsTooSoon (at + 1))
 twoByteLen at (h ∷ (l ∷ s)) = got (record { form = two; value = h * 256 + l })
 
 -- R43: "length 1 or 22". R40: "a length byte by byte". O8: "A first length byte 80 or 83 to FF is refused (22)." R47: "the wrong byte
 -- itself"
 unfoldable pub lenOf : ℕ → List ℕ → Reading Len
-lenOf at [] = refused (no 1 at)
+lenOf at [] = refused (faultAt endsTooSoon at)
 lenOf at (b ∷ s) =
     pick (ltb b 0x80) (got (record { form = bare; value = b }))
-    (pick (eqb b 0x81) (oneByteLen (at + 1) s) (pick (eqb b 0x82) (twoByteLen (at + 1) s) (refused (no 22 at))))
+    (pick (eqb b 0x81) (oneByteLen (at + 1) s) (pick (eqb b 0x82) (twoByteLen (at + 1) s) (refused (faultAt noLength at))))
 
 -- how many bytes the tag takes, how the length is written, and how many bytes the value takes
 pub record Head : Type 0 where
@@ -79,7 +80,7 @@ to h = from h + h .value
 -- container or run that ended too soon"
 unfoldable pub headWith : ℕ → List ℕ → ℕ → Len → Reading Head
 headWith at s tag l =
-    unless (ltb (length s) (tag + formSize (l .form) + l .value)) (no 1 (at + length s))
+    unless (ltb (length s) (tag + formSize (l .form) + l .value)) (faultAt endsTooSoon (at + length s))
     (got (record { tag = tag; form = l .form; value = l .value }))
 
 -- O2: "An object is a tag, a length and a value of that many bytes." R43: "tag 1, 8, length 1 or 22, value 1"
@@ -119,7 +120,7 @@ branchOf s h r = record { obj = branch (take (h .tag) s) (h .form) (r .objs); si
 unfoldable mutual
   -- one object after the other, left to right (R40), whatever their tags (O12)
   pub runBy : ℕ → ℕ → ℕ → ℕ → List ℕ → Reading RunRead
-  runBy zero left n at s = refused (no 0 at)
+  runBy zero left n at s = refused (faultAt neverGiven at)
   runBy (suc f) left n at [] = got (record { objs = none; count = n })
   runBy (suc f) left n at (b ∷ s) =
       andThen (oneBy f left n at (b ∷ s)) λ o.
@@ -129,10 +130,10 @@ unfoldable mutual
   -- R43: "An object: 10, 9, tag 1, 8, length 1 or 22, value 1, then its inside." R47: "the first byte of the tag for 9 and 10". O5: "read
   -- as a part of the same bytes .. A value without that bit is never looked into."
   pub oneBy : ℕ → ℕ → ℕ → ℕ → List ℕ → Reading OneRead
-  oneBy zero left n at s = refused (no 0 at)
+  oneBy zero left n at s = refused (faultAt neverGiven at)
   oneBy (suc f) left n at s =
-      unless (leb mostObjects n) (no 10 at)
-      (unless (eqb left 0) (no 9 at)
+      unless (leb mostObjects n) (faultAt tooManyObjects at)
+      (unless (eqb left 0) (faultAt tooDeep at)
       (andThen (headOf at s) λ h.
       pick (nested (getD s 0 0))
       (andThen (runBy f (left - 1) (n + 1) (at + from h) (part (from h) (to h) s)) λ r. got (branchOf s h r))

@@ -11,8 +11,8 @@ pub data Reading (A : Type 0) : Type 0 where
   refused : Refusal → Reading A
 
 -- R46: "Every refusal of a body names a place, counted from 0 at the message's start": a number, and that place
-abbrev pub no : ℕ → ℕ → Refusal
-no number at = record { number = number; place = At at }
+abbrev pub faultAt : ℕ → ℕ → Refusal
+faultAt number at = record { number = number; place = At at }
 
 -- R46: "No other refusal names one"
 abbrev pub unplaced : ℕ → Refusal

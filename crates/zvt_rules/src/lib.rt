@@ -17,6 +17,75 @@ pub struct Refusal {
 }
 
 impl Refusal {
+    // R1: "the bytes end before a thing that they began"
+    pub const ENDS_TOO_SOON: u8 = 1;
+
+    // R2: "a header announces more than 4,096 bytes of body (M3)"
+    pub const TOO_LONG: u8 = 2;
+
+    // R3: "bytes are left over behind the one message (M8) or block"
+    pub const LEFT_OVER: u8 = 3;
+
+    // R4: "a byte that is no length digit stands where one is due (F3)"
+    pub const NO_LENGTH_DIGIT: u8 = 4;
+
+    // R5: "a field id is unknown (F2)"
+    pub const UNKNOWN_FIELD: u8 = 5;
+
+    // R6: "a half of a byte is no decimal digit (F5)"
+    pub const NOT_DECIMAL: u8 = 6;
+
+    // R7: "a field id stands a second time (F4)"
+    pub const FIELD_TWICE: u8 = 7;
+
+    // R8: "a second tag byte has its top bit set (O4)"
+    pub const TAG_TOO_LONG: u8 = 8;
+
+    // R9: "an object is at depth 5 (O9)"
+    pub const TOO_DEEP: u8 = 9;
+
+    // R10: "an object is the 65th (O10)"
+    pub const TOO_MANY_OBJECTS: u8 = 10;
+
+    // R11: "the room lent for what is to be written is too small (R38, T20, T21)"
+    pub const NO_ROOM: u8 = 11;
+
+    // R12: "there is no such lane (P1)"
+    pub const NO_SUCH_LANE: u8 = 12;
+
+    // R13: "the lane is not idle"
+    pub const LANE_NOT_IDLE: u8 = 13;
+
+    // R14: "the lane is idle"
+    pub const LANE_IDLE: u8 = 14;
+
+    // R15: "the pair, or a body that is not empty, is not allowed in this phase (P15 to P22)"
+    pub const NOT_ALLOWED: u8 = 15;
+
+    // R16: "a number is outside its limits (P4, P5, P6, T8, T20, T21)"
+    pub const OUTSIDE_LIMITS: u8 = 16;
+
+    // R17: "there is no sale to reverse (P12)"
+    pub const NO_SALE: u8 = 17;
+
+    // R18: "lines and open payments are 64 already (P3)"
+    pub const BOOK_FULL: u8 = 18;
+
+    // R19: "a payment is open at closing (P2)"
+    pub const PAYMENT_OPEN: u8 = 19;
+
+    // R20: "the check of a block is wrong (T5)"
+    pub const WRONG_CHECK: u8 = 20;
+
+    // R21: "number, used count or filling of a block is wrong (T7)"
+    pub const WRONG_CONTENTS: u8 = 21;
+
+    // R22: "the first length byte of a container or data object is 80 or 83 to FF (O8)"
+    pub const NO_LENGTH: u8 = 22;
+
+    // R23: "a record of the till is neither an opening as the desk records it (T26) nor the reply that is due"
+    pub const RECORD_NOT_DUE: u8 = 23;
+
     // R46: "No other refusal names one"
     pub fn unplaced(number: u8) -> Self
         ensures { λ r. ⌜ r ≡ unplaced number ⌝ }

@@ -20,10 +20,10 @@ unfoldable pub Hex : ℕ → List ℕ → Type 0
 Hex b w = (high : ℕ) × (low : ℕ) × (high < 16) × (low < 16) × (b ≡ high * 16 + low) × (w ≡ digit high ∷ (digit low ∷ []))
 
 -- the number that digits say, behind those that say v
-unfoldable pub Says : ℕ → List ℕ → ℕ → Type 0
-Says v [] n = v ≡ n
-Says v (c ∷ w) n = (d : ℕ) × (d < 10) × (c ≡ digit d) × Says (v * 10 + d) w n
+unfoldable pub SaysBehind : ℕ → List ℕ → ℕ → Type 0
+SaysBehind v [] n = v ≡ n
+SaysBehind v (c ∷ w) n = (d : ℕ) × (d < 10) × (c ≡ digit d) × SaysBehind (v * 10 + d) w n
 
 -- M17: "decimal": 0, or digits of which the first is not 0
 unfoldable pub Decimal : ℕ → List ℕ → Type 0
-Decimal n w = ((n ≡ 0) × (w ≡ ascii "0")) ⊎ ((d : ℕ) × (v : List ℕ) × (0 < d) × (d < 10) × (w ≡ digit d ∷ v) × Says d v n)
+Decimal n w = ((n ≡ 0) × (w ≡ ascii "0")) ⊎ ((d : ℕ) × (v : List ℕ) × (0 < d) × (d < 10) × (w ≡ digit d ∷ v) × SaysBehind d v n)

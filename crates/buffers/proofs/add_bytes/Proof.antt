@@ -7,13 +7,15 @@ use Rattle.buffers.proofs.add_bytes.Tie as tie
 
 returns : tie.Need-returns
 returns c =
-    let at = c .before .before in
-    rw (bytes-none (at .before .before .before .before .before .args .v .now) (omega arith)) (at .add .ensures)
+    let put = c .before .before in
+    let start = put .before .before .before .before .before in
+    rw (bytes-none (start .args .v .now) (omega arith)) (put .add .ensures)
 
 returns-2 : tie.Need-returns-2
 returns-2 c =
-    let at = c .before .before in
-    rw (bytes-some (at .before .before .before .before .before .args .v .now) (λ e. omega arith)) (at .add-hexes .ensures)
+    let put = c .before .before in
+    let start = put .before .before .before .before .before in
+    rw (bytes-some (start .args .v .now) (λ e. omega arith)) (put .add-hexes .ensures)
 
 pub add-bytes-spec : {M : Type 1} → statement M
 add-bytes-spec = tie.close (tie.spec

@@ -11,8 +11,9 @@ use Rattle.buffers.proofs.add_decimal.Tie as tie
 returns : tie.Need-returns
 returns c =
     let all = c .before .before in
-    let d = all .before .before .before .decimal in
-    let a = all .before .before .before .before .before .before .args in
+    let digits = all .before .before .before in
+    let d = digits .decimal in
+    let a = digits .before .before .before .args in
     all .add-all .ensures
     ∙ ap (λ (w : List ℕ). addAll w (text (a .at) (a .out .now))) (d .ensures .1 .1 ∙ decimals _ _ (d .ensures .1 .0))
 

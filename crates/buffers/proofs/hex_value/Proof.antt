@@ -22,22 +22,26 @@ returns-3 c =
 
 returns-4 : tie.Need-returns-4
 returns-4 c =
-    let b = c .before .before .before .before .args .b in
+    let start = c .before .before .before .before in
+    let b = start .args .b in
     rw (le-ltb b 48 (omega arith), lt-leb b 57 (omega arith), le-ltb b 65 (omega arith), le-leb b 70 (omega arith))
 
 returns-5 : tie.Need-returns-5
 returns-5 c =
-    let b = c .before .before .before .before .before .args .b in
+    let start = c .before .before .before .before .before in
+    let b = start .args .b in
     rw (le-ltb b 48 (omega arith), lt-leb b 57 (omega arith), le-ltb b 65 (omega arith), lt-leb b 70 (omega arith), lt-ltb b 97 (omega arith))
 
 returns-6 : tie.Need-returns-6
 returns-6 c =
-    let b = c .before .before .before .before .before .before .args .b in
+    let start = c .before .before .before .before .before .before in
+    let b = start .args .b in
     rw (le-ltb b 48 (omega arith), lt-leb b 57 (omega arith), le-ltb b 65 (omega arith), lt-leb b 70 (omega arith), le-ltb b 97 (omega arith), le-leb b 102 (omega arith))
 
 returns-7 : tie.Need-returns-7
 returns-7 c =
-    let b = c .before .before .before .before .before .before .args .b in
+    let start = c .before .before .before .before .before .before in
+    let b = start .args .b in
     rw (le-ltb b 48 (omega arith), lt-leb b 57 (omega arith), le-ltb b 65 (omega arith), lt-leb b 70 (omega arith), le-ltb b 97 (omega arith), lt-leb b 102 (omega arith))
 
 pub hex-value-spec : {M : Type 1} → statement M

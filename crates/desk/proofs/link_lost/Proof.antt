@@ -6,7 +6,7 @@ use native.Mathlib.Omega.{arith}
 use Rattle.zvt_rules.specs.Reading.{unplaced}
 use Rattle.desk_rules.specs.declared.Reply.the-variants.{Written}
 use Rattle.desk_rules.specs.Kinds.{isIdle}
-use Rattle.desk_rules.specs.Course.{lost, laneOf, needsPlace, NumbersFit, moves, writes}
+use Rattle.desk_rules.specs.Course.{lost, laneOf, needsLine, NumbersFit, moves, writes}
 use Rattle.desk_rules.specs.Desk.{laneAt, accept, decide}
 use Rattle.desk_rules.specs.Memory.{view}
 use Rattle.desk_rules.proofs.Memory.{taken-line}
@@ -15,13 +15,16 @@ use borrow.Author.Needs.{needs}
 use Rattle.desk.proofs.link_lost.Statement.{statement}
 use Rattle.desk.proofs.link_lost.Tie as tie
 
-open-lane : (c : tie.Else2) → let a = c .before .before .before .before .args in isIdle (laneAt (a .t1 .lanes) (a .lane) .phase) ≡ false
+abbrev begun : tie.Else2 → tie.Start
+begun c = c .before .before .before .before
+
+open-lane : (c : tie.Else2) → let a = begun c .args in isIdle (laneAt (a .t1 .lanes) (a .lane) .phase) ≡ false
 open-lane c = sym (c .before .is-idle .ensures) ∙ c .if2 .left
 
-accepts : (c : tie.Else2) → let a = c .before .before .before .before .args in decide (view (a .t1)) (lost (a .lane)) 0 ≡ accept
-unfolding laneOf needsPlace moves writes
+accepts : (c : tie.Else2) → let a = begun c .args in decide (view (a .t1)) (lost (a .lane)) 0 ≡ accept
+unfolding laneOf needsLine moves writes
 accepts c =
-    let a = c .before .before .before .before .args in
+    let a = begun c .args in
     goes-on (a .t1) (lost (a .lane)) 0 (c .before .before .before .if1 .left) (rw (lost-open (laneAt (a .t1 .lanes) (a .lane)) (open-lane c)) tt) refl (omega arith)
 
 returns : tie.Need-returns
@@ -35,16 +38,17 @@ returns c =
 returns-2 : tie.Need-returns-2
 unfolding laneOf moves writes NumbersFit
 returns-2 c =
-    let q = c .before .before .before .before .before in
+    let lane = c .before .before .before .before in
+    let q = lane .before in
     let a = q .args in
-    let e = not-moved (a .t1) (lost (a .lane)) 0 (c .before .before .before .before .if1 .left) _ (lost-idle (laneAt (a .t1 .lanes) (a .lane)) (sym (c .before .before .is-idle .ensures) ∙ c .before .if2 .taken)) in
+    let e = not-moved (a .t1) (lost (a .lane)) 0 (lane .if1 .left) _ (lost-idle (laneAt (a .t1 .lanes) (a .lane)) (sym (c .before .before .is-idle .ensures) ∙ c .before .if2 .taken)) in
     let r = refused-as (a .t1) (q .pre) (lost (a .lane)) tt [] _ (unplaced 14) e (c .refused2 .ensures) in
     (r .0, r .1 .1)
 
 moved-requires : tie.Need-moved-requires
 unfolding laneOf moves writes NumbersFit
 moved-requires c κs =
-    let q = c .before .before .before .before in
+    let q = begun c in
     let v = q .pre in
     let t = taken-line (q .args .t1) (lost (q .args .lane)) 0 v (accepts c) in
     (record { lane = c .before .before .before .if1 .left; lanes = v .lanes; lines = v .lines }, rw (lost-open (laneAt (q .args .t1 .lanes) (q .args .lane)) (open-lane c)) at t)
@@ -52,7 +56,7 @@ moved-requires c κs =
 returns-3 : tie.Need-returns-3
 unfolding laneOf moves writes NumbersFit
 returns-3 c =
-    let q = c .before .before .before .before .before in
+    let q = begun (c .before) in
     let a = q .args in
     let r = taken-as (a .t1) (q .pre) (lost (a .lane)) tt [] (record { reply = Written 0; desk = c .moved .result }) [] (accepts (c .before)) (rw (lost-open (laneAt (a .t1 .lanes) (a .lane)) (open-lane (c .before)), c .moved .ensures)) refl in
     (r .0, r .1 .1)

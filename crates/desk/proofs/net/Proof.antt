@@ -43,23 +43,23 @@ loop-holds c = omega arith
 
 add-plus : tie.Need-add-plus Inv-loop μ-loop
 add-plus c =
-    let q = c .before .before .before in
-    let i = q .loop .i in
-    let e : c .gain .result ≡ gain (getD (desk q .book .lines) i blankLine) = c .gain .ensures in
-    omega (arith, amounts-small (desk q) (valid q) i .0, gains-most (desk q) (valid q) i)
+    let turn = c .before .before .before in
+    let i = turn .loop .i in
+    let e : c .gain .result ≡ gain (getD (desk turn .book .lines) i blankLine) = c .gain .ensures in
+    omega (arith, amounts-small (desk turn) (valid turn) i .0, gains-most (desk turn) (valid turn) i)
 
 add-minus : tie.Need-add-minus Inv-loop μ-loop
 add-minus c =
-    let q = c .before .before .before .before in
-    let i = q .loop .i in
-    let e : c .loss .result ≡ loss (getD (desk q .book .lines) i blankLine) = c .loss .ensures in
-    omega (arith, amounts-small (desk q) (valid q) i .1, losses-most (desk q) (valid q) i)
+    let turn = c .before .before .before .before in
+    let i = turn .loop .i in
+    let e : c .loss .result ≡ loss (getD (desk turn .book .lines) i blankLine) = c .loss .ensures in
+    omega (arith, amounts-small (desk turn) (valid turn) i .1, losses-most (desk turn) (valid turn) i)
 
 loop-again : tie.Need-loop-again Inv-loop μ-loop
 loop-again c =
-    let q = c .before .before .before .before in
-    let i = q .loop .i in
-    let ls = desk q .book .lines in
+    let turn = c .before .before .before .before in
+    let i = turn .loop .i in
+    let ls = desk turn .book .lines in
     let e : c .loss .result ≡ loss (getD ls i blankLine) = c .loss .ensures in
     let e′ : c .before .gain .result ≡ gain (getD ls i blankLine) = c .before .gain .ensures in
     omega (arith, gains-take ls i (omega arith), losses-take ls i (omega arith))

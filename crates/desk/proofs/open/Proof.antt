@@ -8,13 +8,13 @@ use Rattle.desk_rules.specs.declared.Reference.{Reference}
 use Rattle.desk_rules.specs.declared.Reply.the-variants.{Written}
 use Rattle.desk_rules.specs.Numbers.{laneCount}
 use Rattle.desk_rules.specs.Openings.{commandBytes, lastLine}
-use Rattle.desk_rules.specs.Course.{openedBy, Call, opening, laneOf, needsPlace, NumbersFit, moves, writes}
+use Rattle.desk_rules.specs.Course.{openedBy, Call, opening, laneOf, needsLine, NumbersFit, moves, writes}
 use Rattle.desk_rules.specs.Desk.{laneAt, accept, decide}
 use Rattle.desk_rules.specs.Memory.{linesOfDesk, view, movedDesk, refusedAnswer}
 use Rattle.desk_rules.proofs.Commands.{command-size}
 use Rattle.desk_rules.proofs.Calls.{Passes}
 use Rattle.desk_rules.proofs.Memory.{moveOf, taken-line}
-use Rattle.desk.proofs.CallLaws.{passes-tag, no-lane, not-moved, no-place, no-room, goes-on, refused-as, taken-as, written}
+use Rattle.desk.proofs.CallLaws.{passes-tag, no-lane, not-moved, no-line, no-room, goes-on, refused-as, taken-as, written}
 use borrow.Author.Needs.{needs}
 use Rattle.desk.proofs.open.Statement.{statement}
 use Rattle.desk.proofs.open.Tie as tie
@@ -23,11 +23,14 @@ abbrev call : tie.Start → Call
 call q = opening (q .args .lane) (q .args .opening)
 
 -- what is known once the lane has been asked
+abbrev lane-there : tie.After-opened → tie.Else1
+lane-there c = c .before .before .before .before .before
+
 abbrev begun : tie.After-opened → tie.Start
-begun c = c .before .before .before .before .before .before .before
+begun c = lane-there c .before .before
 
 low : (c : tie.After-opened) → begun c .args .lane < laneCount
-low c = c .before .before .before .before .before .if1 .left
+low c = lane-there c .if1 .left
 
 -- the lane's own answer
 moves-to : (c : tie.After-opened) → moveOf (begun c .args .t1) (call (begun c)) ≡ c .opened .result
@@ -41,21 +44,24 @@ passes : (c : tie.At-match-keys2) → Passes (moveOf (begun (c .before) .args .t
 passes c = rw (moves-to (c .before)) (passes-tag (c .before .opened .result) (c .match .keys2))
 
 -- a place in the book
-placed : (c : tie.Else2) → c .before .no-place .result ≡ false
+placed : (c : tie.Else2) → c .before .no-line .result ≡ false
 placed c = c .if2 .left
 
 -- and room for the command
-size : (c : tie.After-command-size) → length (commandBytes (begun (c .before .before .before .before) .args .opening)) ≡ c .command-size .result
+abbrev asked : tie.After-command-size → tie.After-opened
+asked c = c .before .before .before .before
+
+size : (c : tie.After-command-size) → length (commandBytes (begun (asked c) .args .opening)) ≡ c .command-size .result
 size c = command-size _ ∙ sym (c .command-size .ensures)
 
-accepts : (c : tie.Else3) → let q = begun (c .before .before .before .before .before) in
+accepts : (c : tie.Else3) → let q = begun (asked (c .before)) in
     decide (view (q .args .t1)) (call q) (length (q .args .out .now)) ≡ accept
-unfolding laneOf needsPlace writes
+unfolding laneOf needsLine writes
 accepts c =
     let p = c .before .before in
-    let h = p .before .before .before in
+    let h = asked (c .before) in
     let q = begun h in
-    goes-on (q .args .t1) (call q) _ (low h) (passes (p .before .before)) (sym (p .before .no-place .ensures) ∙ placed p) (rw (size (c .before)) (c .if3 .left))
+    goes-on (q .args .t1) (call q) _ (low h) (passes (p .before .before)) (sym (p .before .no-line .ensures) ∙ placed p) (rw (size (c .before)) (c .if3 .left))
 
 returns : tie.Need-returns
 unfolding laneOf NumbersFit
@@ -72,23 +78,23 @@ returns-2 c =
     (not-moved (q .args .t1) (call q) _ (low h) _ (moves-to h ∙ c .before .m .given .1)) refl
 
 returns-3 : tie.Need-returns-3
-unfolding laneOf needsPlace NumbersFit
+unfolding laneOf needsLine NumbersFit
 returns-3 c =
     let p = c .before .before in
     let h = p .before .before in
     let q = begun h in
     refused-as (q .args .t1) (q .pre) (call q) tt (q .args .out .now) _ (unplaced 18)
-    (no-place (q .args .t1) (call q) _ (low h) (passes (p .before)) (sym (p .no-place .ensures) ∙ c .before .if2 .taken)) (c .refused2 .ensures)
+    (no-line (q .args .t1) (call q) _ (low h) (passes (p .before)) (sym (p .no-line .ensures) ∙ c .before .if2 .taken)) (c .refused2 .ensures)
 
 returns-4 : tie.Need-returns-4
-unfolding laneOf needsPlace writes NumbersFit
+unfolding laneOf needsLine writes NumbersFit
 returns-4 c =
     let s = c .before .before in
     let p = s .before in
-    let h = p .before .before .before in
+    let h = asked s in
     let q = begun h in
     refused-as (q .args .t1) (q .pre) (call q) tt (q .args .out .now) _ (unplaced 11)
-    (no-room (q .args .t1) (call q) _ (low h) (passes (p .before .before)) (sym (p .before .no-place .ensures) ∙ placed p) (rw (size s) (c .before .if3 .taken)))
+    (no-room (q .args .t1) (call q) _ (low h) (passes (p .before .before)) (sym (p .before .no-line .ensures) ∙ placed p) (rw (size s) (c .before .if3 .taken)))
     (c .refused3 .ensures)
 
 put-command-requires : tie.Need-put-command-requires
@@ -97,20 +103,20 @@ put-command-requires c κs = rw (size (c .before .before)) (c .before .if3 .left
 moved-requires : tie.Need-moved-requires
 unfolding laneOf
 moved-requires c κs =
-    let e = c .before .before .before .before in
-    let h = e .before .before .before .before .before in
+    let room = c .before .before .before .before in
+    let h = asked (room .before) in
     let q = begun h in
     let v = q .pre in
-    (record { lane = low h; lanes = v .lanes; lines = v .lines }, rw (moves-to h) at (taken-line (q .args .t1) (call q) _ v (accepts e)))
+    (record { lane = low h; lanes = v .lanes; lines = v .lines }, rw (moves-to h) at (taken-line (q .args .t1) (call q) _ v (accepts room)))
 
 returns-5 : tie.Need-returns-5
 unfolding laneOf writes NumbersFit
 returns-5 c =
-    let e = c .before .before .before .before .before in
-    let h = e .before .before .before .before .before in
+    let room = c .before .before .before .before .before in
+    let h = asked (room .before) in
     let q = begun h in
-    taken-as (q .args .t1) (q .pre) (call q) tt (q .args .out .now) (record { reply = Written (e .before .command-size .result); desk = c .moved .result }) _ (accepts e)
-    (written (sym (size (e .before))) (c .moved .ensures ∙ ap (movedDesk (q .args .t1) (q .args .lane)) (sym (moves-to h))))
+    taken-as (q .args .t1) (q .pre) (call q) tt (q .args .out .now) (record { reply = Written (room .before .command-size .result); desk = c .moved .result }) _ (accepts room)
+    (written (sym (size (room .before))) (c .moved .ensures ∙ ap (movedDesk (q .args .t1) (q .args .lane)) (sym (moves-to h))))
     (c .before .before .before .put-command .ensures)
 
 pub open-spec : {M : Type 1} → statement M

@@ -6,7 +6,7 @@ use Rattle.zvt_rules.specs.Reading.{unplaced}
 use Rattle.basics.specs.believed.Lists.{Bytes}
 use Rattle.desk_rules.specs.declared.Reply.the-variants.{Written}
 use Rattle.desk_rules.specs.Numbers.{laneCount}
-use Rattle.desk_rules.specs.Course.{heard, message, laneOf, needsPlace, NumbersFit, moves, writes}
+use Rattle.desk_rules.specs.Course.{heard, message, laneOf, needsLine, NumbersFit, moves, writes}
 use Rattle.desk_rules.specs.Desk.{laneAt, accept, decide}
 use Rattle.desk_rules.specs.Memory.{view, movedDesk, refusedAnswer}
 use Rattle.desk_rules.proofs.Calls.{Passes}
@@ -35,7 +35,7 @@ passes c = rw (c .before .heard .ensures) at (passes-tag (c .before .heard .resu
 -- and that there is room for the reply
 accepts : (c : tie.Else2) → let a = known (c .before .before .before) .before .args in
     decide (view (a .t1)) (message (a .lane) (a .s .now)) (length (a .out .now)) ≡ accept
-unfolding laneOf needsPlace moves writes
+unfolding laneOf needsLine moves writes
 accepts c =
     let h = c .before .before .before in
     let a = known h .before .args in
@@ -59,7 +59,7 @@ returns-2 c =
     (not-moved (a .t1) (message (a .lane) (a .s .now)) _ (low h) _ (sym (h .heard .ensures) ∙ c .before .m .given .1)) refl
 
 returns-3 : tie.Need-returns-3
-unfolding laneOf needsPlace moves writes NumbersFit
+unfolding laneOf needsLine moves writes NumbersFit
 returns-3 c =
     let r = c .before .before in
     let h = r .before .before in
@@ -72,23 +72,23 @@ returns-3 c =
 moved-requires : tie.Need-moved-requires
 unfolding laneOf moves
 moved-requires c κs =
-    let e = c .before .before .before .before in
-    let h = e .before .before .before in
+    let room = c .before .before .before .before in
+    let h = room .before .before .before in
     let k = known h in
     let a = k .before .args in
     let v = k .before .pre in
-    let t = taken-line (a .t1) (message (a .lane) (a .s .now)) _ v (accepts e) in
+    let t = taken-line (a .t1) (message (a .lane) (a .s .now)) _ v (accepts room) in
     (record { lane = low h; lanes = v .lanes; lines = v .lines }, rw (h .heard .ensures) t)
 
 returns-4 : tie.Need-returns-4
 unfolding laneOf moves writes NumbersFit
 returns-4 c =
-    let e = c .before .before .before .before .before in
-    let r = e .before in
+    let room = c .before .before .before .before .before in
+    let r = room .before in
     let h = r .before .before in
     let k = known h in
     let a = k .before .args in
-    taken-as (a .t1) (k .before .pre) (message (a .lane) (a .s .now)) (bytes k) (a .out .now) (record { reply = Written (r .reply-size .result); desk = c .moved .result }) _ (accepts e)
+    taken-as (a .t1) (k .before .pre) (message (a .lane) (a .s .now)) (bytes k) (a .out .now) (record { reply = Written (r .reply-size .result); desk = c .moved .result }) _ (accepts room)
     (written (r .reply-size .ensures) (c .moved .ensures ∙ ap (movedDesk (a .t1) (a .lane)) (h .heard .ensures)))
     (c .before .before .before .put-reply .ensures ∙ rw (r .reply-size .ensures) (replied-is _ (a .out .now)))
 

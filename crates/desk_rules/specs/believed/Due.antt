@@ -122,7 +122,7 @@ pub record Open (i : ℕ) (before : List Line) (calls : List Call) (kind : Kind)
   pub remembered : Remembered told status
 
 -- the line that is due for a payment's calls, after those lines: P29, P30
-pub record Due (before : List Line) (calls : List Call) (l : Line) : Type 0 where
+pub record LineDue (before : List Line) (calls : List Call) (l : Line) : Type 0 where
   pub sofar : List Call
   pub last : Call
   pub in-order : calls ≡ sofar ++ (last ∷ [])
@@ -166,5 +166,5 @@ pub data Counts (l : Line) : ℕ → ℕ → Type 0 where
 pub data Takings : List Line → List (List Call) → ℕ → ℕ → Type 0 where
   none : {before : List Line} → Takings before [] 0 0
   more : {before : List Line} {p : List Call} {ps : List (List Call)} {l : Line} {plus minus plus′ minus′ : ℕ}
-      → Due before p l → Counts l plus minus → Takings (before ++ (l ∷ [])) ps plus′ minus′
+      → LineDue before p l → Counts l plus minus → Takings (before ++ (l ∷ [])) ps plus′ minus′
       → Takings before (p ∷ ps) (plus + plus′) (minus + minus′)

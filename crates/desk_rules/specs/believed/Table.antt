@@ -11,7 +11,7 @@ use Rattle.zvt_rules.specs.declared.Status.{Status}
 use Rattle.zvt_rules.specs.declared.ToldCode.the-variants.{Missing as no-code}
 use Rattle.zvt_rules.specs.declared.ToldAmount.the-variants.{Missing as no-amount}
 use Rattle.zvt_rules.specs.declared.ToldReceipt.the-variants.{Missing as no-receipt}
-use Rattle.zvt_rules.specs.Reading.{Reading, got, refused, no, unplaced}
+use Rattle.zvt_rules.specs.Reading.{Reading, got, refused, faultAt, unplaced}
 use Rattle.zvt_rules.specs.Fields.{Field, plain}
 use Rattle.zvt_rules.specs.Message.{Heading, wholeHeader, bytes, listed, Message, readOf}
 use Rattle.zvt_rules.specs.Digits.{numberOf}
@@ -38,7 +38,7 @@ abbrev pub gives : ℕ → Type 0 → Refusal → Type 0
 gives number Holds r = Holds × (unplaced number ≡ r)
 
 abbrev pub givesAt : ℕ → ℕ → Type 0 → Refusal → Type 0
-givesAt number place Holds r = Holds × (no number place ≡ r)
+givesAt number place Holds r = Holds × (faultAt number place ≡ r)
 
 abbrev pub refuses : {A : Type 0} → Reading A → Refusal → Type 0
 refuses x r = x ≡ refused r

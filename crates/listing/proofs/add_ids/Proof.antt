@@ -19,7 +19,8 @@ returns : tie.Need-returns
 returns c =
     let each = c .before .before in
     let first = each .before .before .before in
-    let a = first .before .before .before .before .args in
+    let start = first .before .before .before .before in
+    let a = start .args in
     each .add-each .ensures
     ∙ ap (λ (w : List ℕ). addAll w (text (a .at) (a .out .now))) (ids-told (a .s .now) _ (first .read-first .ensures .1 .0) (first .read-first .ensures .1 .1))
 

@@ -1,12 +1,12 @@
 -- `listing::add_size`: a blank, a number and a word. Assumes nothing.
-use Rattle.zvt_rules.specs.Listing.{sizeText, formText}
+use Rattle.zvt_rules.specs.Listing.{sizeText, shortOrLong}
 use Rattle.buffers.proofs.TextLaws.{both}
 use borrow.Author.Needs.{needs}
 use Rattle.listing.proofs.add_size.Statement.{statement}
 use Rattle.listing.proofs.add_size.Tie as tie
 
 returns : tie.Need-returns
-unfolding sizeText formText
+unfolding sizeText shortOrLong
 returns c =
     let word = c .before .before in
     let number = word .before .before .before .before .before .before in
@@ -15,7 +15,7 @@ returns c =
     (both _ _ _ (number .add-decimal .ensures) (rw (word .before .before .before .if1 .taken) (word .add-all .ensures)))
 
 returns-2 : tie.Need-returns-2
-unfolding sizeText formText
+unfolding sizeText shortOrLong
 returns-2 c =
     let word = c .before .before in
     let number = word .before .before .before .before .before .before in

@@ -33,11 +33,12 @@ returns c =
     let end = c .before .before in
     let told = end .before .before .before in
     let line = told .before .before .before .before in
-    let turn = line .before .before .before .loop in
+    let looping = line .before .before .before in
+    let turn = looping .loop in
     let put = rw (told .end .given .1) at (line .next-line .ensures) in
     let t = text (turn .to) (turn .out) in
-    let s = line .before .before .before .before .before .before .args .s .now in
-    let known = bytes-known _ (line .before .before .before .before .before .shared-slice-known .given) in
+    let s = looping .before .before .before .args .s .now in
+    let known = bytes-known _ (looping .before .before .shared-slice-known .given) in
     listed-whole s _ _ _ known (cc (end .add .ensures, put .2, rest-last s (turn .from) (turn .count) (put .0) t (put .1), turn .inv .4))
 
 add-from : tie.Need-add-from Inv-loop μ-loop
@@ -50,7 +51,9 @@ add-from c =
 
 add-count : tie.Need-add-count Inv-loop μ-loop
 add-count c =
-    let turn = c .before .before .before .before .before .before .before .before .before .before .before .before .loop in
+    let told = c .before .before .before .before .before in
+    let line = told .before .before .before .before in
+    let turn = line .before .before .before .loop in
     ⊎-elim (λ w. omega arith) (λ w. omega arith) (turn .inv .2)
 
 loop-less : tie.Need-loop-less Inv-loop μ-loop
@@ -67,10 +70,11 @@ loop-again c =
     let end = c .before .before in
     let told = end .before .before .before in
     let line = told .before .before .before .before in
-    let turn = line .before .before .before .loop in
+    let looping = line .before .before .before in
+    let turn = looping .loop in
     let put = rw (told .end2 .given .1) at (line .next-line .ensures) in
     let t = text (turn .to) (turn .out) in
-    let s = line .before .before .before .before .before .before .args .s .now in
+    let s = looping .before .before .before .args .s .now in
     let step = rest-message s (turn .from) (turn .count) (put .0) t (told .end2 .given .0 .1 .0) (put .1) in
     let room : Text → ℕ = λ x. length (x .bytes) in (
       omega (arith, put .4),

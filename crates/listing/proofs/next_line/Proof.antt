@@ -22,8 +22,8 @@ returns-2 c = (_, next-none _ _ (omega arith), c .before .before .ok-line .ensur
 room : tie.Need-array-share-prefix-ids
 room c =
     let first = c .before .before .before in
-    let s = first .before .before .before .before .before in
-    ids-fit (s .before .args .rest .now) _ (first .read-first .ensures .1 .0) (first .read-first .ensures .1 .1)
+    let lent = first .before .before .before .before .before in
+    ids-fit (lent .before .args .rest .now) _ (first .read-first .ensures .1 .0) (first .read-first .ensures .1 .1)
 
 returns-3 : tie.Need-returns-3
 unfolding Added
@@ -40,10 +40,10 @@ returns-4 c =
     let line = c .before .before in
     let told = line .before .before .before .before in
     let first = told .before .before in
-    let s = first .before .before .before .before .before in
+    let lent = first .before .before .before .before .before in
     let message = sym (first .read-first .ensures .0) ∙ told .answer2 .given .1 in
-    let ids = ids-told (s .before .args .rest .now) _ (first .read-first .ensures .1 .0) (first .read-first .ensures .1 .1) in
-    let known = bytes-known _ (s .shared-slice-known .given) in (
+    let ids = ids-told (lent .before .args .rest .now) _ (first .read-first .ensures .1 .0) (first .read-first .ensures .1 .1) in
+    let known = bytes-known _ (lent .shared-slice-known .given) in (
       _,
       next-message _ known _ _ message _ (omega arith) (λ k. omega arith),
       rw ids at (line .message-line .ensures),

@@ -21,7 +21,7 @@ abbrev begun : tie.After-field → tie.Start
 begun c = c .before .before .before .before .before
 
 bytes : (c : tie.After-field) → Bytes (begun c .args .s .now)
-bytes c = bytes-known _ (c .before .before .before .before .shared-slice-known .given)
+bytes c = let lent = c .before .before .before .before in bytes-known _ (lent .shared-slice-known .given)
 
 status : (c : tie.After-field) → statusPair (begun c .args .s .now) ≡ true
 status c = sym (c .before .before .is-status .ensures) ∙ not-false _ (c .before .if1 .left)

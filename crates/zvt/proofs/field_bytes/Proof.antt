@@ -9,8 +9,11 @@ use Rattle.zvt.proofs.field_bytes.Statement.{statement}
 use Rattle.zvt.proofs.field_bytes.Tie as tie
 
 -- where the value lies
+abbrev begun : tie.After-known-told → tie.Start
+begun c = c .before .before .before .before .before .before
+
 lies : (c : tie.After-known-told)
-    → let p = c .before .place .given .0 .0 in (p .from ≤ p .to) × (p .to ≤ length (c .before .before .before .before .before .before .args .s .now))
+    → let p = c .before .place .given .0 .0 in (p .from ≤ p .to) × (p .to ≤ length (begun c .args .s .now))
 lies c =
     let asked = c .before .before .before in
     value-lies _ (bytes-known _ (asked .before .before .shared-slice-known .given)) _ _ (sym (asked .field .ensures) ∙ c .before .place .given .1)

@@ -44,8 +44,10 @@ tally c = c .before .before .before .part2 .given .0 .0
 read : (c : Read) → Short (bytes (at-header c)) (header (at-header c)) (tally c)
 read c =
     let i = at-header c in
-    short-found _ _ (headed i) (bytes-known (bytes i) (i .before .before .before .before .before .shared-slice-known .given)) _
-    (sym (c .before .before .before .before .before .body-in .ensures .answer) ∙ c .before .before .before .part2 .given .1)
+    let lent = i .before .before .before .before .before in
+    let told = c .before .before .before in
+    short-found _ _ (headed i) (bytes-known (bytes i) (lent .shared-slice-known .given)) _
+    (sym (told .before .before .body-in .ensures .answer) ∙ told .part2 .given .1)
 
 message-size-requires : tie.Need-message-size-requires
 message-size-requires c κs = omega (arith, whole-within _ _ (headed (at-header c)) .1)
@@ -74,13 +76,14 @@ returns-2 c = no-header _ _ _ (sym (c .before .before .before .whole-header .ens
 
 returns-3 : tie.Need-returns-3
 returns-3 c =
-    no-body _ _ (headed (c .before .before .before .before)) _ _ (sym (c .before .before .before .body-in .ensures .answer) ∙ c .before .part .given .1)
+    let read = c .before .before .before in
+    no-body _ _ (headed (read .before)) _ _ (sym (read .body-in .ensures .answer) ∙ c .before .part .given .1)
 
 returns-4 : tie.Need-returns-4
 returns-4 c =
-    let sized = c .before .before .before .before .before in
-    written-out _ _ _ (read (sized .before)) _ _ (sized .message-size .ensures) (c .before .before .before .before .if1 .left)
-    (c .before .before .put-message .ensures)
+    let fits = c .before .before .before .before in
+    let sized = fits .before in
+    written-out _ _ _ (read (sized .before)) _ _ (sized .message-size .ensures) (fits .if1 .left) (c .before .before .put-message .ensures)
 
 pub shorten-spec : {M : Type 1} → statement M
 shorten-spec =

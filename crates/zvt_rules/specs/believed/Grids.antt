@@ -14,21 +14,21 @@ pub data Cell : Type 0 where
   ·· f1 f2 f3 f4 f5 f8 fF n2 n3 n6 d2 d3 co : Cell
 
 -- the format of a field, and whether its value is of decimal digits
-unfoldable pub says : Cell → Format × Bool
-says ·· = (Unknown, false)
-says f1 = (Fixed 1, false)
-says f2 = (Fixed 2, false)
-says f3 = (Fixed 3, false)
-says f4 = (Fixed 4, false)
-says f5 = (Fixed 5, false)
-says f8 = (Fixed 8, false)
-says fF = (Fixed 15, false)
-says n2 = (Fixed 2, true)
-says n3 = (Fixed 3, true)
-says n6 = (Fixed 6, true)
-says d2 = (Digits 2, false)
-says d3 = (Digits 3, false)
-says co = (Container, false)
+unfoldable pub cellSays : Cell → Format × Bool
+cellSays ·· = (Unknown, false)
+cellSays f1 = (Fixed 1, false)
+cellSays f2 = (Fixed 2, false)
+cellSays f3 = (Fixed 3, false)
+cellSays f4 = (Fixed 4, false)
+cellSays f5 = (Fixed 5, false)
+cellSays f8 = (Fixed 8, false)
+cellSays fF = (Fixed 15, false)
+cellSays n2 = (Fixed 2, true)
+cellSays n3 = (Fixed 3, true)
+cellSays n6 = (Fixed 6, true)
+cellSays d2 = (Digits 2, false)
+cellSays d3 = (Digits 3, false)
+cellSays co = (Container, false)
 
 -- F2: "The id alone decides the format." F5: "Fields 04, 0B, 37, 49, 87 and 88 .. have a decimal digit in each half of each byte."
 unfoldable pub ids : List Cell

@@ -26,14 +26,14 @@ Ids [] ws = ws ≡ []
 Ids (f ∷ fs) ws = (w : List ℕ) × (vs : List (List ℕ)) × (ws ≡ w ∷ vs) × Hex (fieldId f) w × Ids fs vs
 
 -- M17: "`short` for a shortest message, else `long`". M11: "A message is shortest when shortening would change nothing."
-unfoldable pub Form : Message → List ℕ → Type 0
-Form m w = ((write m ≡ messageBytes m) × (w ≡ ascii "short")) ⊎ ((write m ≡ messageBytes m → ⊥) × (w ≡ ascii "long"))
+unfoldable pub ShortOrLong : Message → List ℕ → Type 0
+ShortOrLong m w = ((write m ≡ messageBytes m) × (w ≡ ascii "short")) ⊎ ((write m ≡ messageBytes m → ⊥) × (w ≡ ascii "long"))
 
 -- M17: "its number, from 1; the pair; the length of the body as sent; `short` .. else `long`; the ids .., none for a plain body"
 unfoldable pub Line : ℕ → Message → List ℕ → Type 0
 Line number m t = (n : List ℕ) × (class : List ℕ) × (instruction : List ℕ) × (size : List ℕ) × (form : List ℕ) × (ids : List (List ℕ))
     × Decimal number n × Hex (m .class) class × Hex (m .instruction) instruction × Decimal (length (bodyBytes (m .body))) size
-    × Form m form × Ids (bodyFields (m .body)) ids × (t ≡ words (n ∷ (class ++ instruction) ∷ size ∷ form ∷ ids) ++ ascii "\n")
+    × ShortOrLong m form × Ids (bodyFields (m .body)) ids × (t ≡ words (n ∷ (class ++ instruction) ∷ size ∷ form ∷ ids) ++ ascii "\n")
 
 -- M18: "The last line is `end`, the number of messages listed, and `ok` or `refused` with a number and no place: the listing ends at a
 -- refused message"; s is what follows those listed

@@ -13,7 +13,7 @@ use Rattle.zvt_rules.specs.declared.Refusal.{Refusal}
 use Rattle.zvt_rules.specs.declared.Format.the-variants.{Unknown, Digits}
 use Rattle.zvt_rules.specs.declared.Layout.{Layout}
 use Rattle.zvt_rules.specs.declared.Layout.the-variants.{Plain, List as FieldList, Secured}
-use Rattle.zvt_rules.specs.Reading.{no, unplaced}
+use Rattle.zvt_rules.specs.Reading.{faultAt, unplaced}
 use Rattle.zvt_rules.specs.Objects.{Form, Obj, countObj}
 use Rattle.zvt_rules.specs.Fields.{formatOf, holdsDigits, Field, plain, fieldId, countField}
 use Rattle.zvt_rules.specs.Message.{layoutOf}
@@ -34,25 +34,25 @@ pub record Cut (s whole : List ℕ) : Type 0 where
 -- data object is 80 or 83 to FF (O8)". R47: "the wrong byte itself"
 pub data SizedNo : ℕ → List ℕ → Refusal → Type 0 where
   short : {at : ℕ} {s : List ℕ} (form : Form) (value : List ℕ) → FormOk form (length value) → Cut s (sized form value)
-      → SizedNo at s (no 1 (at + length s))
-  wrong : {at b : ℕ} {s : List ℕ} → (b ≡ 0x80) ⊎ (0x83 ≤ b) → SizedNo at (b ∷ s) (no 22 at)
+      → SizedNo at s (faultAt 1 (at + length s))
+  wrong : {at b : ℕ} {s : List ℕ} → (b ≡ 0x80) ⊎ (0x83 ≤ b) → SizedNo at (b ∷ s) (faultAt 22 at)
 
 -- O10: "A message has at most 64 objects", n of them before this one. O9: "down to depth 4", left levels with this one's
-abbrev pub Room : ℕ → ℕ → Type 0
-Room left n = (n < 64) × (0 < left)
+abbrev pub ObjectFits : ℕ → ℕ → Type 0
+ObjectFits left n = (n < 64) × (0 < left)
 
 -- R43: "An object: 10, 9, tag 1, 8, length 1 or 22, value 1, then its inside. One byte of it is enough for 10 and 9." R47: "the first byte
 -- of the tag for 9 and 10, and the wrong byte itself for .. 8"
 pub data RunNo : ℕ → ℕ → ℕ → List ℕ → Refusal → Type 0 where
-  tooMany : {left n at : ℕ} {s : List ℕ} → 0 < length s → 64 ≤ n → RunNo left n at s (no 10 at)
-  tooDeep : {left n at : ℕ} {s : List ℕ} → 0 < length s → n < 64 → left ≡ 0 → RunNo left n at s (no 9 at)
-  tagShort : {left n at : ℕ} {s : List ℕ} (tag : List ℕ) (run : Bool) → Room left n → 0 < length s → TagOk tag run → Cut s tag
-      → RunNo left n at s (no 1 (at + length s))
+  tooMany : {left n at : ℕ} {s : List ℕ} → 0 < length s → 64 ≤ n → RunNo left n at s (faultAt 10 at)
+  tooDeep : {left n at : ℕ} {s : List ℕ} → 0 < length s → n < 64 → left ≡ 0 → RunNo left n at s (faultAt 9 at)
+  tagShort : {left n at : ℕ} {s : List ℕ} (tag : List ℕ) (run : Bool) → ObjectFits left n → 0 < length s → TagOk tag run → Cut s tag
+      → RunNo left n at s (faultAt 1 (at + length s))
   -- O3: "where the low five bits of its first byte are ones". O4: "A second tag byte with its top bit set is refused (8)."
-  tagWrong : {left n at b c : ℕ} {s : List ℕ} → Room left n → b % 32 ≡ 31 → 0x80 ≤ c → RunNo left n at (b ∷ (c ∷ s)) (no 8 (at + 1))
-  sizedIn : {left n at : ℕ} {s : List ℕ} {r : Refusal} (tag : List ℕ) (run : Bool) → Room left n → TagOk tag run
+  tagWrong : {left n at b c : ℕ} {s : List ℕ} → ObjectFits left n → b % 32 ≡ 31 → 0x80 ≤ c → RunNo left n at (b ∷ (c ∷ s)) (faultAt 8 (at + 1))
+  sizedIn : {left n at : ℕ} {s : List ℕ} {r : Refusal} (tag : List ℕ) (run : Bool) → ObjectFits left n → TagOk tag run
       → SizedNo (at + length tag) s r → RunNo left n at (tag ++ s) r
-  inside : {left n at : ℕ} {r : Refusal} (tag : List ℕ) (form : Form) (value s : List ℕ) → Room left n → TagOk tag true
+  inside : {left n at : ℕ} {r : Refusal} (tag : List ℕ) (form : Form) (value s : List ℕ) → ObjectFits left n → TagOk tag true
       → FormOk form (length value) → RunNo (left - 1) (n + 1) (at + length (tag ++ lenBytes form (length value))) value r
       → RunNo left n at ((tag ++ sized form value) ++ s) r
   -- R40: "from left to right"
@@ -70,17 +70,17 @@ Undecimal b = (9 < b / 16) ⊎ (9 < b % 16)
 -- R42: "A field: 5, 7, length 1 or 4 (of a container 1 or 22), value 1, digits 6, then the inside of a container." R47: "the id of the field
 -- for 5 and 7 .., and the wrong byte itself for 4, 6"
 pub data ListNo : List ℕ → ℕ → ℕ → List ℕ → Refusal → Type 0 where
-  noField : {seen : List ℕ} {n at id : ℕ} {s : List ℕ} → formatOf id ≡ Unknown → ListNo seen n at (id ∷ s) (no 5 at)
-  twice : {seen : List ℕ} {n at id : ℕ} {s : List ℕ} → (formatOf id ≡ Unknown → ⊥) → In id seen → ListNo seen n at (id ∷ s) (no 7 at)
+  noField : {seen : List ℕ} {n at id : ℕ} {s : List ℕ} → formatOf id ≡ Unknown → ListNo seen n at (id ∷ s) (faultAt 5 at)
+  twice : {seen : List ℕ} {n at id : ℕ} {s : List ℕ} → (formatOf id ≡ Unknown → ⊥) → In id seen → ListNo seen n at (id ∷ s) (faultAt 7 at)
   short : {seen : List ℕ} {n at id : ℕ} {s : List ℕ} (value : List ℕ) → New seen id → SizeOk (formatOf id) (length value)
-      → Cut s (lengthIn (formatOf id) (length value) ++ value) → ListNo seen n at (id ∷ s) (no 1 (at + length (id ∷ s)))
+      → Cut s (lengthIn (formatOf id) (length value) ++ value) → ListNo seen n at (id ∷ s) (faultAt 1 (at + length (id ∷ s)))
   -- R4: "a byte that is no length digit stands where one is due (F3)"; the digits before it say some length
   noDigit : {seen : List ℕ} {n at id d : ℕ} (front : List ℕ) (v b : ℕ) (s : List ℕ) → New seen id → formatOf id ≡ Digits d
-      → length front < d → Says front v → (b < 0xF0) ⊎ (0xF9 < b) → ListNo seen n at (id ∷ (front ++ (b ∷ s))) (no 4 (at + length (id ∷ front)))
+      → length front < d → Says front v → (b < 0xF0) ⊎ (0xF9 < b) → ListNo seen n at (id ∷ (front ++ (b ∷ s))) (faultAt 4 (at + length (id ∷ front)))
   undecimal : {seen : List ℕ} {n at : ℕ} (id : ℕ) (front : List ℕ) (b : ℕ) (back s : List ℕ) → New seen id
       → SizeOk (formatOf id) (length (front ++ (b ∷ back))) → holdsDigits id ≡ true → Decimals front → Undecimal b
       → ListNo seen n at (fieldBytes (plain id (front ++ (b ∷ back))) ++ s)
-      (no 6 (at + length (id ∷ (lengthIn (formatOf id) (length (front ++ (b ∷ back))) ++ front))))
+      (faultAt 6 (at + length (id ∷ (lengthIn (formatOf id) (length (front ++ (b ∷ back))) ++ front))))
   sizedIn : {seen : List ℕ} {n at : ℕ} {s : List ℕ} {r : Refusal} → New seen 0x06 → SizedNo (at + 1) s r → ListNo seen n at (0x06 ∷ s) r
   -- O9: "Objects of the container itself are at depth 1 .. down to depth 4."
   inside : {seen : List ℕ} {n at : ℕ} {r : Refusal} (form : Form) (value s : List ℕ) → New seen 0x06 → FormOk form (length value)
@@ -91,9 +91,9 @@ pub data ListNo : List ℕ → ℕ → ℕ → List ℕ → Refusal → Type 0 w
 
 -- R41: "A password: 1 where three bytes are not there, then 6.", and the list behind it
 pub data SecuredNo : ℕ → List ℕ → Refusal → Type 0 where
-  short : {at : ℕ} {s : List ℕ} → length s < 3 → SecuredNo at s (no 1 (at + length s))
+  short : {at : ℕ} {s : List ℕ} → length s < 3 → SecuredNo at s (faultAt 1 (at + length s))
   undecimal : {at : ℕ} (front : List ℕ) (b : ℕ) (back s : List ℕ) → length (front ++ (b ∷ back)) ≡ 3 → Decimals front → Undecimal b
-      → SecuredNo at ((front ++ (b ∷ back)) ++ s) (no 6 (at + length front))
+      → SecuredNo at ((front ++ (b ∷ back)) ++ s) (faultAt 6 (at + length front))
   behind : {at : ℕ} {s : List ℕ} {r : Refusal} (password : List ℕ) → length password ≡ 3 → Decimals password
       → ListNo [] 0 (at + length password) s r → SecuredNo at (password ++ s) r
 

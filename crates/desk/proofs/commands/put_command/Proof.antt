@@ -8,18 +8,24 @@ use Rattle.desk.proofs.commands.put_command.Tie as tie
 
 copy-requires : tie.Need-copy-requires
 copy-requires c κs =
-    let q = c .before .before in
-    rw (q .sale-bytes .ensures, ← q .before .before .opening .given .1) (q .before .before .before .before .before .pre)
+    let made = c .before .before in
+    let told = made .before .before in
+    let start = told .before .before .before in
+    rw (made .sale-bytes .ensures, ← told .opening .given .1) (start .pre)
 
 copy-requires-2 : tie.Need-copy-requires-2
 copy-requires-2 c κs =
-    let q = c .before .before in
-    rw (q .refund-bytes .ensures, ← q .before .before .opening2 .given .1) (q .before .before .before .before .before .pre)
+    let made = c .before .before in
+    let told = made .before .before in
+    let start = told .before .before .before in
+    rw (made .refund-bytes .ensures, ← told .opening2 .given .1) (start .pre)
 
 copy-requires-3 : tie.Need-copy-requires-3
 copy-requires-3 c κs =
-    let q = c .before .before in
-    rw (q .reversal-bytes .ensures, ← q .before .before .opening3 .given .1) (q .before .before .before .before .before .pre)
+    let made = c .before .before in
+    let told = made .before .before in
+    let start = told .before .before .before in
+    rw (made .reversal-bytes .ensures, ← told .opening3 .given .1) (start .pre)
 
 returns : tie.Need-returns
 returns c =

@@ -8,9 +8,9 @@ use Rattle.desk.proofs.commands.refund_bytes.Tie as tie
 returns : tie.Need-returns
 unfolding digitBytesOf spelled
 returns c =
-    let q = c .before .before .before .before .before .before in
-    let s = q .before .before .before in
-    rw (c .before .copy2 .ensures .1, q .copy .ensures .1, s .sale-bytes .ensures, s .before .password-bytes .ensures, command-bytes, command-bytes)
+    let sale-copied = c .before .before .before .before .before .before in
+    let s = sale-copied .before .before .before in
+    rw (c .before .copy2 .ensures .1, sale-copied .copy .ensures .1, s .sale-bytes .ensures, s .before .password-bytes .ensures, command-bytes, command-bytes)
 
 pub refund-bytes-spec : {M : Type 1} → statement M
 refund-bytes-spec =

@@ -13,7 +13,10 @@ use Rattle.desk.proofs.hear.heard.Tie as tie
 open-lane : (c : tie.Else1) → isIdle (c .before .before .before .args .l .phase) ≡ false
 open-lane c = sym (c .before .is-idle .ensures) ∙ c .if1 .left
 
-heard-got : (c : tie.After-h) → hearAnswer (c .before .before .before .before .before .before .args .s .now) ≡ Heard (c .h .given .0 .0)
+abbrev begun : tie.After-h → tie.Start
+begun c = c .before .before .before .before .before .before
+
+heard-got : (c : tie.After-h) → hearAnswer (begun c .args .s .now) ≡ Heard (c .h .given .0 .0)
 heard-got c = sym (c .before .before .hear .ensures) ∙ c .h .given .1
 
 returns : tie.Need-returns
@@ -26,8 +29,10 @@ returns-2 c =
 
 returns-3 : tie.Need-returns-3
 returns-3 c =
-    let h = c .before .before .before .before in
-    c .heard-running .ensures ∙ sym (heard-running _ _ (open-lane (h .before .before .before)) (bytes-known _ (h .before .before .before .before .before .shared-slice-known .given)) _ (heard-got h) (c .before .enum-told .given .1))
+    let told = c .before .before .before .before in
+    let busy = told .before .before .before in
+    c .heard-running .ensures
+    ∙ sym (heard-running _ _ (open-lane busy) (bytes-known _ (busy .before .before .shared-slice-known .given)) _ (heard-got told) (c .before .enum-told .given .1))
 
 returns-4 : tie.Need-returns-4
 returns-4 c =

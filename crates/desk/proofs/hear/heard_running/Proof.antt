@@ -21,7 +21,9 @@ returns-2 c = sym (taken (c .before .before .before) ∙ rw (c .before .told .gi
 
 returns-3 : tie.Need-returns-3
 unfolding afterTold
-returns-3 c = c .moved-by .ensures ∙ sym (taken (c .before .before .before .before) ∙ rw (c .before .before .told2 .given .1))
+returns-3 c =
+    let allowed = c .before .before .before .before in
+    c .moved-by .ensures ∙ sym (taken allowed ∙ rw (c .before .before .told2 .given .1))
 
 pub heard-running-spec : {M : Type 1} → statement M
 heard-running-spec =

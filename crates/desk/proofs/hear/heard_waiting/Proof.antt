@@ -18,20 +18,24 @@ returns-2 c = rw (c .before .before .if1 .left, c .if2 .taken)
 returns-3 : tie.Need-returns-3
 unfolding waitingMoved heardWaiting headerBy
 returns-3 c =
-    let q = c .before in
-    c .refused2 .ensures ∙ rw (q .before .before .before .before .if1 .left, ne-eqb _ _ (q .if3 .taken), ne-eqb _ _ (q .before .before .if2 .left))
+    let other = c .before in
+    let no-reply = other .before .before in
+    c .refused2 .ensures ∙ rw (no-reply .before .before .if1 .left, ne-eqb _ _ (other .if3 .taken), ne-eqb _ _ (no-reply .if2 .left))
 
 returns-4 : tie.Need-returns-4
 unfolding waitingMoved heardWaiting headerBy
 returns-4 c =
-    let q = c .before in
-    c .refused3 .ensures ∙ rw (q .before .before .before .before .before .before .if1 .left, q .before .before .if3 .left, ne-eqb _ _ (q .if4 .taken))
+    let other = c .before in
+    let class = other .before .before in
+    let plain = class .before .before .before .before in
+    c .refused3 .ensures ∙ rw (plain .if1 .left, class .if3 .left, ne-eqb _ _ (other .if4 .taken))
 
 returns-5 : tie.Need-returns-5
 unfolding waitingMoved heardWaiting headerBy
 returns-5 c =
     let class = c .before .before .before in
-    rw (c .running .ensures, class .before .before .before .before .if1 .left, class .if3 .left, c .before .if4 .left)
+    let plain = class .before .before .before .before in
+    rw (c .running .ensures, plain .if1 .left, class .if3 .left, c .before .if4 .left)
 
 pub heard-waiting-spec : {M : Type 1} → statement M
 heard-waiting-spec =

@@ -12,7 +12,10 @@ use Rattle.desk.proofs.hear.opened.Tie as tie
 idle : (c : tie.Else1) → isIdle (c .before .before .args .l .phase) ≡ true
 idle c = sym (c .before .is-idle .ensures) ∙ not-false _ (c .if1 .left)
 
-within : (c : tie.Else2) → withinLimits (c .before .before .before .before .args .opening) ≡ true
+abbrev begun : tie.Else2 → tie.Start
+begun c = c .before .before .before .before
+
+within : (c : tie.Else2) → withinLimits (begun c .args .opening) ≡ true
 within c = sym (c .before .within-limits .ensures) ∙ not-false _ (c .if2 .left)
 
 returns : tie.Need-returns

@@ -7,7 +7,7 @@ use Rattle.desk.proofs.hear.put_reply.Tie as tie
 
 returns : tie.Need-returns
 unfolding replied
-returns c = rw (c .before .before .before .before .before .if1 .taken) (c .before .before .copy .ensures .1)
+returns c = let replies = c .before .before .before .before .before in rw (replies .if1 .taken) (c .before .before .copy .ensures .1)
 
 returns-2 : tie.Need-returns-2
 unfolding replied

@@ -19,21 +19,21 @@ abbrev μ-loop : tie.MeasureT-loop
 
 returns : tie.Need-returns Inv-loop μ-loop
 returns c =
-    let q = c .before .before .before .before in
+    let turn = c .before .before .before .before in
     let e = sym (c .before .is-idle .ensures) ∙ not-true _ (c .if1 .taken) in
-    sym (q .loop .inv .1 ∙ idle-from (q .before .args .t1 .lanes) (q .loop .i) (omega arith) ∙ rw e)
+    sym (turn .loop .inv .1 ∙ idle-from (turn .before .args .t1 .lanes) (turn .loop .i) (omega arith) ∙ rw e)
 
 loop-again : tie.Need-loop-again Inv-loop μ-loop
 loop-again c =
-    let q = c .before .before .before .before in
+    let turn = c .before .before .before .before in
     let e = sym (c .before .is-idle .ensures) ∙ not-false _ (c .if1 .left) in
-    (omega arith, q .loop .inv .1 ∙ idle-from (q .before .args .t1 .lanes) (q .loop .i) (omega arith) ∙ rw e)
+    (omega arith, turn .loop .inv .1 ∙ idle-from (turn .before .args .t1 .lanes) (turn .loop .i) (omega arith) ∙ rw e)
 
 returns-2 : tie.Need-returns-2 Inv-loop μ-loop
 unfolding allIdle
 returns-2 c =
-    let q = c .before in
-    sym (q .loop .inv .1 ∙ rw (drop-of-length-le (q .before .args .t1 .lanes) {i = q .loop .i} (omega arith)))
+    let turn = c .before in
+    sym (turn .loop .inv .1 ∙ rw (drop-of-length-le (turn .before .args .t1 .lanes) {i = turn .loop .i} (omega arith)))
 
 pub all-idle-spec : {M : Type 1} → statement M
 all-idle-spec =

@@ -6,7 +6,7 @@ use Rattle.desk.proofs.memory.ended.Statement.{statement}
 use Rattle.desk.proofs.memory.ended.Tie as tie
 
 with-line-requires : tie.Need-with-line-requires
-with-line-requires c κs = c .before .before .before .before .pre .1 (sym (c .before .booked .ensures) ∙ c .if1 .taken)
+with-line-requires c κs = let start = c .before .before .before .before in start .pre .1 (sym (c .before .booked .ensures) ∙ c .if1 .taken)
 
 returns : tie.Need-returns
 unfolding endedDesk

@@ -5,7 +5,7 @@ use Rattle.desk.proofs.memory.is_full.Statement.{statement}
 use Rattle.desk.proofs.memory.is_full.Tie as tie
 
 returns : tie.Need-returns
-returns c = rw (load-is (c .before .args .d) (c .before .pre), c .places-taken .ensures)
+returns c = rw (load-is (c .before .args .d) (c .before .pre), c .lines-taken .ensures)
 
 pub is-full-spec : {M : Type 1} → statement M
 is-full-spec =

@@ -25,15 +25,16 @@ loop-holds c = (omega arith, c .blank2 .ensures)
 
 loop-again : tie.Need-loop-again Inv-loop μ-loop
 loop-again c =
-    let q = c .before .before .before .before in
-    let a = q .before .before .before .before .args in
-    let i = q .loop .i in
+    let turn = c .before .before .before .before in
+    let start = turn .before .before .before .before in
+    let a = start .args in
+    let i = turn .loop .i in
     let l = getD (a .t1 .lines) i blankLine in
     let h : i < length (a .t1 .lines) = omega arith in
     let e : concerns (a .lane) (a .reference) l ≡ c .before .concerns .result = sym (c .before .concerns .ensures) in (
       omega arith,
       rw (last-take (a .lane) (a .reference) (a .t1 .lines) i h, e)
-          (⊎-elim (λ w. rw (w .0 .taken) (w .1)) (λ w. rw (w .0 .left) (w .1 ∙ q .loop .inv .1)) (c .if1 .came)),
+          (⊎-elim (λ w. rw (w .0 .taken) (w .1)) (λ w. rw (w .0 .left) (w .1 ∙ turn .loop .inv .1)) (c .if1 .came)),
     )
 
 returns : tie.Need-returns Inv-loop μ-loop
@@ -41,8 +42,10 @@ returns c = c .blank .ensures ∙ rw (c .before .enum-told .given .1) (sym (noth
 
 returns-2 : tie.Need-returns-2 Inv-loop μ-loop
 returns-2 c =
-    let e : c .before .loop .i ≡ c .before .before .before .before .before .args .t1 .count = omega arith in
-    rw (← e) (c .before .loop .inv .1)
+    let turn = c .before in
+    let start = turn .before .before .before .before in
+    let e : turn .loop .i ≡ start .args .t1 .count = omega arith in
+    rw (← e) (turn .loop .inv .1)
 
 pub last-line-spec : {M : Type 1} → statement M
 last-line-spec =

@@ -26,7 +26,7 @@ returns-3 c = rw (c .before .m .given .1)
 
 returns-4 : tie.Need-returns-4
 unfolding movedDesk
-returns-4 c = rw (c .before .before .before .before .m2 .given .1, c .ended .ensures, c .before .ending-line .ensures)
+returns-4 c = let told = c .before .before .before .before in rw (told .m2 .given .1, c .ended .ensures, c .before .ending-line .ensures)
 
 pub moved-spec : {M : Type 1} → statement M
 moved-spec =

@@ -19,7 +19,10 @@ returns-2 c =
     rw (eq-eqb _ _ (r .before .if1 .left), ← r .receipt-named .ensures, ne-eqb _ _ (c .if2 .taken))
 
 -- of that lane and with that receipt
-same : (c : tie.Else2) → let a = c .before .before .before .before .before .args in
+abbrev begun : tie.Else2 → tie.Start
+begun c = c .before .before .before .before .before
+
+same : (c : tie.Else2) → let a = begun c .args in
     concerns (a .lane) (a .reference) (a .line) ≡ (isApproved (a .line .outcome) && looksAt (a .reference) (a .line .kind))
 unfolding concerns
 same c =

@@ -1,6 +1,5 @@
 -- The bytes of a line lie in their buffer. Assumes nothing.
 use lib.Seq.{length-take-le}
-use lib.ListN.{length}
 use mathlib.Core.Path.{sym}
 use native.Mathlib.Omega.{arith}
 use borrow.Author.Needs.{needs}

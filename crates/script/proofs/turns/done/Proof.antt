@@ -1,6 +1,5 @@
 -- Whatever a line asks for, it leaves a valid desk. Assumes nothing.
 use lib.Seq.{length-take-le}
-use lib.ListN.{length}
 use mathlib.Core.Path.{sym}
 use native.Mathlib.Omega.{arith}
 use borrow.Author.Needs.{needs}

@@ -30,8 +30,9 @@ loop-holds c = (omega arith, rw add-zero)
 returns : tie.Need-returns Inv-loop μ-loop
 unfolding asDecimals
 returns c =
-    let l = c .before .before .before .loop in
-    let b = getD (c .before .before .before .before .args .s .now) (l .i) 0 in
+    let turn = c .before .before .before in
+    let l = turn .loop in
+    let b = getD (turn .before .args .s .now) (l .i) 0 in
     let byte : b < 256 = omega (arith, c .before .shared-slice-known .given (l .i)) in
     let bad : decimal b ≡ false =
     ⊎-elim (λ w. undecimal-high b byte (w .taken))
@@ -40,8 +41,9 @@ returns c =
 
 loop-again : tie.Need-loop-again Inv-loop μ-loop
 loop-again c =
-    let l = c .before .before .before .before .before .loop in
-    let b = getD (c .before .before .before .before .before .before .args .s .now) (l .i) 0 in
+    let turn = c .before .before .before .before .before in
+    let l = turn .loop in
+    let b = getD (turn .before .args .s .now) (l .i) 0 in
     let byte : b < 256 = omega (arith, c .before .shared-slice-known2 .given (l .i)) in
     let good = both-decimal b byte (c .before .before .if1 .left) (ltb-false 9 (bitAnd b 0x0F) (c .if2 .left)) in
     (omega arith, l .inv .1 ∙ ap asDecimals (undecimal-on _ _ _ (l .i) (omega arith) good))

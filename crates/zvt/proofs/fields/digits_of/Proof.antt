@@ -1,26 +1,19 @@
 -- `zvt::fields::digits_of` meets its contract. The invariant: the digits from i on, behind those that gave v, answer as the
 -- whole does; the measure is the number of digits left. Assumes nothing.
 use mathlib.Core.Path.{_≡_, sym, ap, _∙_}
-use mathlib.Core.Bool.{true, false}
-use mathlib.Core.Logic.{_⊎_, inl, inr, ⊎-elim}
+use mathlib.Core.Bool.{false}
+use mathlib.Core.Logic.{inl, inr, ⊎-elim}
 use Prim.Native.Nat.{ℕ, _+_, _-_, _^_, _<_, _≤_}
 use native.Mathlib.Numerals.{add-one}
 use native.Mathlib.Nat.{add-zero, sub-zero, pow-succ', pow-le-pow-right}
 use native.Mathlib.Omega.{arith}
 use lib.ListN.{getD, drop}
-use borrow.Author.Tests.{le-leb, lt-leb, ltb-true, ltb-false}
+use borrow.Author.Tests.{ltb-true, ltb-false}
 use Rattle.zvt_rules.specs.Fields.{lengthDigit, digitsOf}
-use Rattle.zvt_rules.proofs.FieldReading.{digits-end, digits-cut, digits-on, digits-stop}
+use Rattle.zvt_rules.proofs.FieldReading.{digit-test, digit-fails, digits-end, digits-cut, digits-on, digits-stop}
 use Rattle.zvt.specs.FieldSteps.{asDigits, digitsAnswer}
 use Rattle.zvt.proofs.fields.digits_of.Statement.{statement}
 use Rattle.zvt.proofs.fields.digits_of.Tie as tie
-
-digit : (b : ℕ) → 0xF0 ≤ b → b ≤ 0xF9 → lengthDigit b ≡ true
-digit b l h = rw (le-leb 0xF0 b l, le-leb b 0xF9 h)
-
-digit-not : (b : ℕ) → (b < 0xF0) ⊎ (0xF9 < b) → lengthDigit b ≡ false
-digit-not b (inl h) = rw (lt-leb 0xF0 b h)
-digit-not b (inr h) = rw (le-leb 0xF0 b (omega arith), lt-leb b 0xF9 h)
 
 below : (i : ℕ) → i ≤ 2 → 10 ^ i ≤ 100
 below i h = pow-le-pow-right {n = 10} (omega arith) h
@@ -44,29 +37,33 @@ returns c =
 returns-2 : tie.Need-returns-2 Inv-loop μ-loop
 unfolding asDigits
 returns-2 c =
-    let l = c .before .before .before .before .loop in
-    let no-digit : lengthDigit (getD (c .before .before .before .before .before .args .s .now) (l .i) 0) ≡ false =
-    digit-not _ (⊎-elim (λ w. inl (w .taken)) (λ w. inr (omega (arith, ltb-true))) (c .if2 .came)) in
+    let turn = c .before .before .before .before in
+    let l = turn .loop in
+    let no-digit : lengthDigit (getD (turn .before .args .s .now) (l .i) 0) ≡ false =
+    digit-fails _ .1 (⊎-elim (λ w. inl (w .taken)) (λ w. inr (omega (arith, ltb-true))) (c .if2 .came)) in
     sym (l .inv .2 ∙ ap asDigits (digits-stop _ (l .v) _ _ (l .i) (c .before .before .before .loop-test .taken) (c .before .before .if1 .left) no-digit))
 
 mul-v : tie.Need-mul-v Inv-loop μ-loop
 mul-v c =
-    let l = c .before .before .before .before .before .loop in
+    let turn = c .before .before .before .before .before in
+    let l = turn .loop in
     omega (arith, ltb-false, below (l .i) (omega arith), l .inv .1)
 
 add-v : tie.Need-add-v Inv-loop μ-loop
 add-v c =
-    let l = c .before .before .before .before .before .loop in
+    let turn = c .before .before .before .before .before in
+    let l = turn .loop in
     omega (arith, ltb-false, below (l .i) (omega arith), l .inv .1)
 
 loop-again : tie.Need-loop-again Inv-loop μ-loop
 loop-again c =
-    let l = c .before .before .before .before .before .loop in
-    let high : getD (c .before .before .before .before .before .before .args .s .now) (l .i) 0 ≤ 249 = omega (arith, ltb-false) in (
+    let turn = c .before .before .before .before .before in
+    let l = turn .loop in
+    let high : getD (turn .before .args .s .now) (l .i) 0 ≤ 249 = omega (arith, ltb-false) in (
       omega arith,
       rw (add-one (l .i), pow-succ' 10 (l .i)) (omega (arith, high, l .inv .1)),
       l .inv .2
-          ∙ ap asDigits (digits-on _ (l .v) _ _ (l .i) (omega arith) (omega arith) (digit _ (c .before .if2 .left) high)),
+          ∙ ap asDigits (digits-on _ (l .v) _ _ (l .i) (omega arith) (omega arith) (digit-test _ .1 (c .before .if2 .left, high))),
     )
 
 returns-3 : tie.Need-returns-3 Inv-loop μ-loop

@@ -4,7 +4,7 @@ use native.Mathlib.Omega.{arith}
 use mathlib.Core.Bool.{true, false}
 use Prim.Native.Nat.{_+_}
 use lib.ListN.{getD}
-use Rattle.zvt_rules.specs.declared.Format.the-variants.{Digits, Container}
+use Rattle.zvt_rules.specs.declared.Format.the-variants.{Fixed, Digits, Container}
 use Rattle.zvt_rules.specs.Fields.{formatOf}
 use Rattle.zvt.proofs.FieldLaws.{Begins, digits-few, bounds-unknown, bounds-fixed, bounds-no-digits, bounds-digits}
 use Rattle.zvt.proofs.FieldLaws.{bounds-no-length, bounds-length}
@@ -13,11 +13,17 @@ use Rattle.zvt.proofs.fields.field_bounds.Statement.{statement}
 use Rattle.zvt.proofs.fields.field_bounds.Tie as tie
 
 -- the format is known
+abbrev begun-fixed : tie.After-format → tie.Start
+begun-fixed c = c .before .before .before
+
 abbrev begun : tie.After-format2 → tie.Start
 begun c = c .before .before .before
 
 abbrev begun-06 : tie.After-enum-told2 → tie.Start
 begun-06 c = c .before .before .before
+
+fixed-format : (c : tie.After-format) → formatOf (getD (begun-fixed c .args .s .now) 0 0) ≡ Fixed (c .format .given .0 .0)
+fixed-format c = sym (begun-fixed c .pre .2) ∙ c .format .given .1
 
 digits-format : (c : tie.After-format2) → formatOf (getD (begun c .args .s .now) 0 0) ≡ Digits (c .format2 .given .0 .0)
 digits-format c = sym (begun c .pre .2) ∙ c .format2 .given .1
@@ -54,21 +60,20 @@ returns : tie.Need-returns
 returns c = sym (bounds-unknown _ _ (sym (c .before .before .before .pre .2) ∙ c .enum-told .given .1))
 
 returns-2 : tie.Need-returns-2
-returns-2 c =
-    c .bounds-in .ensures ∙ sym (bounds-fixed _ _ _ (sym (c .before .before .before .before .before .pre .2) ∙ c .before .before .format .given .1))
+returns-2 c = c .bounds-in .ensures ∙ sym (bounds-fixed _ _ _ (fixed-format (c .before .before)))
 
 returns-3 : tie.Need-returns-3
 returns-3 c =
-    sym (bounds-no-digits _ _ _ (digits-format (c .before .before .before .before .before .before)) _
-    (sym (c .before .before .before .digits-of .ensures) ∙ c .before .f .given .1))
+    let told = c .before .before .before .before .before .before in
+    sym (bounds-no-digits _ _ _ (digits-format told) _ (sym (c .before .before .before .digits-of .ensures) ∙ c .before .f .given .1))
 
 returns-4 : tie.Need-returns-4
 returns-4 c = c .bounds-in2 .ensures ∙ sym (behind-digits (c .before) .1)
 
 returns-5 : tie.Need-returns-5
 returns-5 c =
-    sym (bounds-no-length _ _ (container-format (c .before .before .before .before .before)) _
-    (sym (c .before .before .before .len-of .ensures) ∙ c .before .f2 .given .1))
+    let told = c .before .before .before .before .before in
+    sym (bounds-no-length _ _ (container-format told) _ (sym (c .before .before .before .len-of .ensures) ∙ c .before .f2 .given .1))
 
 returns-6 : tie.Need-returns-6
 returns-6 c = c .bounds-in3 .ensures ∙ sym (behind-length (c .before) .1)

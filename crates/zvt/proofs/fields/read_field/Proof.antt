@@ -40,7 +40,14 @@ returns-2 c =
     rw (c .refused-at2 .ensures) (sym no, no-value-from _ _ _ _ _ _ no)
 
 -- bounds that were found
-found : (c : tie.After-known-told2) → let a = c .before .before .before .before .before .before .before .before .before .args in fieldBounds (a .at) (a .s .now) ≡ bounds-read (c .before .b .given .0 .0)
+abbrev once : tie.After-known-told2 → tie.Else1
+once c = c .before .before .before .before
+
+abbrev begun : tie.After-known-told2 → tie.Start
+begun c = once c .before .before .before .before .before
+
+found : (c : tie.After-known-told2)
+    → let a = begun c .args in fieldBounds (a .at) (a .s .now) ≡ bounds-read (c .before .b .given .0 .0)
 found c = sym (c .before .before .before .field-bounds .ensures) ∙ c .before .b .given .1
 
 returns-3 : tie.Need-returns-3
@@ -52,9 +59,9 @@ returns-3 c =
 returns-4 : tie.Need-returns-4
 returns-4 c =
     let g = c .before in
-    let once = g .before .before .before .before in
-    let bytes = bytes-known _ (once .before .before .before .before .shared-slice-known .given) in
-    rw (once .if1 .left) (c .read-value .ensures, value-from _ _ _ bytes _ (found g))
+    let lent = once g .before .before .before .before in
+    let bytes = bytes-known _ (lent .shared-slice-known .given) in
+    rw (once g .if1 .left) (c .read-value .ensures, value-from _ _ _ bytes _ (found g))
 
 pub read-field-spec : {M : Type 1} → statement M
 read-field-spec =

@@ -77,12 +77,12 @@ read-field-requires c κs = (omega arith, omega (arith, c .read-field-arg .given
 returns : tie.Need-returns Inv-loop μ-loop
 returns c =
     let told = c .before in
-    let d = told .before .before .before .before in
-    let l = looping d .loop in
+    let field = told .before .before .before .before in
+    let l = looping field .loop in
     let no =
     l .inv .4
-    ∙ list-stops (begun d .args .at) (begun d .args .s .now) (l .inv .2) (l .objects) (l .i) (l .spare) _ (l .inv .3 .1 _ (id-byte d))
-    (d .before .before .loop-test .taken) _
+    ∙ list-stops (begun field .args .at) (begun field .args .s .now) (l .inv .2) (l .objects) (l .i) (l .spare) _
+    (l .inv .3 .1 _ (id-byte field)) (field .before .before .loop-test .taken) _
     (sym (told .before .before .before .read-field .ensures .0) ∙ told .before .part .given .1) in
     rw (c .refused-list .ensures) (sym no, none-found _ _ _ _ _ no)
 
@@ -125,6 +125,6 @@ read-list-spec =
     (λ c. search needs) (λ c. search needs) (λ c. id-byte c) read-field-requires (λ c. search needs) (λ c κs. search needs) returns
     (λ c. search needs) (λ c. id-byte (at-field c)) add-from
     (λ c. let h = goes (c .before .before) in omega arith) (λ c κs. search needs)
-    (λ c. let h = goes (c .before .before .before .before) in omega arith)
-    (λ c. let h = goes (c .before .before .before .before .before) in omega arith)
-    (λ c. let h = goes (c .before .before .before .before .before) in omega arith) loop-again returns-2)
+    (λ c. let read = c .before .before .before .before in let h = goes read in omega arith)
+    (λ c. let read = c .before .before .before .before .before in let h = goes read in omega arith)
+    (λ c. let read = c .before .before .before .before .before in let h = goes read in omega arith) loop-again returns-2)

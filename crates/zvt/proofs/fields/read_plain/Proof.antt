@@ -11,14 +11,14 @@ returns c = sym (plain-bytes _ _ _ _ (sym (c .before .holds-digits .ensures) ∙
 
 returns-2 : tie.Need-returns-2
 returns-2 c =
-    let d = c .before .before .before .before .before in
-    sym (plain-stopped _ _ _ _ _ (sym (d .before .holds-digits .ensures) ∙ not-false _ (d .if1 .left))
+    let of-digits = c .before .before .before .before .before in
+    sym (plain-stopped _ _ _ _ _ (sym (of-digits .before .holds-digits .ensures) ∙ not-false _ (of-digits .if1 .left))
     (sym (c .before .before .before .all-decimal .ensures) ∙ c .before .f .given .1))
 
 returns-3 : tie.Need-returns-3
 returns-3 c =
-    let d = c .before .before .before .before in
-    sym (plain-digits _ _ _ _ (sym (d .before .holds-digits .ensures) ∙ not-false _ (d .if1 .left))
+    let of-digits = c .before .before .before .before in
+    sym (plain-digits _ _ _ _ (sym (of-digits .before .holds-digits .ensures) ∙ not-false _ (of-digits .if1 .left))
     (sym (c .before .before .all-decimal .ensures) ∙ c .enum-told .given .1))
 
 pub read-plain-spec : {M : Type 1} → statement M

@@ -41,8 +41,8 @@ returns c =
 
 returns-2 : tie.Need-returns-2
 returns-2 c =
-    let d = c .before .before .before .before .before in
-    sym (field-no-inner _ _ _ _ refl _ (begun (d .before) .pre .2) (not-false _ (d .if1 .left)) _
+    let container = c .before .before .before .before .before in
+    sym (field-no-inner _ _ _ _ refl _ (begun (container .before) .pre .2) (not-false _ (container .if1 .left)) _
     (sym (c .before .before .before .read-run .ensures) ∙ c .before .f .given .1))
 
 returns-3 : tie.Need-returns-3

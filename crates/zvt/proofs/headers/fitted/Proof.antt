@@ -19,9 +19,9 @@ returns-2 c =
 
 returns-3 : tie.Need-returns-3
 returns-3 c =
-    let start = c .before .before .before .before .before .before .before in
-    sym (fit-in (start .args .h) (start .args .s .now) (c .before .before .before .before .before .if1 .left)
-    (omega (arith, ltb-false)))
+    let short = c .before .before .before .before .before in
+    let start = short .before .before in
+    sym (fit-in (start .args .h) (start .args .s .now) (short .if1 .left) (omega (arith, ltb-false)))
 
 pub fitted-spec : {M : Type 1} → statement M
 fitted-spec = tie.close (tie.spec returns (λ c. search needs) returns-2 returns-3)

@@ -16,7 +16,7 @@ returns-3 : tie.Need-returns-3
 returns-3 c = sym (header-cut _ (omega arith) (c .before .if2 .left) (c .if3 .taken))
 
 returns-4 : tie.Need-returns-4
-returns-4 c = c .fitted2 .ensures ∙ sym (header-long _ (omega arith) (c .before .before .before .before .if2 .left))
+returns-4 c = let long = c .before .before .before .before in c .fitted2 .ensures ∙ sym (header-long _ (omega arith) (long .if2 .left))
 
 pub header-of-spec : {M : Type 1} → statement M
 header-of-spec =

@@ -14,16 +14,16 @@ sub-if1 c =
 
 returns : tie.Need-returns
 returns c =
-    let called = c .before .before .before .before .before .before in
-    sym (whole-over _ _ (sym (called .header-of .ensures) ∙ c .before .before .before .before .h .given .1) (c .if1 .taken))
+    let told = c .before .before .before .before in
+    sym (whole-over _ _ (sym (told .before .before .header-of .ensures) ∙ told .h .given .1) (c .if1 .taken))
 
 returns-2 : tie.Need-returns-2
 returns-2 c = sym (whole-none _ _ (sym (c .before .before .before .header-of .ensures) ∙ c .before .f .given .1))
 
 returns-3 : tie.Need-returns-3
 returns-3 c =
-    let called = c .before .before .before .before .before .before in
-    sym (whole-in _ _ (sym (called .header-of .ensures) ∙ c .before .before .before .before .h .given .1) (c .if1 .left))
+    let told = c .before .before .before .before in
+    sym (whole-in _ _ (sym (told .before .before .header-of .ensures) ∙ told .h .given .1) (c .if1 .left))
 
 pub whole-header-spec : {M : Type 1} → statement M
 whole-header-spec =

@@ -15,13 +15,16 @@ use Rattle.zvt.proofs.list.field_from.Tie as tie
 abbrev asked : tie.After-b → tie.After-field-bounds
 asked c = c .before .before
 
+abbrev filled : tie.After-b → tie.Else1
+filled c = asked c .before .before .before .before
+
 found : (c : tie.After-b)
-    → let a = asked c .before .before .before .before .before .before .args in
+    → let a = filled c .before .before .args in
     let x = c .b .given .0 .0 in
     (x .from ≤ x .to) × (a .at + x .to ≤ a .end)
     × FieldHere (a .at) (a .end) (a .s .now) (record { id = getD (a .s .now) (a .at) 0; from = a .at + x .from; to = a .at + x .to })
 found c =
-    let g = asked c .before .before .before .before in
+    let g = filled c in
     first-is _ _ _ (bytes-known _ (g .before .shared-slice-known .given)) (g .before .before .pre) (g .if1 .left) _ (sym (asked c .field-bounds .ensures) ∙ c .b .given .1)
 
 field-bounds-requires : tie.Need-field-bounds-requires
@@ -35,9 +38,9 @@ field-bounds-requires c κs =
 
 returns-2 : tie.Need-returns-2
 returns-2 c =
-    let g = c .before .before .before .before .before .before in
+    let filled-list = c .before .before .before .before .before .before in
     absurd
-    (first-never _ _ _ (bytes-known _ (g .before .shared-slice-known .given)) (g .before .before .pre) (g .if1 .left) _
+    (first-never _ _ _ (bytes-known _ (filled-list .before .shared-slice-known .given)) (filled-list .before .before .pre) (filled-list .if1 .left) _
     (sym (c .before .before .field-bounds .ensures) ∙ c .enum-told .given .1))
 
 pub field-from-spec : {M : Type 1} → statement M

@@ -45,14 +45,14 @@ loop-less c = let h = here (c .before) in omega (arith, h .rest .order)
 loop-again : tie.Need-loop-again Inv-loop μ-loop
 loop-again c =
     let h = here (c .before) in
-    let l = c .before .before .before .before in
-    let inv = l .loop .inv in
-    let out = l .loop .out in (
+    let turn = c .before .before .before .before in
+    let inv = turn .loop .inv in
+    let out = turn .loop .out in (
       h .rest,
       length-set out _ _ ∙ inv .1,
       omega (arith, inv .2, ids-more h),
-      ids-next (c .before .f .given .0 .0) _ (l .loop .n) out (room (c .before))
-          ∙ ap (λ ls. addAll (idsListed ls) (text (l .loop .n) out)) (sym (h .all)) ∙ inv .3,
+      ids-next (c .before .f .given .0 .0) _ (turn .loop .n) out (room (c .before))
+          ∙ ap (λ ls. addAll (idsListed ls) (text (turn .loop .n) out)) (sym (h .all)) ∙ inv .3,
     )
 
 pub put-ids-spec : {M : Type 1} → statement M

@@ -130,15 +130,15 @@ module _ (t : ℕ) where
 
   one-returns-4 : read-one-lts.Need-returns-4 one-claims one-at read-one.Post
   one-returns-4 c =
-      let d = c .before .before .before .before in
-      sym (one-no-head _ _ _ _ (d .before .if1 .left) (d .if2 .left) _
+      let levels = c .before .before .before .before in
+      sym (one-no-head _ _ _ _ (levels .before .if1 .left) (levels .if2 .left) _
       (sym (c .before .before .before .head-of .ensures) ∙ c .before .f .given .1))
 
   one-returns-5 : read-one-lts.Need-returns-5 one-claims one-at read-one.Post
   one-returns-5 c =
-      let d = c .before .before .before .before .before in
-      let e = room (d .before .before) in
-      sym (one-no-inner _ _ _ _ (e .before .if1 .left) (e .if2 .left) _ (found (d .before .before)) (not-false _ (d .if3 .left)) _
+      let nested = c .before .before .before .before .before in
+      let e = room (nested .before .before) in
+      sym (one-no-inner _ _ _ _ (e .before .if1 .left) (e .if2 .left) _ (found (nested .before .before)) (not-false _ (nested .if3 .left)) _
       (sym (c .before .before .before .read-run .ensures) ∙ c .before .f2 .given .1))
 
   one-returns-6 : read-one-lts.Need-returns-6 one-claims one-at read-one.Post
@@ -153,12 +153,15 @@ module _ (t : ℕ) where
   started c = c .before .before .before .before
 
   -- what the object that was read says of the run
+  abbrev at-object : read-run-lts.After-known-told2 run-claims run-at read-run.Post Inv-loop μ-loop → AtObject
+  at-object c = c .before .before .before .before
+
   goes : (c : read-run-lts.After-known-told2 run-claims run-at read-run.Post Inv-loop μ-loop)
-      → (let d = c .before .before .before .before in let l = d .before .before .loop in
+      → (let d = at-object c in let l = d .before .before .loop in
       let a = started d .args in
       GoesOn (a .left) (a .at) (a .s .now) (l .objects) (l .i) (l .spare) (c .before .o .given .0 .0))
   goes c =
-      let d = c .before .before .before .before in
+      let d = at-object c in
       let l = d .before .before .loop in
       let a = started d .args in
       run-goes-on (a .left) (a .at) (a .s .now) (l .objects) (l .i) (l .spare) (d .before .loop-test .taken)
@@ -170,17 +173,17 @@ module _ (t : ℕ) where
 
   run-returns : read-run-lts.Need-returns run-claims run-at read-run.Post Inv-loop μ-loop
   run-returns c =
-      let d = c .before .before .before .before in
-      let l = d .before .before .loop in
-      let a = started d .args in
+      let object = c .before .before .before .before in
+      let l = object .before .before .loop in
+      let a = started object .args in
       sym (l .inv .2
-      ∙ run-stops (a .left) (a .at) (a .s .now) (l .objects) (l .i) (l .spare) (d .before .loop-test .taken) _
+      ∙ run-stops (a .left) (a .at) (a .s .now) (l .objects) (l .i) (l .spare) (object .before .loop-test .taken) _
       (sym (c .before .before .before .read-one .ensures) ∙ c .before .f .given .1))
 
   run-loop-again : read-run-lts.Need-loop-again run-claims run-at read-run.Post Inv-loop μ-loop
   run-loop-again c =
       let h = goes (c .before .before) in
-      let l = c .before .before .before .before .before .before .before .before .loop in
+      let l = at-object (c .before .before) .before .before .loop in
       (h .1, omega arith, l .inv .2 ∙ h .3)
 
   run-returns-2 : read-run-lts.Need-returns-2 run-claims run-at read-run.Post Inv-loop μ-loop

@@ -13,19 +13,20 @@ use Rattle.zvt.proofs.objects.head_of.Statement.{statement}
 use Rattle.zvt.proofs.objects.head_of.Tie as tie
 
 -- what the two calls found, at the places where their answers are taken apart
-at-tag : (c : tie.After-known-told2)
-    → tagAnswer (c .before .before .before .before .before .args .at) (c .before .before .before .before .before .args .s .now)
-    ≡ Size (c .before .tag .given .0 .0)
+abbrev begun : tie.After-known-told2 → tie.Start
+begun c = c .before .before .before .before .before
+
+at-tag : (c : tie.After-known-told2) → tagAnswer (begun c .args .at) (begun c .args .s .now) ≡ Size (c .before .tag .given .0 .0)
 at-tag c = sym (c .before .before .before .tag-size .ensures) ∙ c .before .tag .given .1
 
 abbrev tagged : tie.After-known-told4 → tie.After-known-told2
 tagged c = c .before .before .before .before .before
 
 abbrev seen : tie.After-known-told4 → List ℕ
-seen c = tagged c .before .before .before .before .before .args .s .now
+seen c = begun (tagged c) .args .s .now
 
 started : (c : tie.After-known-told4)
-    → Started (tagged c .before .before .before .before .before .args .at) (tagged c .before .tag .given .0 .0) (c .before .size .given .0 .0)
+    → Started (begun (tagged c) .args .at) (tagged c .before .tag .given .0 .0) (c .before .size .given .0 .0)
     (c .before .size .given .0 .1 .0) (seen c)
 started c = head-starts _ _ _ (at-tag (tagged c)) _ _ (sym (c .before .before .before .len-of .ensures) ∙ c .before .size .given .1)
 
@@ -34,8 +35,8 @@ returns c = sym (head-no-tag _ _ _ (sym (c .before .before .before .tag-size .en
 
 returns-2 : tie.Need-returns-2
 returns-2 c =
-    sym (head-no-length _ _ _ (at-tag (c .before .before .before .before .before)) _
-    (sym (c .before .before .before .len-of .ensures) ∙ c .before .f2 .given .1))
+    let told = c .before .before .before .before .before in
+    sym (head-no-length _ _ _ (at-tag told) _ (sym (c .before .before .before .len-of .ensures) ∙ c .before .f2 .given .1))
 
 returns-3 : tie.Need-returns-3
 returns-3 c =

@@ -13,23 +13,29 @@ returns-2 : tie.Need-returns-2
 returns-2 c = sym (len-bare _ (c .before .before .before .args .s .now) (omega arith) (c .if2 .taken))
 
 returns-3 : tie.Need-returns-3
-returns-3 c = sym (len-cut-one _ (c .before .before .before .before .before .args .s .now) (omega arith) (c .if4 .taken) (c .before .if3 .taken))
+returns-3 c =
+    let start = c .before .before .before .before .before in
+    sym (len-cut-one _ (start .args .s .now) (omega arith) (c .if4 .taken) (c .before .if3 .taken))
 
 returns-4 : tie.Need-returns-4
-returns-4 c = sym (len-one _ (c .before .before .before .before .before .before .args .s .now) (omega arith) (c .before .before .if3 .taken))
+returns-4 c =
+    let start = c .before .before .before .before .before .before in
+    sym (len-one _ (start .args .s .now) (omega arith) (c .before .before .if3 .taken))
 
 returns-5 : tie.Need-returns-5
 returns-5 c =
-    sym (len-cut-two _ (c .before .before .before .before .before .before .args .s .now) (omega arith) (c .if6 .taken) (c .before .if5 .taken))
+    let start = c .before .before .before .before .before .before in
+    sym (len-cut-two _ (start .args .s .now) (omega arith) (c .if6 .taken) (c .before .if5 .taken))
 
 returns-6 : tie.Need-returns-6
 returns-6 c =
-    sym (len-two _ (c .before .before .before .before .before .before .before .before .args .s .now) (omega arith)
-    (c .before .before .before .if5 .taken))
+    let start = c .before .before .before .before .before .before .before .before in
+    sym (len-two _ (start .args .s .now) (omega arith) (c .before .before .before .if5 .taken))
 
 returns-7 : tie.Need-returns-7
 returns-7 c =
-    sym (len-bad _ (c .before .before .before .before .before .args .s .now) (omega arith) (omega arith) (c .before .if3 .left) (c .if5 .left))
+    let start = c .before .before .before .before .before in
+    sym (len-bad _ (start .args .s .now) (omega arith) (omega arith) (c .before .if3 .left) (c .if5 .left))
 
 pub len-of-spec : {M : Type 1} → statement M
 len-of-spec =

@@ -17,18 +17,22 @@ returns-2 c =
 
 returns-3 : tie.Need-returns-3
 returns-3 c =
-    let s = c .before .before .before .before .args .s .now in sym (tag-cut _ s (c .if3 .taken) (long-tag (getD s 0 0) (c .before .if2 .left)))
+    let start = c .before .before .before .before in
+    let s = start .args .s .now in
+    sym (tag-cut _ s (c .if3 .taken) (long-tag (getD s 0 0) (c .before .if2 .left)))
 
 returns-4 : tie.Need-returns-4
 returns-4 c =
-    let s = c .before .before .before .before .before .before .args .s .now in
-    sym (tag-high _ s (omega arith) (long-tag (getD s 0 0) (c .before .before .before .if2 .left))
+    let long = c .before .before .before in
+    let s = long .before .before .before .args .s .now in
+    sym (tag-high _ s (omega arith) (long-tag (getD s 0 0) (long .if2 .left))
     (top-bit (getD s 1 0) (c .if4 .taken)))
 
 returns-5 : tie.Need-returns-5
 returns-5 c =
-    let s = c .before .before .before .before .before .before .args .s .now in
-    sym (tag-two _ s (omega arith) (long-tag (getD s 0 0) (c .before .before .before .if2 .left))
+    let long = c .before .before .before in
+    let s = long .before .before .before .args .s .now in
+    sym (tag-two _ s (omega arith) (long-tag (getD s 0 0) (long .if2 .left))
     (no-top-bit (getD s 1 0) (omega (arith, c .before .shared-slice-known2 .given 1)) (c .if4 .left)))
 
 pub tag-size-spec : {M : Type 1} → statement M

@@ -86,10 +86,10 @@ module _ (t : ℕ) where
   branch-put-run-requires : put-branch-lts.Need-put-run-requires branch-claims branch-at put-branch.Post
   unfolding valueBytes
   branch-put-run-requires c κs =
-      let b = c .before .before .before .before in
-      let v = shortRunOf (b .args .run .now) in
-      let l = length-append (headBytes (b .args .tag .now) (length v)) v in
-      (omega (arith, b .pre .0), (b .pre .1 .0, b .pre .1 .1, omega (arith, b .pre .1 .2)))
+      let start = c .before .before .before .before in
+      let v = shortRunOf (start .args .run .now) in
+      let l = length-append (headBytes (start .args .tag .now) (length v)) v in
+      (omega (arith, start .pre .0), (start .pre .1 .0, start .pre .1 .1, omega (arith, start .pre .1 .2)))
 
   branch-sub-v : put-branch-lts.Need-sub-v branch-claims branch-at put-branch.Post
   branch-sub-v c = lend (head c (length (value c))) (inner c) (fits c)
@@ -104,21 +104,25 @@ module _ (t : ℕ) where
   branch-put-head-requires c κs =
       let i = c .before in
       let b = branch i in
-      let short = run-fits (b .args .run .now) (bytes-known _ (i .before .before .before .before .before .shared-slice-known2 .given)) (b .pre .1 .1) in
+      let lent = i .before .before .before .before .before in
+      let short = run-fits (b .args .run .now) (bytes-known _ (lent .shared-slice-known2 .given)) (b .pre .1 .1) in
       (omega (arith, says (head i) (inner i) (fits i), b .pre .1 .0), head-room (head i) (inner i) (fits i))
 
   branch-returns : put-branch-lts.Need-returns branch-claims branch-at put-branch.Post
   unfolding valueBytes
   branch-returns c =
-      let i = c .before .before .before .before in
-      then-head (head i) (inner i) (fits i) (c .before .before .put-head .ensures)
+      let inside = c .before .before .before .before in
+      then-head (head inside) (inner inside) (fits inside) (c .before .before .put-head .ensures)
 
   -- ---- a run: the bounds of its first object are found
   abbrev Found : Type 0
   Found = put-run-lts.After-known-told run-claims run-at put-run.Post
 
+  abbrev not-empty : Found → put-run-lts.Else1 run-claims run-at put-run.Post
+  not-empty c = c .before .before .before .before
+
   abbrev run : Found → put-run-lts.Start run-claims run-at put-run.Post
-  run c = c .before .before .before .before .before .before .before
+  run c = not-empty c .before .before .before
 
   abbrev bytes : Found → List ℕ
   bytes c = run c .args .s .now
@@ -128,8 +132,8 @@ module _ (t : ℕ) where
 
   found : (c : Found) → FirstObject (bytes c) (bounds c)
   found c =
-      object-in _ _ (bytes-known _ (c .before .before .before .before .before .before .shared-slice-known .given)) (run c .pre .1 .1)
-      (omega (arith, c .before .before .before .before .if1 .left)) (sym (c .before .before .before .head-of .ensures) ∙ c .before .b .given .1)
+      object-in _ _ (bytes-known _ (not-empty c .before .before .shared-slice-known .given)) (run c .pre .1 .1)
+      (omega (arith, not-empty c .if1 .left)) (sym (c .before .before .before .head-of .ensures) ∙ c .before .b .given .1)
 
   -- and the objects behind it are there
   abbrev Behind : Type 0
@@ -197,41 +201,42 @@ module _ (t : ℕ) where
 
   -- ---- the first object is a branch
   run-lent-branch : put-run-lts.Need-slice-aggregate-put-branch-2 run-claims run-at put-run.Post
-  run-lent-branch c = lent-first (c .before .before .before .before)
+  run-lent-branch c = let behind = c .before .before .before .before in lent-first behind
 
   run-put-branch-requires : put-run-lts.Need-put-branch-requires run-claims run-at put-run.Post
   run-put-branch-requires c κs =
-      let i = c .before .before .before .before in
-      let z = at-first i in
+      let behind = c .before .before .before .before in
+      let z = at-first behind in
       let run-there = c .before .before .before .if2 .taken in
       let l = part-small z in
-      (omega (arith, run z .pre .0), (omega arith, found z .inside run-there, room-first i (object-run _ _ run-there)))
+      (omega (arith, run z .pre .0), (omega arith, found z .inside run-there, room-first behind (object-run _ _ run-there)))
 
   run-returns-3 : put-run-lts.Need-returns-3 run-claims run-at put-run.Post
   run-returns-3 c =
-      let i = c .before .before .before .before .before .before .before in
-      put-first i (object-run _ _ (c .before .before .before .before .before .before .if2 .taken)) (c .before .before .put-branch .ensures)
+      let nested = c .before .before .before .before .before .before in
+      put-first (nested .before) (object-run _ _ (nested .if2 .taken)) (c .before .before .put-branch .ensures)
 
   -- ---- the first object is a leaf
   run-lent-leaf : put-run-lts.Need-slice-aggregate-put-leaf-2 run-claims run-at put-run.Post
-  run-lent-leaf c = lent-first (c .before .before .before .before)
+  run-lent-leaf c = let behind = c .before .before .before .before in lent-first behind
 
   run-put-leaf-requires : put-run-lts.Need-put-leaf-requires run-claims run-at put-run.Post
   run-put-leaf-requires c κs =
-      let i = c .before .before .before .before in
-      let l = part-small (at-first i) in
-      (omega arith, room-first i (object-plain _ _ (c .before .before .before .if2 .left)))
+      let behind = c .before .before .before .before in
+      let l = part-small (at-first behind) in
+      (omega arith, room-first behind (object-plain _ _ (c .before .before .before .if2 .left)))
 
   run-returns-2 : put-run-lts.Need-returns-2 run-claims run-at put-run.Post
   run-returns-2 c =
-      let known = bytes-known _ (c .before .before .before .before .before .shared-slice-known .given) in
-      absurd (object-never _ _ known (c .before .before .before .before .before .before .pre .1 .1)
-      (omega (arith, c .before .before .before .if1 .left)) (sym (c .before .before .head-of .ensures) ∙ c .enum-told .given .1))
+      let filled = c .before .before .before in
+      let known = bytes-known _ (filled .before .before .shared-slice-known .given) in
+      absurd (object-never _ _ known (filled .before .before .before .pre .1 .1) (omega (arith, filled .if1 .left))
+      (sym (c .before .before .head-of .ensures) ∙ c .enum-told .given .1))
 
   run-returns-4 : put-run-lts.Need-returns-4 run-claims run-at put-run.Post
   run-returns-4 c =
-      let i = c .before .before .before .before .before .before .before in
-      put-first i (object-plain _ _ (c .before .before .before .before .before .before .if2 .left)) (c .before .before .put-leaf .ensures)
+      let plain = c .before .before .before .before .before .before in
+      put-first (plain .before) (object-plain _ _ (plain .if2 .left)) (c .before .before .put-leaf .ensures)
 
 pub +put-branch+put-run-spec : {M : Type 1} → statement M
 +put-branch+put-run-spec =

@@ -49,8 +49,11 @@ module _ (t : ℕ) where
   abbrev Found : Type 0
   Found = put-list-lts.After-known-told claims list-at put-list.Post
 
+  abbrev not-empty : Found → put-list-lts.Else1 claims list-at put-list.Post
+  not-empty c = c .before .before .before .before .before .before
+
   abbrev list : Found → put-list-lts.Start claims list-at put-list.Post
-  list c = c .before .before .before .before .before .before .before .before .before
+  list c = not-empty c .before .before .before
 
   abbrev bytes : Found → List ℕ
   bytes c = list c .args .s .now
@@ -66,8 +69,8 @@ module _ (t : ℕ) where
 
   found : (c : Found) → FieldToPut (bytes c) (bounds c)
   found c =
-      field-is _ _ (bytes-known _ (c .before .before .before .before .before .before .before .before .shared-slice-known .given)) (list c .pre .1 .1)
-      (omega (arith, c .before .before .before .before .before .before .if1 .left))
+      field-is _ _ (bytes-known _ (not-empty c .before .before .shared-slice-known .given)) (list c .pre .1 .1)
+      (omega (arith, not-empty c .if1 .left))
       (sym (c .before .before .before .field-bounds .ensures) ∙ c .before .b .given .1)
 
   -- ---- and the fields behind it are there
@@ -79,8 +82,8 @@ module _ (t : ℕ) where
 
   list-field-bounds-requires : put-list-lts.Need-field-bounds-requires claims list-at put-list.Post
   list-field-bounds-requires c κs =
-      let s = c .before .before .before .before .before in
-      (omega (arith, s .pre .1 .0), omega (arith, c .before .before .if1 .left), c .format-of .ensures)
+      let start = c .before .before .before .before .before in
+      (omega (arith, start .pre .1 .0), omega (arith, c .before .before .if1 .left), c .format-of .ensures)
 
   list-put-list-requires : put-list-lts.Need-put-list-requires claims list-at put-list.Post
   list-put-list-requires c κs =
@@ -122,17 +125,17 @@ module _ (t : ℕ) where
 
   list-returns-2 : put-list-lts.Need-returns-2 claims list-at put-list.Post
   list-returns-2 c =
-      let s = c .before .before .before .before .before .before .before .before in
-      let known = bytes-known _ (c .before .before .before .before .before .before .before .shared-slice-known .given) in
-      absurd (field-never _ _ known (s .pre .1 .1) (omega (arith, c .before .before .before .before .before .if1 .left))
+      let filled = c .before .before .before .before .before in
+      let known = bytes-known _ (filled .before .before .shared-slice-known .given) in
+      absurd (field-never _ _ known (filled .before .before .before .pre .1 .1) (omega (arith, filled .if1 .left))
       (sym (c .before .before .field-bounds .ensures) ∙ c .enum-told .given .1))
 
   list-returns-3 : put-list-lts.Need-returns-3 claims list-at put-list.Post
   list-returns-3 c =
-      let i = c .before .before .before .before in
-      let z = at-first i in
+      let behind = c .before .before .before .before in
+      let z = at-first behind in
       first-put shortListOf (first z) (bytes z) (room z) (bounds z .to) (found z .all) (list z .pre .1 .2)
-      (i .before .before .put-list .ensures) refl (c .before .before .put-field .ensures)
+      (behind .before .before .put-list .ensures) refl (c .before .before .put-field .ensures)
 
 pub +put-list-spec : {M : Type 1} → statement M
 +put-list-spec =

@@ -10,14 +10,15 @@ use Rattle.zvt.proofs.writing.put.Tie as tie
 
 returns : tie.Need-returns
 returns c =
-    let v = c .before .before .before .before .before .before .args .v .now in
-    let d = c .before .before .before .before .before .before .args .out .now in
+    let start = c .before .before .before .before .before .before in
+    let v = start .args .v .now in
+    let d = start .args .out .now in
     let at = length d - length v in
     record {
       rest = refl;
       done =
           ap (λ (y : List ℕ). take at d ++ (y ++ drop (length d - at) (drop at d))) (c .before .before .copy .ensures .1)
-          ∙ put-copied v d (c .before .before .before .before .before .before .pre);
+          ∙ put-copied v d (start .pre);
     }
 
 pub put-spec : {M : Type 1} → statement M

@@ -17,27 +17,28 @@ use Rattle.zvt.proofs.writing.put_body.Tie as tie
 -- ---- plain bytes
 put-requires : tie.Need-put-requires
 put-requires c κs =
-    let a = c .before .before .before .before .before in
-    fits-as (plain-short (a .args .layout) (a .args .s .now) (c .before .enum-told .given .1)) (a .pre .2)
+    let begun = c .before .before .before .before .before in
+    fits-as (plain-short (begun .args .layout) (begun .args .s .now) (c .before .enum-told .given .1)) (begun .pre .2)
 
 returns : tie.Need-returns
 returns c =
-    let t = c .before .before .before .before in
-    let a = t .before .before .before .before in
-    put-as (plain-short (a .args .layout) (a .args .s .now) (t .enum-told .given .1)) (c .before .before .put .ensures)
+    let plain = c .before .before .before .before in
+    let begun = plain .before .before .before .before in
+    put-as (plain-short (begun .args .layout) (begun .args .s .now) (plain .enum-told .given .1)) (c .before .before .put .ensures)
 
 -- ---- a list
 put-list-requires : tie.Need-put-list-requires
 put-list-requires c κs =
-    let a = c .before .before .before .before .before in
-    let f = list-short (a .args .layout) (a .args .s .now) (c .before .enum-told2 .given .1) (a .pre .1) in
-    (a .pre .0, f .0, fits-as (sym (f .1)) (a .pre .2))
+    let begun = c .before .before .before .before .before in
+    let f = list-short (begun .args .layout) (begun .args .s .now) (c .before .enum-told2 .given .1) (begun .pre .1) in
+    (begun .pre .0, f .0, fits-as (sym (f .1)) (begun .pre .2))
 
 returns-2 : tie.Need-returns-2
 returns-2 c =
-    let t = c .before .before .before .before in
-    let a = t .before .before .before .before in
-    put-as (sym (list-short (a .args .layout) (a .args .s .now) (t .enum-told2 .given .1) (a .pre .1) .1)) (c .before .before .put-list .ensures)
+    let list = c .before .before .before .before in
+    let begun = list .before .before .before .before in
+    put-as (sym (list-short (begun .args .layout) (begun .args .s .now) (list .enum-told2 .given .1) (begun .pre .1) .1))
+    (c .before .before .put-list .ensures)
 
 -- ---- a password, and a list behind it
 abbrev start : tie.After-enum-told3 → tie.Start
@@ -64,26 +65,26 @@ put-list-requires-2 c κs =
 
 slice-aggregate-put : tie.Need-slice-aggregate-put
 slice-aggregate-put c =
-    let t = c .before .before .before .before .before .before in
-    sym (length-take-le 3 (bytes t) (secured t .0))
+    let told = c .before .before .before .before .before .before in
+    sym (length-take-le 3 (bytes told) (secured told .0))
 
 slice-aggregate-put-2 : tie.Need-slice-aggregate-put-2
 slice-aggregate-put-2 c =
-    let t = c .before .before .before .before .before .before .before in
-    first-lent shortListOf (take 3 (bytes t)) (bytes t) (out t) 3 (secured t .2) (start t .pre .2)
-    (c .before .before .before .before .put-list2 .ensures)
+    let listed = c .before .before .before .before in
+    let t = listed .before .before .before in
+    first-lent shortListOf (take 3 (bytes t)) (bytes t) (out t) 3 (secured t .2) (start t .pre .2) (listed .put-list2 .ensures)
 
 put-requires-2 : tie.Need-put-requires-2
 put-requires-2 c κs =
-    let t = c .before .before .before .before .before .before .before in
-    first-room shortListOf (take 3 (bytes t)) (bytes t) (out t) 3 (secured t .2) (start t .pre .2)
-    (c .before .before .before .before .put-list2 .ensures) refl
+    let listed = c .before .before .before .before in
+    let t = listed .before .before .before in
+    first-room shortListOf (take 3 (bytes t)) (bytes t) (out t) 3 (secured t .2) (start t .pre .2) (listed .put-list2 .ensures) refl
 
 returns-3 : tie.Need-returns-3
 returns-3 c =
-    let l = c .before .before .before .before .before .before .before in
-    let t = l .before .before .before in
-    first-put shortListOf (take 3 (bytes t)) (bytes t) (out t) 3 (secured t .2) (start t .pre .2) (l .put-list2 .ensures) refl
+    let listed = c .before .before .before .before .before .before .before in
+    let t = listed .before .before .before in
+    first-put shortListOf (take 3 (bytes t)) (bytes t) (out t) 3 (secured t .2) (start t .pre .2) (listed .put-list2 .ensures) refl
     (c .before .before .put2 .ensures)
 
 pub put-body-spec : {M : Type 1} → statement M

@@ -25,36 +25,40 @@ as-it-stands s b e = rw e
 
 slice-aggregate-put-branch : tie.Need-slice-aggregate-put-branch
 slice-aggregate-put-branch c =
-    let s = c .before .before .before .before in
-    sym (length-take-le 1 (s .args .s .now) (omega (arith, s .pre .1, s .pre .2, s .pre .3)))
+    let start = c .before .before .before .before in
+    sym (length-take-le 1 (start .args .s .now) (omega (arith, start .pre .1, start .pre .2, start .pre .3)))
 
 put-branch-requires : tie.Need-put-branch-requires
 put-branch-requires c κs =
-    let s = c .before .before .before .before .before .before in
-    let b = s .args .b in
-    let run = c .before .before .before .if1 .taken in
-    let l = part-length (s .args .s .now) (b .from) (b .to) (s .pre .2) (s .pre .3) in
-    (omega (arith, s .pre .0, s .pre .3), s .pre .4 run, fits-as (as-branch (s .args .s .now) b run) (s .pre .5))
+    let container = c .before .before .before in
+    let start = container .before .before .before in
+    let s = start .args .s .now in
+    let b = start .args .b in
+    let run = container .if1 .taken in
+    let l = part-length s (b .from) (b .to) (start .pre .2) (start .pre .3) in
+    (omega (arith, start .pre .0, start .pre .3), start .pre .4 run, fits-as (as-branch s b run) (start .pre .5))
 
 slice-aggregate-put : tie.Need-slice-aggregate-put
 slice-aggregate-put c =
-    let s = c .before .before .before .before in
-    sym (length-take-le (s .args .b .to) (s .args .s .now) (s .pre .3))
+    let start = c .before .before .before .before in
+    sym (length-take-le (start .args .b .to) (start .args .s .now) (start .pre .3))
 
 put-requires : tie.Need-put-requires
 put-requires c κs =
-    let s = c .before .before .before .before .before in
-    fits-as (as-it-stands (s .args .s .now) (s .args .b) (c .before .before .if1 .left)) (s .pre .5)
+    let start = c .before .before .before .before .before in
+    fits-as (as-it-stands (start .args .s .now) (start .args .b) (c .before .before .if1 .left)) (start .pre .5)
 
 returns : tie.Need-returns
 returns c =
-    let s = c .before .before .before .before .before .before .before .before .before in
-    put-as (as-branch (s .args .s .now) (s .args .b) (c .before .before .before .before .before .before .if1 .taken)) (c .before .before .put-branch .ensures)
+    let container = c .before .before .before .before .before .before in
+    let start = container .before .before .before in
+    put-as (as-branch (start .args .s .now) (start .args .b) (container .if1 .taken)) (c .before .before .put-branch .ensures)
 
 returns-2 : tie.Need-returns-2
 returns-2 c =
-    let s = c .before .before .before .before .before .before .before .before in
-    put-as (as-it-stands (s .args .s .now) (s .args .b) (c .before .before .before .before .before .if1 .left)) (c .before .before .put .ensures)
+    let plain = c .before .before .before .before .before in
+    let start = plain .before .before .before in
+    put-as (as-it-stands (start .args .s .now) (start .args .b) (plain .if1 .left)) (c .before .before .put .ensures)
 
 pub put-field-spec : {M : Type 1} → statement M
 put-field-spec =

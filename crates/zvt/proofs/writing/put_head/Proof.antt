@@ -12,27 +12,30 @@ use Rattle.zvt.proofs.writing.put_head.Tie as tie
 put-len-requires : tie.Need-put-len-requires
 unfolding headBytes
 put-len-requires c κs =
-    let s = c .before .before .before in
-    let v = s .args .v in
-    (s .pre .0, omega (arith, s .pre .1, length-append (s .args .tag .now) (lenBytes (formFor v) v)))
+    let start = c .before .before .before in
+    let v = start .args .v in
+    (start .pre .0, omega (arith, start .pre .1, length-append (start .args .tag .now) (lenBytes (formFor v) v)))
 
 slice-aggregate-put : tie.Need-slice-aggregate-put
 unfolding headBytes
 slice-aggregate-put c =
-    let s = c .before .before .before .before .before .before .before in
-    lent-all (s .args .tag .now) (c .before .before .before .put-len .ensures) (s .pre .1)
+    let sized = c .before .before .before in
+    let start = sized .before .before .before .before in
+    lent-all (start .args .tag .now) (sized .put-len .ensures) (start .pre .1)
 
 put-requires : tie.Need-put-requires
 unfolding headBytes
 put-requires c κs =
-    let s = c .before .before .before .before .before .before .before in
-    room (s .args .tag .now) (c .before .before .before .put-len .ensures) (s .pre .1)
+    let sized = c .before .before .before in
+    let start = sized .before .before .before .before in
+    room (start .args .tag .now) (sized .put-len .ensures) (start .pre .1)
 
 returns : tie.Need-returns
 unfolding headBytes
 returns c =
-    let s = c .before .before .before .before .before .before .before .before .before .before in
-    then-put (s .args .tag .now) (c .before .before .before .before .before .before .put-len .ensures) (s .pre .1) (c .before .before .put .ensures)
+    let sized = c .before .before .before .before .before .before in
+    let start = sized .before .before .before .before in
+    then-put (start .args .tag .now) (sized .put-len .ensures) (start .pre .1) (c .before .before .put .ensures)
 
 pub put-head-spec : {M : Type 1} → statement M
 put-head-spec =

@@ -23,27 +23,29 @@ long-is class instruction v h l = let k : v / 256 < 256 = omega arith in rw (le-
 
 put-requires : tie.Need-put-requires
 put-requires c κs =
-    let s = c .before .before .before .before in
-    let a = s .args in
-    fits-as (short-is (a .class) (a .instruction) (a .v) (c .before .before .if1 .taken)) (s .pre .1)
+    let start = c .before .before .before .before in
+    let a = start .args in
+    fits-as (short-is (a .class) (a .instruction) (a .v) (c .before .before .if1 .taken)) (start .pre .1)
 
 returns : tie.Need-returns
 returns c =
-    let s = c .before .before .before .before .before .before .before in
-    let a = s .args in
-    put-as (short-is (a .class) (a .instruction) (a .v) (c .before .before .before .before .before .if1 .taken)) (c .before .before .put .ensures)
+    let below-255 = c .before .before .before .before .before in
+    let start = below-255 .before .before in
+    let a = start .args in
+    put-as (short-is (a .class) (a .instruction) (a .v) (below-255 .if1 .taken)) (c .before .before .put .ensures)
 
 put-requires-2 : tie.Need-put-requires-2
 put-requires-2 c κs =
-    let s = c .before .before .before .before in
-    let a = s .args in
-    fits-as (long-is (a .class) (a .instruction) (a .v) (c .before .before .if1 .left) (s .pre .0)) (s .pre .1)
+    let start = c .before .before .before .before in
+    let a = start .args in
+    fits-as (long-is (a .class) (a .instruction) (a .v) (c .before .before .if1 .left) (start .pre .0)) (start .pre .1)
 
 returns-2 : tie.Need-returns-2
 returns-2 c =
-    let s = c .before .before .before .before .before .before .before in
-    let a = s .args in
-    put-as (long-is (a .class) (a .instruction) (a .v) (c .before .before .before .before .before .if1 .left) (s .pre .0)) (c .before .before .put2 .ensures)
+    let from-255 = c .before .before .before .before .before in
+    let start = from-255 .before .before in
+    let a = start .args in
+    put-as (long-is (a .class) (a .instruction) (a .v) (from-255 .if1 .left) (start .pre .0)) (c .before .before .put2 .ensures)
 
 pub put-header-spec : {M : Type 1} → statement M
 put-header-spec =

@@ -10,30 +10,33 @@ use Rattle.zvt.proofs.writing.put_leaf.Tie as tie
 put-requires : tie.Need-put-requires
 unfolding valueBytes
 put-requires c κs =
-    let s = c .before .before .before .before in
-    let h = headBytes (s .args .tag .now) (length (s .args .value .now)) in
-    omega (arith, s .pre .1, length-append h (s .args .value .now))
+    let start = c .before .before .before .before in
+    let h = headBytes (start .args .tag .now) (length (start .args .value .now)) in
+    omega (arith, start .pre .1, length-append h (start .args .value .now))
 
 slice-aggregate-put-head : tie.Need-slice-aggregate-put-head
 unfolding valueBytes
 slice-aggregate-put-head c =
-    let s = c .before .before .before .before .before .before .before .before in
-    let h = headBytes (s .args .tag .now) (length (s .args .value .now)) in
-    lent-all h (c .before .before .before .put .ensures) (s .pre .1)
+    let valued = c .before .before .before in
+    let start = valued .before .before .before .before .before in
+    let h = headBytes (start .args .tag .now) (length (start .args .value .now)) in
+    lent-all h (valued .put .ensures) (start .pre .1)
 
 put-head-requires : tie.Need-put-head-requires
 unfolding valueBytes
 put-head-requires c κs =
-    let s = c .before .before .before .before .before .before .before .before in
-    let h = headBytes (s .args .tag .now) (length (s .args .value .now)) in
-    (s .pre .0, room h (c .before .before .before .put .ensures) (s .pre .1))
+    let valued = c .before .before .before in
+    let start = valued .before .before .before .before .before in
+    let h = headBytes (start .args .tag .now) (length (start .args .value .now)) in
+    (start .pre .0, room h (valued .put .ensures) (start .pre .1))
 
 returns : tie.Need-returns
 unfolding valueBytes
 returns c =
-    let s = c .before .before .before .before .before .before .before .before .before .before .before in
-    let h = headBytes (s .args .tag .now) (length (s .args .value .now)) in
-    then-put h (c .before .before .before .before .before .before .put .ensures) (s .pre .1) (c .before .before .put-head .ensures)
+    let valued = c .before .before .before .before .before .before in
+    let start = valued .before .before .before .before .before in
+    let h = headBytes (start .args .tag .now) (length (start .args .value .now)) in
+    then-put h (valued .put .ensures) (start .pre .1) (c .before .before .put-head .ensures)
 
 pub put-leaf-spec : {M : Type 1} → statement M
 put-leaf-spec =

@@ -29,34 +29,35 @@ two-is v h l =
 
 put-requires : tie.Need-put-requires
 put-requires c κs =
-    let s = c .before .before .before .before in
-    fits-as (bare-is (s .args .v) (c .before .before .if1 .taken)) (s .pre .1)
+    let start = c .before .before .before .before in
+    fits-as (bare-is (start .args .v) (c .before .before .if1 .taken)) (start .pre .1)
 
 returns : tie.Need-returns
 returns c =
-    let s = c .before .before .before .before .before .before .before in
-    put-as (bare-is (s .args .v) (c .before .before .before .before .before .if1 .taken)) (c .before .before .put .ensures)
+    let below-128 = c .before .before .before .before .before in
+    put-as (bare-is (below-128 .before .before .args .v) (below-128 .if1 .taken)) (c .before .before .put .ensures)
 
 put-requires-2 : tie.Need-put-requires-2
 put-requires-2 c κs =
-    let s = c .before .before .before .before .before in
-    fits-as (one-is (s .args .v) (c .before .before .before .if1 .left) (c .before .before .if2 .taken)) (s .pre .1)
+    let start = c .before .before .before .before .before in
+    fits-as (one-is (start .args .v) (c .before .before .before .if1 .left) (c .before .before .if2 .taken)) (start .pre .1)
 
 returns-2 : tie.Need-returns-2
 returns-2 c =
-    let s = c .before .before .before .before .before .before .before .before in
-    put-as (one-is (s .args .v) (c .before .before .before .before .before .before .if1 .left) (c .before .before .before .before .before .if2 .taken))
-    (c .before .before .put2 .ensures)
+    let below-256 = c .before .before .before .before .before in
+    let start = below-256 .before .before .before in
+    put-as (one-is (start .args .v) (below-256 .before .if1 .left) (below-256 .if2 .taken)) (c .before .before .put2 .ensures)
 
 put-requires-3 : tie.Need-put-requires-3
 put-requires-3 c κs =
-    let s = c .before .before .before .before .before in
-    fits-as (two-is (s .args .v) (c .before .before .if2 .left) (s .pre .0)) (s .pre .1)
+    let start = c .before .before .before .before .before in
+    fits-as (two-is (start .args .v) (c .before .before .if2 .left) (start .pre .0)) (start .pre .1)
 
 returns-3 : tie.Need-returns-3
 returns-3 c =
-    let s = c .before .before .before .before .before .before .before .before in
-    put-as (two-is (s .args .v) (c .before .before .before .before .before .if2 .left) (s .pre .0)) (c .before .before .put3 .ensures)
+    let from-256 = c .before .before .before .before .before in
+    let start = from-256 .before .before .before in
+    put-as (two-is (start .args .v) (from-256 .if2 .left) (start .pre .0)) (c .before .before .put3 .ensures)
 
 pub put-len-spec : {M : Type 1} → statement M
 put-len-spec =

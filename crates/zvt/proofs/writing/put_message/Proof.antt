@@ -20,8 +20,11 @@ use Rattle.zvt.proofs.writing.put_message.Tie as tie
 abbrev Inner : Type 0
 Inner = tie.After-slice-known2
 
+abbrev laid : Inner → tie.After-layout-of
+laid c = c .before .before .before .before .before
+
 abbrev begun : Inner → tie.Start
-begun c = c .before .before .before .before .before .before .before .before .before
+begun c = laid c .before .before .before .before
 
 abbrev body : Inner → List ℕ
 body c = let a = begun c .args in shortBodyOf (headerLayout (a .h)) (bodyPart (a .h) (a .s .now))
@@ -33,7 +36,7 @@ inner : (c : Inner) → Put (body c) (begun c .args .out .now) (c .before .befor
 unfolding headerLayout bodyPart
 inner c =
     let a = begun c .args in
-    put-as (ap (λ (l : Layout). shortBodyOf l (bodyPart (a .h) (a .s .now))) (c .before .before .before .before .before .layout-of .ensures))
+    put-as (ap (λ (l : Layout). shortBodyOf l (bodyPart (a .h) (a .s .now))) (laid c .layout-of .ensures))
     (c .before .before .put-body .ensures)
 
 fits : (c : Inner) → length (head c (length (body c)) ++ body c) ≤ length (begun c .args .out .now)
@@ -46,20 +49,20 @@ small c =
     let m = begun c in
     let h = m .args .h in
     let s = m .args .s .now in
-    let known = bytes-known s (c .before .before .before .before .before .before .before .before .shared-slice-known .given) in
+    let known = bytes-known s (laid c .before .before .before .shared-slice-known .given) in
     let l = part-length s (h .start) (h .start + h .length) (omega arith) (m .pre .0) in
     omega (arith, body-fits (headerLayout h) (bodyPart h s) (bytes-part (h .start) (h .start + h .length) s known) (m .pre .2), m .pre .1)
 
 put-body-requires : tie.Need-put-body-requires
 unfolding headerLayout bodyPart shortMessageOf
 put-body-requires c κs =
-    let m = c .before .before .before .before .before .before in
-    let h = m .args .h in
-    let s = m .args .s .now in
+    let start = c .before .before .before .before .before .before in
+    let h = start .args .h in
+    let s = start .args .s .now in
     let b = shortBodyOf (headerLayout h) (bodyPart h s) in
-    let l = part-length s (h .start) (h .start + h .length) (omega arith) (m .pre .0) in
+    let l = part-length s (h .start) (h .start + h .length) (omega arith) (start .pre .0) in
     let k = length-append (headerBytes (h .class) (h .instruction) (length b)) b in
-    rw (c .before .before .layout-of .ensures) (omega (arith, m .pre .1), m .pre .2, omega (arith, m .pre .3))
+    rw (c .before .before .layout-of .ensures) (omega (arith, start .pre .1), start .pre .2, omega (arith, start .pre .3))
 
 slice-aggregate-put-header : tie.Need-slice-aggregate-put-header
 slice-aggregate-put-header c = let i = c .before in lent-all (head i (length (body i))) (inner i) (fits i)
@@ -72,8 +75,8 @@ put-header-requires c κs =
 returns : tie.Need-returns
 unfolding shortMessageOf
 returns c =
-    let i = c .before .before .before .before in
-    then-head (head i) (inner i) (fits i) (c .before .before .put-header .ensures)
+    let inside = c .before .before .before .before in
+    then-head (head inside) (inner inside) (fits inside) (c .before .before .put-header .ensures)
 
 pub put-message-spec : {M : Type 1} → statement M
 put-message-spec =
