@@ -6,8 +6,9 @@ use Prim.Native.Nat.{ℕ, zero, suc, _≤_, _<_}
 use native.Mathlib.Omega.{arith}
 use lib.ListN.{length, getD}
 use Rattle.basics.proofs.Tests.{by-test}
-use Rattle.words.specs.Split.{alike, placeIn}
-use Rattle.words.specs.Forms.{Row, shape, shapeIn}
+use Rattle.words.specs.Split.{alike}
+use Rattle.words.specs.Forms.{Row, shapeIn}
+use Rattle.words.specs.Steps.{placeIn, shape}
 use Rattle.words.specs.declared.What.the-variants as what
 use Rattle.words.specs.declared.forms.Form.{Form}
 
@@ -34,7 +35,8 @@ pub known : (rs more : List Row) (name : List ℕ) (k : ℕ) → k ≡ placeIn (
     → shape (getD (formsIn rs) k noForm) ≡ shapeIn (rs ++ more) name
 known rs more name k p h = rw p (in-table rs more name (rw p at h))
 
-pub unknown : (rs more : List Row) (name : List ℕ) (k : ℕ) → k ≡ placeIn (wordsIn rs) name → length rs ≤ k → shapeIn (rs ++ more) name ≡ shapeIn more name
+pub unknown : (rs more : List Row) (name : List ℕ) (k : ℕ) → k ≡ placeIn (wordsIn rs) name → length rs ≤ k
+    → shapeIn (rs ++ more) name ≡ shapeIn more name
 unfolding placeIn shapeIn
 unknown [] more name k p h = refl
 unknown (r ∷ rs) more name k p h =

@@ -13,7 +13,9 @@ use Rattle.basics.proofs.Tests.{pick-test, by-test, never}
 use Rattle.words.specs.Split.{following, wordOf}
 use Rattle.words.specs.Notation.{bytesOf}
 use Rattle.words.specs.Forms.{Shape, shapeOf}
-use Rattle.words.specs.Lines.{andThen, numberAt, firstOf, Values, valuesOf, bytesAt, Runs, runsOf, Line, lineWith, bare, readAs, orBad, passedOver, lineOf, Told, asNumbers, asSizes, Sized, putBoth}
+use Rattle.words.specs.Lines.{andThen, numberAt, firstOf, Values, valuesOf, bytesAt, Runs, runsOf}
+use Rattle.words.specs.Lines.{Line, lineWith, bare, readAs, orBad, passedOver, lineOf, Told}
+use Rattle.words.specs.Steps.{asNumbers, asSizes, Sized, putBoth}
 use Rattle.words.specs.declared.Script.{Script}
 use Rattle.words.specs.declared.Order.{Order}
 use Rattle.words.specs.declared.Numbers.the-variants.{Bad as bad-numbers, Given}
@@ -157,7 +159,8 @@ pub sizes-are : (m : Option Runs) (size end : ℕ) → asSizes m ≡ Ends size e
 sizes-are none size end e = never cc
 sizes-are (some r) size end e = (r, refl, cc, cc)
 
-pub sizes-alike : (v w : List ℕ) {size other : ℕ} → length v ≡ size → length w ≡ other → Ends size (size + other) ≡ Ends (length v) (length v + length w)
+pub sizes-alike : (v w : List ℕ) {size other : ℕ} → length v ≡ size → length w ≡ other
+    → Ends size (size + other) ≡ Ends (length v) (length v + length w)
 sizes-alike v w e g = rw (e, g)
 
 -- two runs for which there is room, the first of that size
@@ -230,12 +233,14 @@ told-within at s entry exit r (o, e) =
 abbrev Ordered : Script → List ℕ → List ℕ → Order → List ℕ → Type 0
 Ordered at s entry r exit = Told (lineOf at (length entry) s) r entry exit × ((r .size ≤ r .end) × (r .end ≤ length exit))
 
-pub passed : (at : Script) (s entry : List ℕ) (r : Order) → lineOf at (length entry) s ≡ bare what.Pass → r ≡ (bare what.Pass) .order → Ordered at s entry r entry
+pub passed : (at : Script) (s entry : List ℕ) (r : Order) → lineOf at (length entry) s ≡ bare what.Pass → r ≡ (bare what.Pass) .order
+    → Ordered at s entry r entry
 passed at s entry r e o =
     let told = told-bare (lineOf at (length entry) s) what.Pass r entry e o in
     (told, told-within at s entry entry r told)
 
-pub ordered : (at : Script) (s entry exit : List ℕ) (r : Order) (f : Shape) → lineOf at (length entry) s ≡ orBad (readAs (shapeOf (at .further) (wordOf 0 s)) (length entry) s)
+pub ordered : (at : Script) (s entry exit : List ℕ) (r : Order) (f : Shape)
+    → lineOf at (length entry) s ≡ orBad (readAs (shapeOf (at .further) (wordOf 0 s)) (length entry) s)
     → f ≡ shapeOf (at .further) (wordOf 0 s) → Told (orBad (readAs f (length entry) s)) r entry exit → Ordered at s entry r exit
 ordered at s entry exit r f e g k =
     let told : Told (lineOf at (length entry) s) r entry exit = rw (e, ← g) k in

@@ -16,7 +16,8 @@ use Rattle.basics.specs.Text.{hexValue}
 use Rattle.basics.specs.believed.Text.{ascii}
 use Rattle.basics.proofs.Tests.{by-test, case, no-for, pick-true, pick-false, never}
 use Rattle.words.specs.Split.{alike}
-use Rattle.words.specs.Notation.{allDigits, valueFrom, numberFrom, numberOf, isHex, allHex, inPairs, hexByte, pairsOf, bytesOf, asNumber, asSize, Fits, put}
+use Rattle.words.specs.Notation.{allDigits, valueFrom, numberFrom, numberOf, isHex, allHex, inPairs, hexByte, pairsOf, bytesOf}
+use Rattle.words.specs.Steps.{asNumber, asSize, Fits, put}
 use Rattle.words.specs.declared.notation.Number.{Number}
 use Rattle.words.specs.declared.notation.Number.the-variants.{Bad, Value}
 use Rattle.words.specs.declared.notation.Size.the-variants.{Bad as bad-size, Bytes as so-many}

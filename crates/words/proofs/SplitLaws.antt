@@ -12,7 +12,8 @@ use lib.Dec.{eqb}
 use borrow.Author.Tests.{eq-eqb, ne-eqb, eqb-true, eqb-false}
 use Rattle.bytes.specs.Bytes.{indexOf, slice}
 use Rattle.basics.proofs.Tests.{by-test, no-for, and-test, eqb-test}
-use Rattle.words.specs.Split.{behind, wordsOf, following, wordOf, alike, placeIn}
+use Rattle.words.specs.Split.{behind, wordsOf, following, wordOf, alike}
+use Rattle.words.specs.Steps.{placeIn}
 
 -- ---- a line has a first word
 behind-some : (t : Bool) (b : ℕ) (ws : List (List ℕ)) → behind t b ws ≡ getD (behind t b ws) 0 [] ∷ drop 1 (behind t b ws)
@@ -72,14 +73,16 @@ unfolding wordOf wordsOf
 word-none zero s i h = rw (drop-of-length-le s h)
 word-none (suc k) s i h = rw (drop-of-length-le s h)
 
-pub word-blank : (k : ℕ) (s : List ℕ) (i : ℕ) → i < length s → (k ≡ 0 → ⊥) → getD s i 0 ≡ 32 → wordOf k (drop i s) ≡ wordOf (k - 1) (drop (i + 1) s)
+pub word-blank : (k : ℕ) (s : List ℕ) (i : ℕ) → i < length s → (k ≡ 0 → ⊥) → getD s i 0 ≡ 32
+    → wordOf k (drop i s) ≡ wordOf (k - 1) (drop (i + 1) s)
 unfolding wordOf
 word-blank zero s i h n e = absurd (n refl)
 word-blank (suc k) s i h n e =
     let less : suc k - 1 ≡ k = omega arith in
     rw (at-step s i h, less) (ap (λ (ws : List (List ℕ)). getD ws (suc k) []) (words-blank (getD s i 0) (drop (i + 1) s) e))
 
-pub word-other : (k : ℕ) (s : List ℕ) (i : ℕ) → i < length s → (k ≡ 0 → ⊥) → (getD s i 0 ≡ 32 → ⊥) → wordOf k (drop i s) ≡ wordOf k (drop (i + 1) s)
+pub word-other : (k : ℕ) (s : List ℕ) (i : ℕ) → i < length s → (k ≡ 0 → ⊥) → (getD s i 0 ≡ 32 → ⊥)
+    → wordOf k (drop i s) ≡ wordOf k (drop (i + 1) s)
 unfolding wordOf
 word-other zero s i h n m = absurd (n refl)
 word-other (suc k) s i h n m =

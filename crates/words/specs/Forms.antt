@@ -8,7 +8,6 @@ use Rattle.basics.specs.believed.Text.{ascii}
 use Rattle.words.specs.Split.{alike}
 use Rattle.words.specs.declared.What.{What}
 use Rattle.words.specs.declared.What.the-variants as what
-use Rattle.words.specs.declared.forms.Form.{Form}
 
 -- behind the word of a line stand so many numbers, behind them so many runs of bytes, and behind those so many ids
 pub record Shape : Type 0 where
@@ -16,9 +15,6 @@ pub record Shape : Type 0 where
   pub numbers : ℕ
   pub runs : ℕ
   pub ids : ℕ
-
-abbrev pub shape : Form → Shape
-shape f = record { what = f .0; numbers = f .1; runs = f .2; ids = f .3 }
 
 pub record Row : Type 0 where
   pub word : List ℕ

@@ -15,10 +15,6 @@ use Rattle.words.specs.declared.Script.{Script}
 use Rattle.words.specs.declared.What.{What}
 use Rattle.words.specs.declared.What.the-variants as what
 use Rattle.words.specs.declared.Order.{Order}
-use Rattle.words.specs.declared.Numbers.{Numbers}
-use Rattle.words.specs.declared.Numbers.the-variants.{Bad as bad-numbers, Given}
-use Rattle.words.specs.declared.Sizes.{Sizes}
-use Rattle.words.specs.declared.Sizes.the-variants.{Bad as bad-sizes, Ends}
 
 -- "A script begins with .. a room of 4,101 bytes."
 abbrev pub begun : Bool → Script
@@ -113,21 +109,3 @@ lineOf at room s = pick (not (at .more) || passedOver s) (bare what.Pass) (orBad
 -- the order is told, and the line's bytes stand at the start of the buffer
 abbrev pub Told : Line → Order → List ℕ → List ℕ → Type 0
 Told l order entry exit = (order ≡ l .order) × (exit ≡ front (l .bytes) entry)
-
--- ---- the code's own answers
-abbrev pub asNumbers : Option Values → Numbers
-asNumbers none = bad-numbers
-asNumbers (some n) = Given (n .first) (n .second) (n .third)
-
-abbrev pub asSizes : Option Runs → Sizes
-asSizes none = bad-sizes
-asSizes (some r) = Ends (length (r .message)) (length (r .message) + length (r .name))
-
--- the first run has so many bytes; and both at the start of a buffer
-abbrev pub Sized : Option Runs → ℕ → Type 0
-Sized none size = ⊥
-Sized (some r) size = length (r .message) ≡ size
-
-abbrev pub putBoth : Option Runs → List ℕ → List ℕ
-putBoth none out = out
-putBoth (some r) out = front (r .message ++ r .name) out

@@ -1,19 +1,14 @@
 -- Numbers and bytes as a line has them, in the words of TRIAL.md; none is what is out of form. Definitions only.
-use Prim.Native.Nat.{ℕ, _+_, _-_, _*_, _%_, _^_, _≤_}
+use Prim.Native.Nat.{ℕ, _+_, _-_, _*_, _%_, _^_}
 use mathlib.Core.Bool.{Bool, true, _&&_}
 use mathlib.Core.List.{List, [], _∷_}
 use mathlib.Core.Option.{Option, none, some}
 use lib.ListN.{length, getD}
 use lib.Dec.{leb, ltb, eqb}
 use Rattle.basics.specs.Choice.{pick}
-use Rattle.basics.specs.Buffers.{front}
 use Rattle.basics.specs.Text.{hexValue}
 use Rattle.basics.specs.believed.Text.{ascii}
 use Rattle.words.specs.Split.{alike}
-use Rattle.words.specs.declared.notation.Number.{Number}
-use Rattle.words.specs.declared.notation.Number.the-variants.{Bad as bad-number, Value}
-use Rattle.words.specs.declared.notation.Size.{Size}
-use Rattle.words.specs.declared.notation.Size.the-variants.{Bad as bad-size, Bytes as so-many}
 
 -- ---- "A number is decimal, has at most 20 digits, leading zeros among them, and is below 2^64."
 unfoldable pub allDigits : List ℕ → Bool
@@ -56,21 +51,3 @@ bytesOf w = pick (alike w (ascii "-")) (some []) (pick (leb 1 (length w) && inPa
 -- "the id of a field, two hex digits"
 unfoldable pub idOf : List ℕ → Option ℕ
 idOf w = pick (eqb (length w) 2 && inPairs w) (some (hexByte (getD w 0 0) (getD w 1 0))) none
-
--- ---- the code's own answers
-abbrev pub asNumber : Option ℕ → Number
-asNumber none = bad-number
-asNumber (some n) = Value n
-
-abbrev pub asSize : Option (List ℕ) → Size
-asSize none = bad-size
-asSize (some v) = so-many (length v)
-
--- bytes for which there is room, and a buffer with them at its start
-abbrev pub Fits : Option (List ℕ) → List ℕ → Type 0
-Fits none out = ⊥
-Fits (some v) out = length v ≤ length out
-
-abbrev pub put : Option (List ℕ) → List ℕ → List ℕ
-put none out = out
-put (some v) out = front v out

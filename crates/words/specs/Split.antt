@@ -1,10 +1,9 @@
 -- The words of a line. TRIAL.md: "One blank stands between two words, and none before the first or behind the last." Definitions only.
-use Prim.Native.Nat.{ℕ, zero, suc, _-_}
+use Prim.Native.Nat.{ℕ, _-_}
 use mathlib.Core.Bool.{Bool, true, false, _&&_}
 use mathlib.Core.List.{List, [], _∷_}
 use lib.ListN.{length, getD}
 use lib.Dec.{eqb}
-use Rattle.basics.specs.Choice.{pick}
 
 -- words with one byte more before them: a blank ends a word of no bytes, any other byte begins the first word
 unfoldable pub behind : Bool → ℕ → List (List ℕ) → List (List ℕ)
@@ -31,8 +30,3 @@ alike [] [] = true
 alike [] (c ∷ w) = false
 alike (b ∷ v) [] = false
 alike (b ∷ v) (c ∷ w) = eqb b c && alike v w
-
--- the number of the first of these words that is w; where none is, how many they are
-unfoldable pub placeIn : List (List ℕ) → List ℕ → ℕ
-placeIn [] w = zero
-placeIn (v ∷ vs) w = pick (alike v w) zero (suc (placeIn vs w))

@@ -16,9 +16,8 @@ use crate::split::word;
 ghost use mathlib.Core.Path.{_≡_};
 ghost use Prim.Native.Nat.{_≤_};
 ghost use lib.ListN.{length};
-ghost use Rattle.words.specs.Notation.{asNumber, asSize, Fits, put};
-ghost use Rattle.words.specs.Forms.{shape};
-ghost use Rattle.words.specs.Lines.{begun, numberAt, firstOf, valuesOf, asNumbers, bytesAt, runsOf, asSizes, Sized, putBoth, bare, readAs, orBad, lineOf, Told};
+ghost use Rattle.words.specs.Lines.{begun, numberAt, firstOf, valuesOf, bytesAt, runsOf, bare, readAs, orBad, lineOf, Told};
+ghost use Rattle.words.specs.Steps.{asNumber, asSize, Fits, put, shape, asNumbers, asSizes, Sized, putBoth};
 
 // Where a script stands, but for its desk: whether the further words are understood, whether it goes on, how many bytes are lent to a
 // call that writes, how many lines were played, and how many bytes were added.

@@ -4,7 +4,8 @@ use check::same;
 ghost use mathlib.Core.Path.{_≡_};
 ghost use mathlib.Core.Bool.{true};
 ghost use mathlib.Core.List.{[], _∷_};
-ghost use Rattle.words.specs.Notation.{isHex, hexByte, numberFrom, numberOf, asNumber, inPairs, bytesOf, asSize, idOf, Fits, put};
+ghost use Rattle.words.specs.Notation.{isHex, hexByte, numberFrom, numberOf, inPairs, bytesOf, idOf};
+ghost use Rattle.words.specs.Steps.{asNumber, asSize, Fits, put};
 
 pub(crate) enum Number {
     Bad,

@@ -3,8 +3,9 @@ use check::same;
 ghost use mathlib.Core.Path.{_≡_};
 ghost use Prim.Native.Nat.{_≤_};
 ghost use lib.ListN.{length, drop};
-ghost use Rattle.words.specs.Split.{wordsOf, wordOf, placeIn};
+ghost use Rattle.words.specs.Split.{wordsOf, wordOf};
 ghost use Rattle.words.specs.Split.{following as followingIn};
+ghost use Rattle.words.specs.Steps.{placeIn};
 
 // How many words follow the first.
 pub(crate) fn following(s: &[u8]) -> usize

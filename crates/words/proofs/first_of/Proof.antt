@@ -3,9 +3,10 @@ use mathlib.Core.Path.{ap, ap₂, _∙_}
 use mathlib.Core.List.{List}
 use Prim.Native.Nat.{ℕ}
 use borrow.Author.Tests.{eq-eqb, ne-eqb}
-use Rattle.words.specs.Notation.{asNumber, idOf}
+use Rattle.words.specs.Notation.{idOf}
 use Rattle.words.specs.Split.{wordOf}
 use Rattle.words.specs.Lines.{firstOf}
+use Rattle.words.specs.Steps.{asNumber}
 use borrow.Author.Needs.{needs}
 use Rattle.words.proofs.first_of.Statement.{statement}
 use Rattle.words.proofs.first_of.Tie as tie

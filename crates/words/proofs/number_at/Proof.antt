@@ -3,8 +3,9 @@ use mathlib.Core.Path.{ap, _∙_}
 use mathlib.Core.List.{List}
 use Prim.Native.Nat.{ℕ}
 use borrow.Author.Tests.{lt-ltb, le-ltb}
-use Rattle.words.specs.Notation.{asNumber, numberOf}
+use Rattle.words.specs.Notation.{numberOf}
 use Rattle.words.specs.Lines.{numberAt}
+use Rattle.words.specs.Steps.{asNumber}
 use borrow.Author.Needs.{needs}
 use Rattle.words.proofs.number_at.Statement.{statement}
 use Rattle.words.proofs.number_at.Tie as tie

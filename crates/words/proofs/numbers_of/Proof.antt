@@ -1,8 +1,8 @@
 -- `numbers_of`: one number after the other. Assumes nothing.
 use mathlib.Core.Path.{_≡_, sym, ap, _∙_}
 use mathlib.Core.Option.{some}
-use Rattle.words.specs.Forms.{shape}
-use Rattle.words.specs.Lines.{firstOf, numberAt, asNumbers}
+use Rattle.words.specs.Lines.{firstOf, numberAt}
+use Rattle.words.specs.Steps.{shape, asNumbers}
 use Rattle.words.proofs.NotationLaws.{no-number, is-number}
 use Rattle.words.proofs.LineLaws.{no-first, no-second, no-third, all-three}
 use borrow.Author.Needs.{needs}
@@ -21,7 +21,8 @@ second c = c .before .before
 first-is : (c : tie.After-first) → firstOf (shape (start c .args .form)) (start c .args .s .now) ≡ some (c .first .given .0 .0)
 first-is c = is-number _ _ (sym (c .before .before .first-of .ensures) ∙ c .first .given .1)
 
-second-is : (c : tie.After-second) → let a = start (first (c .before .before)) .args in numberAt (a .form .1) 2 (a .s .now) ≡ some (c .second .given .0 .0)
+second-is : (c : tie.After-second) → let a = start (first (c .before .before)) .args in
+    numberAt (a .form .1) 2 (a .s .now) ≡ some (c .second .given .0 .0)
 second-is c = is-number _ _ (sym (c .before .before .number-at .ensures) ∙ c .second .given .1)
 
 returns : tie.Need-returns

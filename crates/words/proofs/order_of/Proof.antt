@@ -8,22 +8,25 @@ use borrow.Author.Needs.{needs}
 use Rattle.words.proofs.order_of.Statement.{statement}
 use Rattle.words.proofs.order_of.Tie as tie
 
+abbrev start : tie.Else1 → tie.Start
+start c = c .before .before .before .before
+
 returns : tie.Need-returns
 returns c =
-    let a = c .before .before .before .before .before .args in
-    passed (a .at) (a .s .now) (a .bytes .now) _ (ended (a .at) _ (a .s .now) (not-true _ (c .before .if1 .taken))) (c .empty .ensures)
+    let z = c .before .before .before .before .before in
+    passed (z .args .at) (z .args .s .now) _ _ (ended _ _ _ (not-true _ (c .before .if1 .taken))) (c .empty .ensures)
 
 returns-2 : tie.Need-returns-2
 returns-2 c =
     let more = c .before .before in
-    let a = more .before .before .before .before .args in
-    passed (a .at) (a .s .now) (a .bytes .now) _ (blank (a .at) _ (a .s .now) (not-false _ (more .if1 .left)) (c .before .if2 .taken)) (c .empty2 .ensures)
+    let a = start more .args in
+    passed (a .at) (a .s .now) _ _ (blank _ _ _ (not-false _ (more .if1 .left)) (c .before .if2 .taken)) (c .empty2 .ensures)
 
 returns-3 : tie.Need-returns-3
 returns-3 c =
     let more = c .before .before .before .before in
-    let a = more .before .before .before .before .args in
-    passed (a .at) (a .s .now) (a .bytes .now) _ (comment (a .at) _ (a .s .now) (not-false _ (more .if1 .left)) (omega arith) (c .before .if3 .taken)) (c .empty3 .ensures)
+    let a = start more .args in
+    passed (a .at) (a .s .now) _ _ (comment _ _ _ (not-false _ (more .if1 .left)) (omega arith) (c .before .if3 .taken)) (c .empty3 .ensures)
 
 returns-4 : tie.Need-returns-4
 returns-4 c =
@@ -31,9 +34,8 @@ returns-4 c =
     let form = done .before .before in
     let word = form .before in
     let some = word .before .before .before in
-    let more = some .before in
-    let a = more .before .before .before .before .args in
-    let line = asked (a .at) _ (a .s .now) (not-false _ (more .if1 .left)) (some .if2 .left) (word .before .if3 .left) in
+    let a = start (some .before) .args in
+    let line = asked (a .at) _ (a .s .now) (not-false _ (some .before .if1 .left)) (some .if2 .left) (word .before .if3 .left) in
     let shape-is = form .form-of .ensures ∙ ap (shapeOf (a .at .further)) (word .word .ensures) in
     ordered (a .at) (a .s .now) (a .bytes .now) _ _ _ line shape-is (done .read-as .ensures)
 

@@ -3,8 +3,8 @@ use mathlib.Core.Path.{sym, ap, _∙_}
 use mathlib.Core.List.{List}
 use mathlib.Core.Option.{Option}
 use Prim.Native.Nat.{ℕ}
-use Rattle.words.specs.Notation.{put, bytesOf}
-use Rattle.words.specs.Forms.{shape}
+use Rattle.words.specs.Notation.{bytesOf}
+use Rattle.words.specs.Steps.{put, shape}
 use Rattle.words.proofs.LineLaws.{run-here, run-none}
 use borrow.Author.Needs.{needs}
 use Rattle.words.proofs.put_at.Statement.{statement}

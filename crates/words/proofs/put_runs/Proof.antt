@@ -2,8 +2,8 @@
 use Prim.Native.Nat.{_≤_}
 use native.Mathlib.Omega.{arith}
 use lib.ListN.{length, length-append}
+use Rattle.words.specs.Steps.{shape}
 use Rattle.buffers.proofs.Behind.{then-front, room-behind}
-use Rattle.words.specs.Forms.{shape}
 use Rattle.words.proofs.LineLaws.{Sizable, sizable}
 use borrow.Author.Needs.{needs}
 use Rattle.words.proofs.put_runs.Statement.{statement}
@@ -28,7 +28,8 @@ put-at-requires-2 c κs =
     let first = c .before .before .before in
     let z = start first in
     let k = runs z in
-    rw (k .second) (room-behind (k .runs .message) (k .runs .name) (z .args .bytes .now) _ _ (rw (k .first) at (first .put-at .ensures)) (k .size-is) (k .room))
+    let put-first = rw (k .first) at (first .put-at .ensures) in
+    rw (k .second) (room-behind (k .runs .message) (k .runs .name) (z .args .bytes .now) _ _ put-first (k .size-is) (k .room))
 
 returns : tie.Need-returns
 returns c =
@@ -36,8 +37,9 @@ returns c =
     let first = second .before .before .before .before in
     let z = start first in
     let k = runs z in
-    rw (k .are) (then-front (k .runs .message) (k .runs .name) (z .args .bytes .now) _ _ (rw (k .first) at (first .put-at .ensures)) (k .size-is) _
-    (rw (k .second) at (second .put-at2 .ensures)))
+    let put-first = rw (k .first) at (first .put-at .ensures) in
+    let put-second = rw (k .second) at (second .put-at2 .ensures) in
+    rw (k .are) (then-front (k .runs .message) (k .runs .name) (z .args .bytes .now) _ _ put-first (k .size-is) _ put-second)
 
 pub put-runs-spec : {M : Type 1} → statement M
 put-runs-spec =

@@ -4,8 +4,8 @@ use mathlib.Core.Option.{Option, some}
 use Prim.Native.Nat.{_+_}
 use lib.ListN.{length}
 use Rattle.words.specs.Split.{following}
-use Rattle.words.specs.Forms.{shape}
-use Rattle.words.specs.Lines.{valuesOf, Runs, runsOf, orBad, putBoth}
+use Rattle.words.specs.Lines.{valuesOf, Runs, runsOf, orBad}
+use Rattle.words.specs.Steps.{shape, putBoth}
 use Rattle.words.specs.declared.What.the-variants.{Bad}
 use Rattle.words.proofs.LineLaws.{wrong-count, no-values, no-runs, read, told-bare, no-numbers, numbers-are, no-sizes, Ended, sizes-are}
 use borrow.Author.Needs.{needs}
@@ -28,7 +28,8 @@ count : (c : tie.After-numbers-of) → let a = start (counted c) .args in follow
 count c = sym (counted c .following .ensures) ∙ c .before .if1 .left
 
 values : (c : tie.After-first) → let a = start (counted (numbers c)) .args in
-    valuesOf (shape (a .form)) (a .s .now) ≡ some (record { first = c .first .given .0 .0; second = c .first .given .0 .1 .0; third = c .first .given .0 .1 .1 .0 })
+    let n = c .first .given .0 in
+    valuesOf (shape (a .form)) (a .s .now) ≡ some (record { first = n .0; second = n .1 .0; third = n .1 .1 .0 })
 values c = numbers-are _ _ _ _ (sym (numbers c .numbers-of .ensures) ∙ c .first .given .1)
 
 runs : (c : tie.After-size) → let a = begun (c .before .before) .args in

@@ -2,7 +2,8 @@
 use mathlib.Core.Path.{sym, ap, _∙_}
 use mathlib.Core.List.{List}
 use Prim.Native.Nat.{ℕ}
-use Rattle.words.specs.Notation.{asSize, bytesOf}
+use Rattle.words.specs.Notation.{bytesOf}
+use Rattle.words.specs.Steps.{asSize}
 use Rattle.words.proofs.LineLaws.{run-here, run-none}
 use borrow.Author.Needs.{needs}
 use Rattle.words.proofs.size_at.Statement.{statement}

@@ -3,8 +3,8 @@ use mathlib.Core.Path.{_≡_, sym, ap, _∙_}
 use mathlib.Core.Option.{none}
 use Prim.Native.Nat.{_+_, _<_}
 use native.Mathlib.Omega.{arith}
-use Rattle.words.specs.Forms.{shape}
-use Rattle.words.specs.Lines.{bytesAt, runsOf, asSizes}
+use Rattle.words.specs.Lines.{bytesAt, runsOf}
+use Rattle.words.specs.Steps.{shape, asSizes}
 use Rattle.words.proofs.NotationLaws.{Run, no-size, is-size}
 use Rattle.words.proofs.LineLaws.{no-message, no-name, no-room, both, sizes-alike}
 use borrow.Author.Needs.{needs}

@@ -3,7 +3,8 @@ use Prim.Native.Nat.{_+_, _≤_, _<_, _-_, _^_}
 use mathlib.Core.Path.{_≡_, refl, sym, ap, _∙_}
 use native.Mathlib.Omega.{arith}
 use lib.ListN.{length, drop}
-use Rattle.words.specs.Notation.{asNumber, numberFrom}
+use Rattle.words.specs.Notation.{numberFrom}
+use Rattle.words.specs.Steps.{asNumber}
 use Rattle.words.proofs.NotationLaws.{number-short, number-long, number-sized, number-stops, number-goes, at-digit, at-end, no-number, is-number}
 use borrow.Author.Needs.{needs}
 use Rattle.words.proofs.notation.number_of.Statement.{statement}
@@ -31,8 +32,9 @@ returns-3 c =
     let at = turn .before in
     let sized = at .before in
     let w = sized .before .before .before .args .w .now in
+    let whole = number-sized w (sized .before .if1 .left) (sized .if2 .left) ∙ sym (at .loop .inv .2) in
     let stops = number-stops (at .loop .n) _ (drop (at .loop .i + 1) w) (no-number _ (sym (digit .with-digit .ensures) ∙ c .enum-told .given .1)) in
-    ap asNumber (sym (number-sized w (sized .before .if1 .left) (sized .if2 .left) ∙ sym (at .loop .inv .2) ∙ at-digit w (at .loop .i) (at .loop .n) (turn .loop-test .taken) ∙ stops))
+    ap asNumber (sym (whole ∙ at-digit w (at .loop .i) (at .loop .n) (turn .loop-test .taken) ∙ stops))
 
 loop-again : tie.Need-loop-again Inv-loop μ-loop
 loop-again c =
@@ -49,7 +51,8 @@ returns-4 c =
     let at = c .before in
     let sized = at .before in
     let w = sized .before .before .before .args .w .now in
-    ap asNumber (sym (number-sized w (sized .before .if1 .left) (sized .if2 .left) ∙ sym (at .loop .inv .2) ∙ at-end w (at .loop .i) (at .loop .n) (c .loop-test .left) (at .loop .inv .1)))
+    let whole = number-sized w (sized .before .if1 .left) (sized .if2 .left) ∙ sym (at .loop .inv .2) in
+    ap asNumber (sym (whole ∙ at-end w (at .loop .i) (at .loop .n) (c .loop-test .left) (at .loop .inv .1)))
 
 pub number-of-spec : {M : Type 1} → statement M
 number-of-spec =

@@ -1,13 +1,20 @@
 -- `notation::size_of`: no bytes, or pairs of digits. Assumes nothing.
-use mathlib.Core.Path.{sym, ap, _∙_}
+use mathlib.Core.Path.{_≡_, sym, ap, _∙_}
+use Rattle.words.specs.Steps.{asSize}
+use Rattle.basics.specs.believed.Text.{ascii}
 use Rattle.basics.proofs.Tests.{true-false}
 use borrow.Author.Tests.{not-true, not-false}
-use Rattle.words.specs.Notation.{asSize}
 use Rattle.words.specs.declared.notation.Size.the-variants.{Bytes as so-many}
 use Rattle.words.proofs.NotationLaws.{bytes-stroke, bytes-empty, bytes-unpaired, bytes-paired, pairs-size}
 use borrow.Author.Needs.{needs}
 use Rattle.words.proofs.notation.size_of.Statement.{statement}
 use Rattle.words.proofs.notation.size_of.Tie as tie
+
+abbrev start : tie.Else1 → tie.Start
+start c = c .before .before .before .before
+
+no-stroke : (c : tie.Else1) → start c .args .w .now ≡ ascii "-" → ⊥
+no-stroke c e = true-false (c .before .same .ensures .1 e) (c .if1 .left)
 
 returns : tie.Need-returns
 returns c = ap asSize (sym (bytes-stroke _ (c .before .same .ensures .0 (c .if1 .taken))))
@@ -17,18 +24,16 @@ returns-2 c = ap asSize (sym (bytes-empty _ (c .if2 .taken)))
 
 returns-3 : tie.Need-returns-3
 returns-3 c =
-    let paired = c .before in
-    let same = paired .before .before .before in
-    let unpaired = sym (paired .in-pairs .ensures) ∙ not-true _ (c .if3 .taken) in
-    ap asSize (sym (bytes-unpaired _ (λ e. true-false (same .same .ensures .1 e) (paired .before .before .if1 .left)) (paired .before .if2 .left) unpaired))
+    let called = c .before in
+    let unpaired = sym (called .in-pairs .ensures) ∙ not-true _ (c .if3 .taken) in
+    ap asSize (sym (bytes-unpaired _ (no-stroke (called .before .before)) (called .before .if2 .left) unpaired))
 
 returns-4 : tie.Need-returns-4
 returns-4 c =
-    let paired = c .before in
-    let same = paired .before .before .before in
-    let pairs = sym (paired .in-pairs .ensures) ∙ not-false _ (c .if3 .left) in
-    let w = same .before .before .before .args .w .now in
-    ap so-many (sym (pairs-size w)) ∙ ap asSize (sym (bytes-paired w (λ e. true-false (same .same .ensures .1 e) (paired .before .before .if1 .left)) (paired .before .if2 .left) pairs))
+    let called = c .before in
+    let other = called .before .before in
+    let paired = sym (called .in-pairs .ensures) ∙ not-false _ (c .if3 .left) in
+    ap so-many (sym (pairs-size (start other .args .w .now))) ∙ ap asSize (sym (bytes-paired _ (no-stroke other) (called .before .if2 .left) paired))
 
 pub size-of-spec : {M : Type 1} → statement M
 size-of-spec =

@@ -2,8 +2,8 @@
 use mathlib.Core.Path.{sym, ap, _∙_}
 use mathlib.Core.List.{[]}
 use native.Mathlib.Omega.{arith}
+use Rattle.words.specs.Steps.{asNumber}
 use borrow.Author.Tests.{le-leb, lt-leb}
-use Rattle.words.specs.Notation.{asNumber}
 use Rattle.words.proofs.NotationLaws.{number-no, number-yes, number-over, number-end}
 use borrow.Author.Needs.{needs}
 use Rattle.words.proofs.notation.with_digit.Statement.{statement}

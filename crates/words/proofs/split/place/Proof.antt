@@ -1,10 +1,11 @@
--- `split::place`: the words of a table one by one. The invariant: the word stands k places behind where it stands from k on. Assumes nothing.
+-- `split::place`: the words of a table one by one. The invariant: its place from k on is k less than its place among all. Assumes nothing.
 use Prim.Native.Nat.{_-_, _+_, _≤_, _<_}
 use mathlib.Core.Path.{_≡_, sym, _∙_}
 use native.Mathlib.Omega.{arith}
 use lib.ListN.{length, drop}
 use Rattle.basics.proofs.Tests.{true-false}
-use Rattle.words.specs.Split.{wordsOf, wordOf, placeIn}
+use Rattle.words.specs.Split.{wordsOf, wordOf}
+use Rattle.words.specs.Steps.{placeIn}
 use Rattle.words.proofs.SplitLaws.{words-count, following-most, place-here, place-behind, place-none}
 use borrow.Author.Needs.{needs}
 use Rattle.words.proofs.split.place.Statement.{statement}
@@ -62,4 +63,5 @@ returns-2 c =
 pub place-spec : {M : Type 1} → statement M
 place-spec =
     tie.close
-    (tie.spec Inv-loop μ-loop (λ c κs. search needs) (λ c. (omega arith, omega arith)) (λ c κs. search needs) (λ c κs. search needs) returns add-k loop-less loop-again returns-2)
+    (tie.spec Inv-loop μ-loop (λ c κs. search needs) (λ c. (omega arith, omega arith))
+    (λ c κs. search needs) (λ c κs. search needs) returns add-k loop-less loop-again returns-2)

@@ -1,7 +1,8 @@
 -- `split::start`. The invariant: the word is number left from i on. Assumes nothing.
-use Prim.Native.Nat.{_≤_, _-_}
+use Prim.Native.Nat.{ℕ, _≤_, _-_}
 use mathlib.Core.Path.{_≡_, sym, _∙_}
 use mathlib.Core.Logic.{⊎-elim}
+use mathlib.Core.List.{[]}
 use native.Mathlib.Omega.{arith}
 use borrow.Author.Needs.{needs}
 use lib.ListN.{length, drop}
@@ -27,16 +28,17 @@ loop-again c =
     let at = turn .before .before in
     let s = at .before .args .s .now in
     let inside = turn .before .loop-test .taken in
-    ⊎-elim
-    (λ came. (omega arith, rw (came .1) (sym (word-blank (at .loop .left) s (at .loop .i) inside (turn .if1 .left) (came .0 .taken)) ∙ at .loop .inv .1)))
-    (λ came. (omega arith, rw (came .1) (sym (word-other (at .loop .left) s (at .loop .i) inside (turn .if1 .left) (came .0 .left)) ∙ at .loop .inv .1)))
-    (c .if2 .came)
+    let blank = word-blank (at .loop .left) s (at .loop .i) inside (turn .if1 .left) in
+    let other = word-other (at .loop .left) s (at .loop .i) inside (turn .if1 .left) in
+    ⊎-elim (λ came. (omega arith, rw (came .1) (sym (blank (came .0 .taken)) ∙ at .loop .inv .1)))
+    (λ came. (omega arith, rw (came .1) (sym (other (came .0 .left)) ∙ at .loop .inv .1))) (c .if2 .came)
 
 returns-2 : tie.Need-returns-2 Inv-loop μ-loop
 returns-2 c =
     let at = c .before in
     let s = at .before .args .s .now in
-    (at .loop .inv .0, word-none 0 s (at .loop .i) (c .loop-test .left) ∙ sym (word-none (at .loop .left) s (at .loop .i) (c .loop-test .left)) ∙ at .loop .inv .1)
+    let none : (k : ℕ) → wordOf k (drop (at .loop .i) s) ≡ [] = λ k. word-none k s (at .loop .i) (c .loop-test .left) in
+    (at .loop .inv .0, none 0 ∙ sym (none (at .loop .left)) ∙ at .loop .inv .1)
 
 pub start-spec : {M : Type 1} → statement M
 start-spec =
