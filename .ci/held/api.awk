@@ -1,14 +1,16 @@
-# What API says of the sources. With names=1, its functions and types, for complete.awk: "CRATE<tab>NAME<tab>LINE<tab>SIGNATURE". Else, as
-# claims (names.awk says what a claim is): the constants of a crate and of a type, the rules, the functions that a line refers to
-# (`desk::open`), and the theorems of the last column, `File` (`theorem`, `theorem`), a file of the promises.
+# What API says of the sources. With names=1, its functions, types and constants, for complete.awk: a line
+# "WHAT<tab>CRATE<tab>NAME<tab>LINE<tab>SIGNATURE<tab>ROW" for each, ROW being the row of OneAnswer that stands beside a function. Else, as
+# claims (names.awk says what a claim is): the rules, the functions that a line refers to (`desk::open`), and the theorems of the last
+# column, `File` (`theorem`, `theorem`), a file of the promises.
 
 function claim(what, where, name) { print FILENAME "\t" FNR "\t" what "\t" where "\t" name }
+
+function entry(what, name, signature, row) { print what "\t" crate "\t" name "\t" FNR "\t" signature "\t" row }
 
 # The constants in a text, of a type (`Type::`) or of the crate itself.
 function constants(text, type,    part, count, k) {
     count = split(text, part, "`")
-    for (k = 2; k < count; k += 2)
-        if (part[k] ~ /^[A-Z][A-Z_]+$/) claim("name", "crates/" crate "/src/lib.rt", type part[k])
+    for (k = 2; k < count; k += 2) if (part[k] ~ /^([a-z_]+::)?[A-Z][A-Z_]+$/) entry("constant", type part[k])
 }
 
 function functions(text,    part, count, k) {
@@ -32,14 +34,18 @@ function theorems(text,    part, count, k, open, file) {
     }
 }
 
+function row_of(text) { return sub(/^.*`OneAnswer` \(`/, "", text) && sub(/`\).*$/, "", text) ? text : "" }
+
 /^## / { crate = $2; next }
-!/^\| `/ { if (crate != "" && !names) constants($0, ""); next }
+!/^\| `/ { if (crate != "" && names) constants($0, ""); next }
 {
     cells = split($0, cell, "|")
     split(cell[2], part, "`")
     signature = name = part[2]
     sub(/\(.*/, "", name)
 }
-names { print crate "\t" name "\t" FNR "\t" signature; next }
-cells == 5 { constants(cell[3], name "::"); rules(cell[4]) }
+names && cells == 5 { entry("type", name, signature); constants(cell[3], name "::") }
+names && cells == 7 { entry("function", name, signature, row_of(cell[6])) }
+names { next }
+cells == 5 { rules(cell[4]) }
 cells == 7 { functions(cell[3] cell[4]); rules(cell[5]); theorems(cell[6]) }

@@ -1,8 +1,5 @@
 # Every must-fail edit stands in PROMISES and in MAP. First come the files there are, then the claims of the pages.
-NR == FNR {
-    if (match($0, /^crates\/[a-z_]+\/must-fail\/[a-z0-9_]+\.edit$/)) edit[$0]
-    next
-}
+NR == FNR { if (/^crates\/[^\/]+\/must-fail\//) edit[$0]; next }
 { split($0, claim, "\t") }
 claim[3] == "edit" { stands[claim[1], claim[4] "/must-fail/" claim[5] ".edit"] }
 

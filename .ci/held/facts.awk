@@ -1,8 +1,11 @@
 # What the sources define: a line "FILE<tab>NAME" for each definition, field and constructor of a file of laws or definitions (.antt), for
-# each function, type and constant of a file of code (.rt), a method as NAME and as Type::NAME, and for each rule of RULES.
-FNR == 1 { code = FILENAME ~ /\.rt$/; rules = FILENAME ~ /\.md$/; type = "" }
+# each function, type and constant of a file of code (.rt), a method as NAME and as Type::NAME, a field or variant as Type::NAME, and for
+# each rule of RULES.
+FNR == 1 { code = FILENAME ~ /\.rt$/; rules = FILENAME ~ /\.md$/; type = owner = "" }
 
 function fact(name) { print FILENAME "\t" name }
+
+function first_word(line) { sub(/[^A-Za-z0-9_].*/, "", line); return line }
 
 rules && match($0, /^- \*\*[A-Z][0-9]+/) { fact(substr($0, 5, RLENGTH - 4)) }
 rules && match($0, /^\| \*\*[0-9]+/) { fact("R" substr($0, 5, RLENGTH - 4)) }
@@ -19,10 +22,11 @@ rules { next }
     for (k = 1; k <= count; k++) fact(word[k])
 }
 
-code && /^impl / { type = $2; sub(/[^A-Za-z0-9_].*/, "", type) }
-code && /^}/ { type = "" }
+code && /^}/ { type = owner = "" }
+code && owner != "" && match($0, /^    (pub |pub\(crate\) )?[A-Za-z]/) { fact(owner "::" first_word(substr($0, RSTART + RLENGTH - 1))) }
+code && /^impl / { type = first_word($2) }
+code && /^(pub |pub\(crate\) )?(struct|enum) .*\{$/ { owner = $0; sub(/^.*(struct|enum) /, "", owner); owner = first_word(owner) }
 code && sub(/^ *(pub |pub\(crate\) )?(fn|struct|enum|const) /, "") {
-    sub(/[^A-Za-z0-9_].*/, "")
-    fact($0)
-    if (type != "") fact(type "::" $0)
+    fact(first_word($0))
+    if (type != "") fact(type "::" first_word($0))
 }

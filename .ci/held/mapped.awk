@@ -1,5 +1,13 @@
-# Every rule of RULES stands in a heading of MAP ("### M1 to M4, M9: .."), and no others. First comes what facts.awk gathers.
-NR == FNR { if (sub(/^docs\/RULES.md\t/, "")) rule[$0]; next }
+# Every rule of RULES stands in a heading of MAP ("### M1 to M4, M9: .."), and no others; in one, but for those that the variable twice
+# names. First come the rules (rules.awk).
+NR == FNR { split($0, part, "\t"); rule[part[2]]; next }
+
+function said(what) { print FILENAME ":" FNR ": " what; wrong++ }
+
+function stands(name) {
+    if (name in mapped && index(" " twice " ", " " name " ") == 0) said(name " stands in two headings")
+    mapped[name]
+}
 
 /^### / {
     heading = $0
@@ -9,8 +17,8 @@ NR == FNR { if (sub(/^docs\/RULES.md\t/, "")) rule[$0]; next }
         if (part[k] == "to") continue
         letter = substr(part[k], 1, 1)
         last = substr(part[k], 2) + 0
-        for (n = part[k - 1] == "to" ? substr(part[k - 2], 2) + 0 : last; n <= last; n++) mapped[letter n]
-        if (!(part[k] in rule)) { print FILENAME ":" FNR ": there is no rule " part[k]; wrong++ }
+        for (n = part[k - 1] == "to" ? substr(part[k - 2], 2) + 1 : last; n <= last; n++) stands(letter n)
+        if (!(part[k] in rule)) said("there is no rule " part[k])
     }
 }
 END {

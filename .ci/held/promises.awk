@@ -1,6 +1,6 @@
 # What PROMISES says of the sources, as claims (names.awk says what a claim is). A name stands in a file that its heading names, or in the
 # one that is named beside it: `name`, `name` (`File.antt`), `File.antt` (`name`), `name` of `File.antt`; a bare file is one of the
-# promises. In the table of the two writings each column has its own folder; a token `crate/label` of the tables below is a must-fail edit.
+# promises. A token `crate/label` of the tables of wrong programs is a must-fail edit. The table of the two writings is read by writings.awk.
 
 function claim(line, what, where, name) { print FILENAME "\t" line "\t" what "\t" where "\t" name }
 
@@ -61,29 +61,6 @@ function read_line(text,    part, count, k) {
     }
 }
 
-# A row of the table of the two writings: first writing, second, laws, each column with its folder unless the cell names one before a colon.
-function writings(    cell, part, count, column, k, folder, file, open) {
-    split($0, cell, "|")
-    for (column = 3; column <= 5; column++) {
-        folder = crate "/" (column == 3 ? "specs" : column == 4 ? "specs/believed" : "proofs")
-        count = split(cell[column], part, "`")
-        open = 0
-        for (k = 2; k < count; k += 2) {
-            open += gsub(/\(/, "", part[k - 1]) - gsub(/\)/, "", part[k - 1])
-            if (part[k + 1] ~ /^:/) {
-                folder = part[k]
-                if (column == 3) { crate = folder; sub(/\/.*/, "", crate) }
-                claim(FNR, "file", "crates/" folder)
-            }
-            else if (open) claim(FNR, "name", file, part[k])
-            else {
-                file = "crates/" (part[k] ~ /\// ? part[k] : folder "/" part[k]) ".antt"
-                claim(FNR, "file", file)
-            }
-        }
-    }
-}
-
 /^## / {
     flush()
     heading = ""
@@ -93,7 +70,7 @@ function writings(    cell, part, count, column, k, folder, file, open) {
     for (k = 2; k < count; k += 2) claim(FNR, "file", file_of(part[k]))
     next
 }
-/^\|/ && part_of == "writings" { writings(); next }
+/^\|/ && part_of == "writings" { next }
 /^$/ || /^- / || /^\|/ { flush() }
 { read_line($0) }
 END { flush() }

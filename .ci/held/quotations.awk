@@ -1,31 +1,22 @@
-# Every quotation is its source's own words. In a comment, what stands in double quotes is of the rule that is cited last before it, or of
-# one of several cited together ("R42, R43:"); where none is cited, it is of some rule, of a demand or request as PROMISES quotes it, or of
-# TRIAL or CASES. On a page only what directly follows a rule's number (`R46: ".."`) is a quotation. ".." stands for words left out; blanks
-# and line breaks are equal. First come RULES, PROMISES, TRIAL and CASES.
-
-FNR == 1 { input++ }
+# Every quotation is its source's own words. In a comment, also in one behind code, what stands in double quotes is of the rule that is cited
+# last before it, or of one of several cited together ("R42, R43:"); where none is cited, it is of some rule, of a demand or request as
+# PROMISES quotes it, or of TRIAL or CASES. On a page what follows a rule's number in the same sentence (`R46: ".."`) is a quotation of it,
+# and nothing else is. ".." stands for words left out; blanks and line breaks are equal. Inputs, by the variable of: the rules (rules.awk),
+# PROMISES, other pages that are quoted, and the texts.
 
 function clean(words) {
     gsub(/[`*]/, "", words)
     gsub(/[ \t]+/, " ", words)
-    sub(/^ /, "", words)
-    sub(/ $/, "", words)
+    gsub(/^ | $/, "", words)
     return words
 }
 
-# ---- the rules: "- **M1** text", a row "| **1** | text |" of the refusals, and what follows up to the next rule
-input == 1 {
-    if (/^#/ || /^```/ || /^[A-Z]/) rule = ""
-    if (/^- \*\*[A-Z][0-9]+\*\*/) rule = clean($2)
-    if (/^\| \*\*[0-9]+\*\*/) rule = "R" clean($2)
-    if (rule != "") text[rule] = text[rule] " " clean($0)
+of == "rules" { split($0, part, "\t"); text[part[2]] = part[3]; next }
+of == "PROMISES" {
+    if (/^> / || /^\*\*.*\?\*\*$/) { sub(/^> /, ""); text["demands"] = text["demands"] " " clean($0) }
     next
 }
-
-# ---- the demands and requests, which are set apart, and the auditor's questions, which are bold; and the words of scripts and cases
-input == 2 && (/^> / || /^\*\*.*\?\*\*$/) { sub(/^> /, ""); text["demands"] = text["demands"] " " clean($0) }
-input == 3 || input == 4 { text[FILENAME] = text[FILENAME] " " clean($0) }
-input <= 4 { next }
+of == "quoted" { text[FILENAME] = text[FILENAME] " " clean($0); next }
 
 # Whether the pieces of a quotation stand in a text, one behind the other.
 function stands_in(said, rest,    piece, count, k, at) {
@@ -72,9 +63,10 @@ function flush(    part, count, k, cited, found) {
     count = split(block, part, "\"")
     cited = ""
     for (k = 1; k < count; k += 2) {
+        if (page && (sub(/.*\. /, "", part[k]) || part[k - 1] ~ /\.$/)) cited = ""
         found = cited_in(part[k])
         if (found != "") cited = found
-        if (!page || part[k] ~ /[MFOPRT][0-9]+: $/) hold(clean(part[k + 1]), cited)
+        if (!page || cited != "") hold(clean(part[k + 1]), cited)
     }
     block = ""
 }
@@ -89,4 +81,5 @@ page && (/^$/ || /^(- |#|\|)/) { flush() }
 page { add($0); next }
 sub(/^ *(--|\/\/)/, "") { add($0); next }
 { flush() }
+match($0, /[^ ] +(--|\/\/) /) { add(substr($0, RSTART + RLENGTH)); flush() }
 END { flush(); print quotations + 0 >tally; exit wrong > 0 }
