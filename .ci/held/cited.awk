@@ -39,7 +39,7 @@ of == "API" {
     if (!/^\| `/ || split($0, cell, "|") != 7) next
     split(cell[2], part, "`")
     sub(/\(.*/, "", part[2])
-    name = crate "::" part[2] in under ? crate "::" part[2] : part[2]
+    name = (crate "::" part[2]) in under ? crate "::" part[2] : part[2]
     if (name in under && !meet(cited(cell[5]), under[name])) said("of " name " MAP has the rules" under[name])
     next
 }

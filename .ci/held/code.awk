@@ -18,9 +18,9 @@ function byte_of(place) { return 512 * int(place / 504) + 6 + place % 504 }
 function given(row,    word, place) {
     split(row, word, " ")
     if (match(row, /<[a-z][^ ]*/) && !(substr(row, RSTART + 1, RLENGTH - 1) in there)) return 0
-    if (word[1] == "./run") return "crates/" word[2] "/src/main.rt" in there
+    if (word[1] == "./run") return ("crates/" word[2] "/src/main.rt") in there
     if (word[1] == "bash") return word[2] in there
-    if (word[1] ~ /^\.\/[a-z]+$/) return substr(word[1], 3) in there
+    if (word[1] ~ /^\.\/[a-z]+$/) return (substr(word[1], 3)) in there
     if (word[1] != "xxd" || !match(above, /`end [0-9]+ refused/)) return 0
     place = substr(above, RSTART + 5, RLENGTH - 13)
     return word[3] == byte_of(place) && index(above, " byte " word[3] ":")
