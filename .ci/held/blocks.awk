@@ -1,6 +1,6 @@
-# The blocks of pages, for examples.awk: a line "PAGE<tab>LINE<tab>KIND<tab>ABOVE<tab>TEXT" for each. KIND is fence for what stands between ```
-# lines, and indent for lines that begin with four blanks, which TEXT is without; ABOVE is the paragraph before the block, empty where another
-# block stands there. \001 stands for a line's end in TEXT.
+# The blocks of pages, for examples.awk: a line "PAGE<tab>LINE<tab>KIND<tab>ABOVE<tab>TEXT" for each. KIND is fence for what stands
+# between ``` lines, and indent for lines that begin with four blanks, which TEXT is without; ABOVE is the paragraph before the block,
+# empty where another block stands there. \001 stands for a line's end in TEXT.
 
 function end_block() {
     if (begun) print page "\t" begun "\t" kind "\t" above "\t" text

@@ -1,7 +1,7 @@
-# The cases of vectors, for examples.awk and answers.awk: a line "answer<tab>ANSWER" for every answer; and for each case of a page's own file
-# page-NAME.txt, a group of lines that are no mere comment, lines "case<tab>NAME<tab>FILE:LINE<tab>TEXT" by which an example can be known: its
-# whole text, its script and all answers behind "=", and, of a tape that is replayed, the answers of its last line. \001 stands for a line's
-# end in TEXT.
+# The cases of vectors, for examples.awk and answers.awk: a line "answer<tab>ANSWER" for every answer; and for each case of a page's own
+# file page-NAME.txt, a group of lines that are no mere comment, lines "case<tab>NAME<tab>FILE:LINE<tab>TEXT" by which an example can be
+# known: its whole text, its script and all answers behind "=", and, of a tape that is replayed, the answers of its last line. \001 stands
+# for a line's end in TEXT.
 
 function known_by(key) {
     gsub(/\n/, "\001", key)

@@ -1,5 +1,6 @@
-# Every rule that a page names is one of RULES. And of a function that MAP names, API cites a rule of a heading under which MAP has it. Inputs,
-# by the variable of: the rules (rules.awk), MAP, API, and all pages. F0 is a byte, and so is what stands in backticks or in a block.
+# Every rule that a page names is one of RULES. And of a function that MAP names, API cites a rule of a heading under which MAP has it.
+# Inputs, by the variable of: the rules (rules.awk), MAP, API, and all pages. F0 is a byte, and so is what stands in backticks or in a
+# block.
 
 function said(what) { print FILENAME ":" FNR ": " what; wrong++ }
 

@@ -39,7 +39,8 @@ function hold(text,    crate) {
     if (above == "It prints:") { if (text != prints) said("not what shop prints") }
     else if (commands(text)) return
     else if (crate == "") said("no check knows this block")
-    else if (!index("\001" code[crate], "\001" bare(text))) said("not the code of " crate ": " bare(substr(text, 1, index(text, "\001") - 1)))
+    else if (!index("\001" code[crate], "\001" bare(text)))
+        said("not the code of " crate ": " bare(substr(text, 1, index(text, "\001") - 1)))
 }
 
 { split($0, part, "\t"); page = part[1]; line = part[2]; above = part[4]; blocks++; hold(part[5]) }

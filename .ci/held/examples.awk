@@ -1,9 +1,9 @@
 # Every example of a page is a case of its own file, page-NAME.txt, and every case there an example of the page. An example is
 # - what stands between ``` lines, on CASES a case, on TRIAL a script with each answer indented below its line;
-# - a command, and as the next block what it prints: `printf 'LINE\n' | ./run trial`, and the case has that line; `printf '\x06..' | ./run lister`,
-#   and it has `list` with these bytes; `./run replay <FILE`, and it ends with `replay-tape`.
-# A message drawn above a command, in a row `byte`, is the one that it reads. Inputs, by the variable of: the cases (casebook.awk), the blocks of
-# the pages (blocks.awk). The blocks that are none of this go to the file that the variable rest names, for code.awk.
+# - a command, and as the next block what it prints: `printf 'LINE\n' | ./run trial`, and the case has that line; `printf '\x06..' | ./run
+#   lister`, and it has `list` with these bytes; `./run replay <FILE`, and it ends with `replay-tape`.
+# A message drawn above a command, in a row `byte`, is the one that it reads. Inputs, by the variable of: the cases (casebook.awk), the
+# blocks of the pages (blocks.awk). The blocks that are none of this go to the file that the variable rest names, for code.awk.
 BEGIN { FS = "\t" }
 
 function said(what) { print page ":" line ": " what; wrong++ }

@@ -1,7 +1,7 @@
-# README has at most 200 lines, and the limits in its table are those of RULES: "eight lanes" beside "refused with 12" stands in a rule that
-# R12 cites; a row without a number of refusal has a number that some rule has. On every page the number before a constant in brackets, as in
-# "5,120 bytes (`Block::ROOM`)", is what the constant is. Inputs, by the variable of: the rules (rules.awk), the public names (public.awk),
-# README, and all pages.
+# README has at most 200 lines, and the limits in its table are those of RULES: "eight lanes" beside "refused with 12" stands in a rule
+# that R12 cites; a row without a number of refusal has a number that some rule has. On every page the number before a constant in
+# brackets, as in "5,120 bytes (`Block::ROOM`)", is what the constant is. Inputs, by the variable of: the rules (rules.awk), the public
+# names (public.awk), README, and all pages.
 
 function said(line, what) { print file ":" line ": " what; wrong++ }
 

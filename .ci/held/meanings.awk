@@ -1,8 +1,8 @@
 # A number of refusal says what it is. On every page but RULES, what stands in brackets behind a number, "12 (no such lane)", has the words
 # that are listed here for it; and "refused with 12" has such brackets, or says "where ..", the first time in a paragraph.
 BEGIN {
-    count = split("short/soon|long|left over/long|length digit|unknown field|digit|twice|tag|deep|objects|room|no such lane|not idle|lane is idle|" \
-        "phase|limits/block number|sale|full|open|check|due/desk writes|no length of|belong", meant, "|")
+    count = split("short/soon|long|left over/long|length digit|unknown field|digit|twice|tag|deep|objects|room|no such lane|not idle|" \
+        "lane is idle|phase|limits/block number|sale|full|open|check|due/desk writes|no length of|belong", meant, "|")
     for (k = 1; k <= count; k++) gsub("/", "|", meant[k])
 }
 
@@ -24,7 +24,8 @@ function hold_refused(text,    number, seen) {
     while (match(text, /refused with [0-9]+/)) {
         number = substr(text, RSTART + 13, RLENGTH - 13)
         text = substr(text, RSTART + RLENGTH)
-        if (number in meant && !(number in seen) && text !~ /^ (\(|(exactly )?where )/) said("refused with " number " says not what that is")
+        if (number in meant && !(number in seen) && text !~ /^ (\(|(exactly )?where )/)
+            said("refused with " number " says not what that is")
         seen[number]
     }
 }

@@ -1,6 +1,7 @@
 # What PROMISES says of the sources, as claims (names.awk says what a claim is). A name stands in a file that its heading names, or in the
 # one that is named beside it: `name`, `name` (`File.antt`), `File.antt` (`name`), `name` of `File.antt`; a bare file is one of the
-# promises. A token `crate/label` of the tables of wrong programs is a must-fail edit. The table of the two writings is read by writings.awk.
+# promises. A token `crate/label` of the tables of wrong programs is a must-fail edit. The table of the two writings is read by
+# writings.awk.
 
 function claim(line, what, where, name) { print FILENAME "\t" line "\t" what "\t" where "\t" name }
 

@@ -1,8 +1,8 @@
-# Every quotation is its source's own words. In a comment, also in one behind code, what stands in double quotes is of the rule that is cited
-# last before it, or of one of several cited together ("R42, R43:"); where none is cited, it is of some rule, of a demand or request as
-# PROMISES quotes it, or of TRIAL or CASES. On a page what follows a rule's number in the same sentence (`R46: ".."`) is a quotation of it,
-# and nothing else is. ".." stands for words left out; blanks and line breaks are equal. Inputs, by the variable of: the rules (rules.awk),
-# PROMISES, other pages that are quoted, and the texts.
+# Every quotation is its source's own words. In a comment, also in one behind code, what stands in double quotes is of the rule that is
+# cited last before it, or of one of several cited together ("R42, R43:"); where none is cited, it is of some rule, of a demand or request
+# as PROMISES quotes it, or of TRIAL or CASES. On a page what follows a rule's number in the same sentence (`R46: ".."`) is a quotation of
+# it, and nothing else is. ".." stands for words left out; blanks and line breaks are equal. Inputs, by the variable of: the rules
+# (rules.awk), PROMISES, other pages that are quoted, and the texts.
 
 function clean(words) {
     gsub(/[`*]/, "", words)

@@ -1,6 +1,6 @@
 # Where API names theorems beside a function, one of them at least speaks of what the function's contract says: its statement has a
-# definition that the contract cites. That a desk is valid counts for nothing, since nearly all of them say that. Inputs, by the variable of:
-# the code of the libraries, the promises, API.
+# definition that the contract cites. That a desk is valid counts for nothing, since nearly all of them say that. Inputs, by the variable
+# of: the code of the libraries, the promises, API.
 
 function said(what) { print FILENAME ":" FNR ": " what; wrong++ }
 

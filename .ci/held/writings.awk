@@ -1,6 +1,6 @@
-# What the table of the two writings in PROMISES says of the sources, as claims (names.awk says what a claim is). A row has the first writing,
-# the second, and laws that hold the two together, as `File` (`name`, `name`); each column has its own folder of the crate, unless the cell
-# names one before a colon. That of the first column is the crate's of the rows below, too.
+# What the table of the two writings in PROMISES says of the sources, as claims (names.awk says what a claim is). A row has the first
+# writing, the second, and laws that hold the two together, as `File` (`name`, `name`); each column has its own folder of the crate,
+# unless the cell names one before a colon. That of the first column is the crate's of the rows below, too.
 
 function claim(what, where, name) { print FILENAME "\t" FNR "\t" what "\t" where "\t" name }
 
