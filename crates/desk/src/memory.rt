@@ -11,7 +11,6 @@ use desk_rules::Line;
 use desk_rules::Moved;
 use desk_rules::Reference;
 ghost use mathlib.Core.Path.{_≡_};
-ghost use mathlib.Core.Bool.{_&&_};
 ghost use Prim.Native.Nat.{_<_, _≤_};
 ghost use lib.Dec.{leb};
 ghost use lib.ListN.{length, take};

@@ -5,17 +5,16 @@ use mathlib.Core.List.{List, [], _∷_, _++_}
 use mathlib.Core.Option.{Option, none, some}
 use Prim.Native.Nat.{ℕ, _+_, _-_, _≤_, _<_}
 use native.Mathlib.Omega.{arith}
-use lib.ListN.{length, getD, drop, length-append, length-drop}
+use lib.ListN.{length, getD, length-append, length-drop}
 use lib.Dec.{leb, eqb}
 use borrow.Author.Tests.{lt-ltb, le-ltb, le-leb, lt-leb, leb-true, leb-false, eq-eqb, ne-eqb}
-use Rattle.basics.specs.Buffers.{front}
 use Rattle.basics.proofs.Tests.{pick-test, by-test, never}
 use Rattle.words.specs.Split.{following, wordOf}
 use Rattle.words.specs.Notation.{bytesOf}
 use Rattle.words.specs.Forms.{Shape, shapeOf}
 use Rattle.words.specs.Lines.{andThen, numberAt, firstOf, Values, valuesOf, bytesAt, Runs, runsOf}
 use Rattle.words.specs.Lines.{Line, lineWith, bare, readAs, orBad, passedOver, lineOf, Told}
-use Rattle.words.specs.Steps.{asNumbers, asSizes, Sized, putBoth}
+use Rattle.words.specs.Steps.{asNumbers, asSizes, Sized}
 use Rattle.words.specs.declared.Script.{Script}
 use Rattle.words.specs.declared.Order.{Order}
 use Rattle.words.specs.declared.Numbers.the-variants.{Bad as bad-numbers, Given}

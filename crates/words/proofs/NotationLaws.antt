@@ -11,14 +11,11 @@ use lib.Seq.{drop-cons, take-length}
 use lib.Dec.{leb, ltb, eqb}
 use borrow.Author.Tests.{lt-ltb, le-ltb, ltb-true, ltb-false, le-leb, lt-leb}
 use Rattle.basics.specs.Choice.{pick}
-use Rattle.basics.specs.Buffers.{front}
 use Rattle.basics.specs.Text.{hexValue}
 use Rattle.basics.specs.believed.Text.{ascii}
 use Rattle.basics.proofs.Tests.{by-test, case, no-for, pick-true, pick-false, never}
-use Rattle.words.specs.Split.{alike}
 use Rattle.words.specs.Notation.{allDigits, valueFrom, numberFrom, numberOf, isHex, allHex, inPairs, hexByte, pairsOf, bytesOf}
 use Rattle.words.specs.Steps.{asNumber, asSize, Fits, put}
-use Rattle.words.specs.declared.notation.Number.{Number}
 use Rattle.words.specs.declared.notation.Number.the-variants.{Bad, Value}
 use Rattle.words.specs.declared.notation.Size.the-variants.{Bad as bad-size, Bytes as so-many}
 use Rattle.words.proofs.SplitLaws.{alike-same}
