@@ -325,9 +325,6 @@ refused-same e = cc
 pub read-once : (s : List ℕ) (r q : Refusal) → ReadNo s r → ReadNo s q → r ≡ q
 read-once s r q a b = refused-same (sym (read-refused s r a) ∙ read-refused s q b)
 
-pub first-once : (s : List ℕ) (r q : Refusal) → FirstNo s r → FirstNo s q → r ≡ q
-first-once s r q a b = refused-same (sym (first-refused s r a) ∙ first-refused s q b)
-
 -- and no message that is allowed has one
 pub read-never : (m : Message) (r : Refusal) → MessageOk m → ReadNo (messageBytes m) r → ⊥
 read-never m r ok a = got-not-refused (sym (read-complete m ok) ∙ read-refused (messageBytes m) r a)
