@@ -28,7 +28,7 @@ use Rattle.desk_rules.specs.Course.{noMove, lostBy, Call, laneOf, needsLine, Nu
 use Rattle.desk_rules.specs.Lanes.{lineAt}
 use Rattle.desk_rules.specs.Desk.{laneAt, load, refuse, accept, unlessRefused, decide, linesFrom}
 use Rattle.desk_rules.specs.Memory.{view, laneFor, Valid, movedDesk, refusedAnswer, answerOf, leavesOf}
-use Rattle.desk.specs.Steps.{LinePlaced, LineFits}
+use Rattle.desk.specs.Steps.{BookedFits, LineFits}
 use Rattle.desk_rules.proofs.Moved.{the-type}
 use Rattle.desk_rules.proofs.Calls.{Passes}
 use Rattle.desk_rules.proofs.Lanes.{passing}
@@ -43,11 +43,11 @@ passes-tag Stays h = tt
 passes-tag (Becomes l) h = tt
 passes-tag (Ends outcome settled code) h = tt
 
--- the line at an end, if it is booked, finds a place
-pub line-placed : (d : Desk) (i : ℕ) (outcome : Outcome) (settled code : ℕ) → LineFits d i (Ends outcome settled code)
-    → LinePlaced d (lineAt i (laneAt (d .lanes) i) outcome settled code)
+-- the line at an end, if it is booked, is free
+pub booked-fits : (d : Desk) (i : ℕ) (outcome : Outcome) (settled code : ℕ) → LineFits d i (Ends outcome settled code)
+    → BookedFits d (lineAt i (laneAt (d .lanes) i) outcome settled code)
 unfolding linesFrom lineAt
-line-placed d i outcome settled code h b = let k = rw b at h in omega arith
+booked-fits d i outcome settled code h b = let k = rw b at h in omega arith
 
 -- what bytes::copy leaves of bytes that are w
 pub copied : (s w out : List ℕ) → s ≡ w → take (length s) s ++ drop (length s) out ≡ front w out

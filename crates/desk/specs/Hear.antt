@@ -6,6 +6,7 @@ use lib.Dec.{eqb}
 use Rattle.basics.specs.Choice.{pick}
 use Rattle.basics.specs.Lists.{among}
 use Rattle.basics.specs.Buffers.{front}
+use Rattle.zvt_rules.specs.Refusals.{notAllowed}
 use Rattle.zvt_rules.specs.Message.{Heading}
 use Rattle.zvt_rules.specs.declared.Status.{Status}
 use Rattle.zvt_rules.specs.declared.ToldBody.{ToldBody}
@@ -41,7 +42,7 @@ movedFor Completion l start t = completedBy l (l .status .code)
 movedFor Abort l start t = abortedBy start (t .first)
 movedFor Report l start t = reportedAs l (t .status)
 movedFor Passing l start t = Stays
-movedFor NotAllowed l start t = noMove 15
+movedFor NotAllowed l start t = noMove notAllowed
 
 unfoldable pub afterTold : Said → Lane → ℕ → ToldAnswer → Moved
 afterTold said l start (body-refused r) = Refused r
@@ -49,7 +50,7 @@ afterTold said l start (Told t) = movedFor said l start t
 
 -- a pair that is not allowed is refused before the body (15)
 unfoldable pub runningFor : Said → Lane → ℕ → ToldAnswer → Moved
-runningFor NotAllowed l start told = noMove 15
+runningFor NotAllowed l start told = noMove notAllowed
 runningFor Completion l start told = afterTold Completion l start told
 runningFor Abort l start told = afterTold Abort l start told
 runningFor Report l start told = afterTold Report l start told

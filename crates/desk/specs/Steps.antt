@@ -16,10 +16,10 @@ pub record Sized (d : Desk) (i : ℕ) : Type 0 where
   pub lanes : length (d .lanes) ≡ laneCount
   pub lines : length (d .book .lines) ≡ bookLines
 
--- a line that is booked finds a place
-abbrev pub LinePlaced : Desk → Line → Type 0
-LinePlaced d l = booked (l .kind) ≡ true → d .book .count < bookLines
+-- a line that is booked finds one that is free
+abbrev pub BookedFits : Desk → Line → Type 0
+BookedFits d l = booked (l .kind) ≡ true → d .book .count < bookLines
 
--- the line that a move of lane i adds finds a place
+-- the line that a move of lane i adds finds one that is free
 abbrev pub LineFits : Desk → ℕ → Moved → Type 0
 LineFits d i m = d .book .count + length (linesFrom i (laneAt (d .lanes) i) m) ≤ bookLines

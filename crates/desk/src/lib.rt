@@ -89,7 +89,7 @@ pub fn open(desk: Desk, lane: u8, opening: Opening, out: &mut [u8]) -> Answer
     }
 }
 
-// Whether an opening needs a place in the book and finds none.
+// Whether an opening needs a line of the book and finds none.
 fn no_line(desk: Desk, opening: Opening) -> bool
     requires { ⌜ Valid desk ⌝ }
     ensures { λ r. ⌜ r ≡ (booked (kindOf opening) && leb bookLines (load (view desk))) ⌝ }

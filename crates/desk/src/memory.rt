@@ -11,7 +11,6 @@ use desk_rules::Line;
 use desk_rules::Moved;
 use desk_rules::Reference;
 ghost use mathlib.Core.Path.{_≡_};
-ghost use mathlib.Core.Bool.{_&&_};
 ghost use Prim.Native.Nat.{_<_, _≤_};
 ghost use lib.Dec.{leb};
 ghost use lib.ListN.{length, take};
@@ -19,7 +18,7 @@ ghost use Rattle.desk_rules.specs.Numbers.{laneCount, bookLines};
 ghost use Rattle.desk_rules.specs.Openings.{lastLine};
 ghost use Rattle.desk_rules.specs.Desk.{linesTaken, allIdle, load};
 ghost use Rattle.desk_rules.specs.Memory.{Valid, withLine, view, endedDesk, movedDesk};
-ghost use Rattle.desk.specs.Steps.{Sized, LinePlaced, LineFits};
+ghost use Rattle.desk.specs.Steps.{Sized, BookedFits, LineFits};
 
 pub(crate) fn with_line(b: Book, l: Line) -> Book
     requires { ⌜ b .count < bookLines ⌝ }
@@ -53,7 +52,7 @@ pub(crate) fn last_line(b: Book, lane: u8, reference: Reference) -> Line
     last
 }
 
-// How many places of the book open payments take.
+// How many lines of the book are kept for open payments.
 fn lines_taken(d: Desk) -> usize
     requires { ⌜ length (d .lanes) ≡ laneCount ⌝ }
     ensures { λ r. ⌜ r ≡ linesTaken (d .lanes) ⌝ }
@@ -68,7 +67,7 @@ fn lines_taken(d: Desk) -> usize
     n
 }
 
-// Whether lines and open payments take every place.
+// Whether lines and open payments take every line of the book.
 pub(crate) fn is_full(d: Desk) -> bool
     requires { ⌜ Valid d ⌝ }
     ensures { λ r. ⌜ r ≡ leb bookLines (load (view d)) ⌝ }
@@ -97,7 +96,7 @@ pub(crate) fn all_idle(d: Desk) -> bool
 
 // The lane's payment ends, with that line if it is booked, and the lane is idle.
 pub(crate) fn ended(d: Desk, lane: u8, line: Line) -> Desk
-    requires { ⌜ Sized d lane × LinePlaced d line ⌝ }
+    requires { ⌜ Sized d lane × BookedFits d line ⌝ }
     ensures { λ r. ⌜ r ≡ endedDesk d lane line ⌝ }
 {
     let at = lane as usize;

@@ -40,7 +40,7 @@ pub(crate) fn is_reversal(kind: Kind) -> bool
     }
 }
 
-// Whether an open lane of this kind takes a place in the book, and its end puts a line there.
+// Whether an open lane of this kind takes a line of the book, and its end writes it.
 pub(crate) fn booked(kind: Kind) -> bool
     ensures { λ r. ⌜ r ≡ booked kind ⌝ }
 {
@@ -176,7 +176,7 @@ pub(crate) fn missing_number(reference: Reference) -> u8
     }
 }
 
-// The place that it takes in the book: one, where a payment is open that is booked.
+// How many lines of the book are kept for it: one, where a payment is open that is booked.
 pub(crate) fn line_taken(l: Lane) -> usize
     ensures { λ r. ⌜ r ≡ lineTaken l ⌝ }
 {

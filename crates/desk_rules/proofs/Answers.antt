@@ -47,12 +47,12 @@ use Rattle.desk_rules.specs.Memory.{freshDesk, view, linesOfDesk, Valid,
 use Rattle.desk_rules.specs.Desk.{State, laneAt, allIdle, Decision, refuse, accept, decide, laneAfter, linesFrom, step}
 use Rattle.desk_rules.specs.believed.Due.{Reads, by-84, by-061E, by-060F, by-loss}
 use Rattle.desk_rules.specs.believed.Table.{laneIn, phaseAt, idle, whileRunning, Commands}
-use Rattle.desk_rules.specs.believed.Answers.{Writes, command, silent, reply, cut, running, Makes, opened, taken, waits, told, untold, ended, broken, Leaves, Answers, refusal, success, refusing, Closes, open-payment, closed, ShowsLane, no-lane, lane, ShowsLine, no-line, line}
+use Rattle.desk_rules.specs.believed.Answers.{Writes, command, silent, reply, link-lost, running, Makes, opened, taken, waits, told, untold, ended, broken, Leaves, Answers, refusal, success, refusing, Closes, open-payment, closed, ShowsLane, no-lane, lane, ShowsLine, no-line, line}
 use Rattle.desk_rules.proofs.Heard.{heard-cases}
 use Rattle.desk_rules.proofs.Commands.{command-exactly}
 use Rattle.desk_rules.proofs.Due.{reads, status-is, status-there, asks-are, ask}
 use Rattle.desk_rules.proofs.Calls.{Passes, every-kind, plain-read, empty-read, both, Closing, completed-closes, aborted-closes}
-use Rattle.desk_rules.proofs.Lanes.{told as tells, accepts-any}
+use Rattle.desk_rules.proofs.Lanes.{accept-parts, accepts-any}
 use Rattle.desk_rules.proofs.Memory.{refused-same, accepted-answer, follows, refused-leaves, accepted-leaves}
 use Rattle.desk_rules.proofs.Rows.{idle-test, pairs-test, table, past, accepted-within}
 
@@ -67,8 +67,8 @@ unfolding answered
 from-reply (silent e) = rw e
 from-reply (reply e) = rw e
 
-from-cut : {s : State} {i : ℕ} {w : List ℕ} → Writes s (lost i) w → w ≡ []
-from-cut cut = refl
+from-lost : {s : State} {i : ℕ} {w : List ℕ} → Writes s (lost i) w → w ≡ []
+from-lost link-lost = refl
 
 -- an accepted call writes what it must, and nothing else
 pub writes-exactly : (s : State) (c : Call) (room : ℕ) (w : List ℕ) → decide s c room ≡ accept
@@ -86,7 +86,7 @@ writes-exactly s (message i b) room w a = (λ e. rw e (go (phaseAt s i) refl), f
     go Idle e = absurd (open-lane e)
     go Waiting e = silent e
     go Running e = reply e
-writes-exactly s (lost i) room w a = (λ e. rw e cut, from-cut)
+writes-exactly s (lost i) room w a = (λ e. rw e link-lost, from-lost)
 
 -- ---- what a message makes of its lane
 
@@ -273,7 +273,7 @@ one-made (lost i) h = by-lost h
 pub leaves : (s : State) (c : Call) (room : ℕ) → length (s .lanes) ≡ laneCount → NumbersFit c → decide s c room ≡ accept → Leaves s c (step s c)
 unfolding step Fits
 leaves s c room e n a =
-    let t = tells s c (accepts-any s c room a) in
+    let t = accept-parts s c (accepts-any s c room a) in
     let l = laneAt (s .lanes) (laneOf c) in
     let m = moves l (s .lines) c in
     record {

@@ -4,7 +4,7 @@ use mathlib.Core.Path.{_≡_, refl, ap, sym, subst, _∙_}
 use mathlib.Core.Logic.{_↔_, _⊎_, inl, inr, ⊎-elim}
 use mathlib.Core.Bool.{true, false}
 use mathlib.Core.List.{List, [], _∷_, _++_, map, append-nil}
-use Prim.Native.Nat.{ℕ, zero, suc, _+_, _<_}
+use Prim.Native.Nat.{ℕ, zero, suc, _<_}
 use native.Mathlib.Omega.{arith}
 use lib.ListN.{length, getD, take}
 use lib.Seq.{append-snoc}
@@ -19,9 +19,9 @@ use Rattle.desk_rules.specs.Course.{Call, message, opens, needsLine}
 use Rattle.desk_rules.specs.Desk.{fresh, laneAt, Accepted, run}
 use Rattle.desk_rules.specs.Runs.{callsOf, total, openings}
 use Rattle.desk_rules.specs.Payments.{paymentsOf, flattened, oneByOne}
-use Rattle.desk_rules.specs.believed.Due.{Ended, not-taken, aborted, cut, approved, amount-untold, differs, other-code, no-status, Open, LineDue, LaneIs, idle, busy}
+use Rattle.desk_rules.specs.believed.Due.{Ended, not-taken, aborted, link-lost, approved, amount-untold, differs, other-code, no-status, Open, LineDue, LaneIs, idle, busy}
 use Rattle.desk_rules.proofs.Calls.{every-kind}
-use Rattle.desk_rules.proofs.Lanes.{total-append, opened-one, not-opened, places-total}
+use Rattle.desk_rules.proofs.Lanes.{total-append, opened-one, not-opened, lines-taken-total}
 use Rattle.desk_rules.proofs.Runs.{count}
 use Rattle.desk_rules.proofs.Due.{lane-local, due-same, lane-same}
 use Rattle.desk_rules.proofs.Payment.{phase-busy}
@@ -59,7 +59,7 @@ ended-none : {i a s code : ℕ} {k : Kind} {fs : List Field} {c : Call} {o : Out
 unfolding opens
 ended-none (not-taken h) = refl
 ended-none (aborted h) = refl
-ended-none cut = refl
+ended-none link-lost = refl
 ended-none (approved h z t r) = refl
 ended-none (amount-untold h z m) = refl
 ended-none (differs h z t r d) = refl
@@ -168,6 +168,6 @@ module _ (cs : List Call) (h : Accepted fresh cs) where
         openings-joined ongoing,
         blocks-count [] ended lines (kept cs h .blocks),
         total-alike openings lineTaken [] idleLane ongoing (run fresh cs .lanes) (kept cs h .slots ∙ sym (kept cs h .lanes)) (λ k. lane-one (lane-there k)),
-        places-total (run fresh cs .lanes),
+        lines-taken-total (run fresh cs .lanes),
         count cs h .0,
       ))

@@ -39,7 +39,7 @@ use Rattle.desk_rules.specs.Course.{pairIs, settledAs, completedBy, abor
 use Rattle.desk_rules.specs.Runs.{ofLane}
 use Rattle.desk_rules.specs.Payments.{endsBy, ends}
 use Rattle.desk_rules.specs.believed.LastSale.{None, Named}
-use Rattle.desk_rules.specs.believed.Due.{Reads, Report, Remembered, nothing, report, Told, told, untold, CodeIs, AmountIs, Asks, by-sale, by-refund, by-reversal, Ended, not-taken, aborted, cut, approved, amount-untold, differs, other-code, no-status, Ending, by-84, by-061E, by-060F, by-loss, ReceiptIs, of-reversal, of-another, Open, LineDue, PhaseIs, waiting, running, StatusIs, LaneIs, idle, busy}
+use Rattle.desk_rules.specs.believed.Due.{Reads, Report, Remembered, nothing, report, Told, told, untold, CodeIs, AmountIs, Asks, by-sale, by-refund, by-reversal, Ended, not-taken, aborted, link-lost, approved, amount-untold, differs, other-code, no-status, Ending, by-84, by-061E, by-060F, by-loss, ReceiptIs, of-reversal, of-another, Open, LineDue, PhaseIs, waiting, running, StatusIs, LaneIs, idle, busy}
 use Rattle.desk_rules.proofs.NamedSale.{named-is, named-there}
 use Rattle.desk_rules.proofs.Judge.{orElse, remembered, recalled, verdictOf, verdict}
 use Rattle.desk_rules.proofs.Calls.{both}
@@ -257,7 +257,7 @@ module _ (i : ℕ) (l : Lane) (fs : List Field) (same : l .status ≡ statusIn f
   unfolding verdict verdictOf firstByte abortedBy completedBy settledAs statusIn codeIn codeOf
   verdict-is (not-taken h) = rw (h .whole)
   verdict-is (aborted h) = rw (h .whole)
-  verdict-is cut = refl
+  verdict-is link-lost = refl
   verdict-is (approved {amount = amount} h z t r) =
       completed h ∙ rw (code-is fs 0 z, remembers, amount-is fs amount t) (settles (l .kind) (l .asked) amount r)
   verdict-is (amount-untold h z m) = completed h ∙ rw (code-is fs 0 z, remembers, amount-none fs m)
@@ -304,7 +304,7 @@ module _ (i : ℕ) (l : Lane) (fs : List Field) (same : l .status ≡ statusIn f
     some : (c : Call) → laneOf c ≡ i → verdict l c ≡ Ends outcome settled code → Some c
     unfolding Some verdict verdictOf laneOf
     some (opening j o) at v = absurd (let q : _≡_ {A = ℕ} 0 1 = cc in omega arith)
-    some (lost j) at v = rw at (Unclear, 0, 0, cut)
+    some (lost j) at v = rw at (Unclear, 0, 0, link-lost)
     some (message j s) at v = rw at (go (readOf s) refl v)
       where
         P : Moved → Type 0

@@ -17,7 +17,7 @@ use Rattle.desk_rules.specs.Runs.{having, callsOf}
 use Rattle.desk_rules.specs.Payments.{Payments, ends, withCall, paymentsFrom, paymentsOf, flattened}
 use Rattle.desk_rules.specs.believed.Due.{Ending}
 use Rattle.desk_rules.specs.believed.Grouping.{OfLane, of-opening, of-message, of-lost, Those, none, taken, left, Going, Closed, more, Grouping}
-use Rattle.desk_rules.proofs.Lanes.{having-append, told}
+use Rattle.desk_rules.proofs.Lanes.{having-append, accept-parts}
 use Rattle.desk_rules.proofs.Due.{ending-exactly}
 use Rattle.desk_rules.proofs.Payment.{its-more}
 use Rattle.desk_rules.proofs.Kept.{getD-set, all-same, kept}
@@ -235,7 +235,7 @@ only (c ∷ cs) p ps os small g l h lanes =
 all-small : (s : State) (cs : List Call) → Accepted s cs → Small laneCount cs
 unfolding Accepted Small
 all-small s [] h = tt
-all-small s (c ∷ cs) h = (told s c (h .0) .lane, all-small (step s c) cs (h .1))
+all-small s (c ∷ cs) h = (accept-parts s c (h .0) .lane, all-small (step s c) cs (h .1))
 
 module _ (cs : List Call) (h : Accepted fresh cs) where
   no-payments : Payments

@@ -21,7 +21,7 @@ use Rattle.desk_rules.specs.Runs.{having, ofLane, callsOf, Own, ownOf}
 use Rattle.desk_rules.specs.Payments.{Payments, withCall, paymentsFrom, paymentsOf, flattened}
 use Rattle.desk_rules.specs.believed.Due.{LineDue, LaneIs}
 use Rattle.desk_rules.proofs.Calls.{every-kind, endsIn, ends-same}
-use Rattle.desk_rules.proofs.Lanes.{having-append, moves-local, after, by-lane, told, lanes-step}
+use Rattle.desk_rules.proofs.Lanes.{having-append, moves-local, after, by-lane, accept-parts, lanes-step}
 use Rattle.desk_rules.proofs.Payment.{Goes, goes, Brings, brings-more, Ongoing, open-none, its-more}
 
 -- ---- the ended payments, one after the other
@@ -97,7 +97,7 @@ kept-with s p past c kept h ys x e now blocks =
     }
   where
     small : laneOf c < laneCount
-    small = told s c h .lane
+    small = accept-parts s c h .lane
 
     at : (k : ℕ) → getD (set (p .ongoing) (laneOf c) x) k [] ≡ pick (eqb (laneOf c) k) x (getD (p .ongoing) k [])
     at k = getD-set (p .ongoing) (laneOf c) k x [] (omega (arith, small, kept .slots))
@@ -126,7 +126,7 @@ kept-with s p past c kept h ys x e now blocks =
 kept-step : (s : State) (p : Payments) (past : List Call) (c : Call) → Kept s p past → Accepts s c → Kept (step s c) (withCall p c) (past ++ (c ∷ []))
 unfolding withCall endsIn laneAfter linesFrom after flattened Goes
 kept-step s p past c kept h =
-    let passes = rw moves-local at (told s c h .moved) in
+    let passes = rw moves-local at (accept-parts s c h .moved) in
     rw (← ends-same (w .lane) (w .lines) c passes) (go (turn s c) refl (goes (w .lane) (w .lines) q c (now .says) passes))
   where
     i : ℕ
@@ -158,7 +158,7 @@ kept-step s p past c kept h =
     ended x e l d =
         kept-with s p past c kept h ((q ++ (c ∷ [])) ∷ []) [] (simp append-nil) (rw e (open-none i _))
         (rw l (blocks-snoc [] (p .ended) (s .lines) (q ++ (c ∷ [])) x (kept .blocks)
-        (record { lane = i; small = told s c h .lane; its = its-more q c (now .its); due = d; brings = rw (e, l) at brings })))
+        (record { lane = i; small = accept-parts s c h .lane; its = its-more q c (now .its); due = d; brings = rw (e, l) at brings })))
 
     go : (m : Moved) → turn s c ≡ m → Goes i (w .lines) (w .lane) (q ++ (c ∷ [])) m
         → Kept (step s c) (pick (endsIn m)

@@ -119,11 +119,11 @@ by-lane s c h P mine other k = go (eqb (laneOf c) k) refl
 
 -- ---- accepted calls
 
--- what an accepted call tells
-pub record Told (s : State) (c : Call) : Type 0 where
+-- what holds of an accepted call, part by part
+pub record AcceptParts (s : State) (c : Call) : Type 0 where
   pub lane : laneOf c < laneCount
   pub moved : Passes (moves (laneAt (s .lanes) (laneOf c)) (s .lines) c)
-  pub room : needsLine c ≡ true → load s < bookLines
+  pub linesFit : needsLine c ≡ true → load s < bookLines
 
 pub not-refused : (t : Bool) (n : Refusal) (d : Decision) → pick t (refuse n) d ≡ accept → (t ≡ false) × (d ≡ accept)
 not-refused true n d e = never cc
@@ -143,35 +143,35 @@ passing Stays d h = refl
 passing (Becomes l) d h = refl
 passing (Ends outcome settled code) d h = refl
 
-room-told : (o : Bool) (n : ℕ) → o && leb bookLines n ≡ false → o ≡ true → n < bookLines
-room-told true n e f = leb-false bookLines n e
-room-told false n e f = never cc
+line-free : (o : Bool) (n : ℕ) → o && leb bookLines n ≡ false → o ≡ true → n < bookLines
+line-free true n e f = leb-false bookLines n e
+line-free false n e f = never cc
 
-pub room-tell : (o : Bool) (n : ℕ) → (o ≡ true → n < bookLines) → o && leb bookLines n ≡ false
-room-tell true n h = lt-leb bookLines n (h refl)
-room-tell false n h = refl
+pub free-line : (o : Bool) (n : ℕ) → (o ≡ true → n < bookLines) → o && leb bookLines n ≡ false
+free-line true n h = lt-leb bookLines n (h refl)
+free-line false n h = refl
 
-pub told : (s : State) (c : Call) → Accepts s c → Told s c
+pub accept-parts : (s : State) (c : Call) → Accepts s c → AcceptParts s c
 unfolding Accepts decide
-told s c h =
+accept-parts s c h =
     let a = not-refused (leb laneCount (laneOf c)) _ _ h in
     let b = passed (moves (laneAt (s .lanes) (laneOf c)) (s .lines) c) _ (a .1) in
-    record { lane = leb-false laneCount (laneOf c) (a .0); moved = b .0; room = room-told (needsLine c) (load s) (not-refused (needsLine c && leb bookLines (load s)) _ _ (b .1) .0) }
+    record { lane = leb-false laneCount (laneOf c) (a .0); moved = b .0; linesFit = line-free (needsLine c) (load s) (not-refused (needsLine c && leb bookLines (load s)) _ _ (b .1) .0) }
 
-pub tell : (s : State) (c : Call) → Told s c → Accepts s c
+pub parts-accept : (s : State) (c : Call) → AcceptParts s c → Accepts s c
 unfolding Accepts decide
-tell s c t =
+parts-accept s c t =
     let l = laneAt (s .lanes) (laneOf c) in
     let n = length (writes l c) in
-    rw (lt-leb laneCount (laneOf c) (t .lane), passing (moves l (s .lines) c) _ (t .moved), room-tell (needsLine c) (load s) (t .room), le-ltb n n (omega arith))
+    rw (lt-leb laneCount (laneOf c) (t .lane), passing (moves l (s .lines) c) _ (t .moved), free-line (needsLine c) (load s) (t .linesFit), le-ltb n n (omega arith))
 
 -- and one that is accepted is so in any room for what it writes
 pub accepts-room : (s : State) (c : Call) (room : ℕ) → Accepts s c → length (writes (laneAt (s .lanes) (laneOf c)) c) ≤ room → decide s c room ≡ accept
 unfolding decide
 accepts-room s c room a h =
-    let t = told s c a in
+    let t = accept-parts s c a in
     let l = laneAt (s .lanes) (laneOf c) in
-    rw (lt-leb laneCount (laneOf c) (t .lane), passing (moves l (s .lines) c) _ (t .moved), room-tell (needsLine c) (load s) (t .room), le-ltb room (length (writes l c)) h)
+    rw (lt-leb laneCount (laneOf c) (t .lane), passing (moves l (s .lines) c) _ (t .moved), free-line (needsLine c) (load s) (t .linesFit), le-ltb room (length (writes l c)) h)
 
 -- a call that is accepted in some room is accepted in as much as it writes
 pub accepts-any : (s : State) (c : Call) (room : ℕ) → decide s c room ≡ accept → Accepts s c
@@ -184,16 +184,16 @@ accepts-any s c room e =
     let f = not-refused (needsLine c && leb bookLines (load s)) _ _ (b .1) in
     rw (a .0, passing (moves l (s .lines) c) _ (b .0), f .0, le-ltb n n (omega arith))
 
-pub places-total : (ls : List Lane) → linesTaken ls ≡ total lineTaken ls
+pub lines-taken-total : (ls : List Lane) → linesTaken ls ≡ total lineTaken ls
 unfolding linesTaken total
-places-total [] = refl
-places-total (l ∷ ls) = omega (arith, places-total ls)
+lines-taken-total [] = refl
+lines-taken-total (l ∷ ls) = omega (arith, lines-taken-total ls)
 
 pub opened-one : (c : Call) → needsLine c ≡ true → oneOpened c ≡ 1
 unfolding oneOpened
 opened-one c e = rw e
 
--- only an opening needs a place
+-- only an opening needs a line
 pub not-opened : (c : Call) → opens c ≡ false → oneOpened c ≡ 0
 unfolding opens oneOpened needsLine
 not-opened (opening i o) e = never cc
@@ -204,19 +204,19 @@ line-count : (b : Bool) (x : Line) → length (lineIf b x) ≡ pick b 1 0
 line-count true x = refl
 line-count false x = refl
 
-heeds-place : (l : Lane) (c : Call) (n : Lane) → isIdle (l .phase) ≡ false → Heeds l c n → lineTaken n ≡ lineTaken l
+heeds-line : (l : Lane) (c : Call) (n : Lane) → isIdle (l .phase) ≡ false → Heeds l c n → lineTaken n ≡ lineTaken l
 unfolding lineTaken
-heeds-place l (opening i o) n e f = absurd f
-heeds-place l (message i s) n e f = rw (e, f)
-heeds-place l (lost i) n e f = absurd f
+heeds-line l (opening i o) n e f = absurd f
+heeds-line l (message i s) n e f = rw (e, f)
+heeds-line l (lost i) n e f = absurd f
 
--- places are kept: an opening takes one, and an end passes it on to its line
+-- lines are kept: an opening takes one, and an end writes it
 then-kept : (i : ℕ) (l : Lane) (c : Call) (m : Moved) → isIdle (l .phase) ≡ false → Later l c m
     → lineTaken (laneAfter l m) + length (linesFrom i l m) ≡ lineTaken l + 0
 unfolding laneAfter linesFrom lineTaken
 then-kept i l c (Refused r) e f = absurd f
 then-kept i l c Stays e f = refl
-then-kept i l c (Becomes n) e f = omega (arith, heeds-place l c n e f)
+then-kept i l c (Becomes n) e f = omega (arith, heeds-line l c n e f)
 then-kept i l c (Ends outcome settled code) e f = rw (e, line-count) (omega arith)
 
 pub kept : (i : ℕ) (l : Lane) (ls : List Line) (c : Call) → Passes (moves l ls c)
@@ -235,8 +235,8 @@ unfolding step load
 load-step s c e h =
     let l = laneAt (s .lanes) (laneOf c) in
     let m = moves l (s .lines) c in
-    let t = told s c h in
-    simp (length-append, places-total) (omega (
+    let t = accept-parts s c h in
+    simp (length-append, lines-taken-total) (omega (
       arith,
       total-set lineTaken (s .lanes) (laneOf c) (laneAfter l m) idleLane (omega arith),
       kept (laneOf c) l (s .lines) c (t .moved),

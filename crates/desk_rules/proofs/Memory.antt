@@ -29,7 +29,7 @@ use Rattle.desk_rules.specs.Runs.{oneOpened}
 use Rattle.desk_rules.specs.Desk.{fresh, laneAt, linesTaken, allIdle, load, Decision, refuse, accept, decide, laneAfter, lineIf, linesFrom, step}
 use Rattle.desk_rules.specs.Memory.{freshDesk, linesOfDesk, view, laneFor, toldSmall, Valid, withLine, endedDesk, movedDesk, refusedAnswer, answerBy, answerOf, leavesBy, leavesOf, closeAnswer}
 use Rattle.desk_rules.proofs.Calls.{Passes}
-use Rattle.desk_rules.proofs.Lanes.{total-set, places-total, kept, not-refused, passed}
+use Rattle.desk_rules.proofs.Lanes.{total-set, lines-taken-total, kept, not-refused, passed}
 use Rattle.desk_rules.proofs.Amounts.{Small, LaneFits, LinesFit, Fits, moves-fit}
 
 -- ---- lists
@@ -47,23 +47,23 @@ replicate-all P zero d p k = p
 replicate-all P (suc n) d p zero = p
 replicate-all P (suc n) d p (suc k) = replicate-all P n d p k
 
--- ---- the places that lanes take
+-- ---- the lines that are kept for lanes
 
-pub place-most : (l : Lane) → lineTaken l ≤ 1
+pub line-taken-most : (l : Lane) → lineTaken l ≤ 1
 unfolding lineTaken
-place-most l =
+line-taken-most l =
     pick-test (λ (n : ℕ). n ≤ 1) (isIdle (l .phase)) (λ _. omega arith)
     (λ _. pick-test (λ (n : ℕ). n ≤ 1) (booked (l .kind)) (λ _. omega arith) (λ _. omega arith))
 
-place-in : (ls : List Lane) (i : ℕ) → lineTaken (getD ls i idleLane) ≤ linesTaken ls
+line-taken-in : (ls : List Lane) (i : ℕ) → lineTaken (getD ls i idleLane) ≤ linesTaken ls
 unfolding linesTaken lineTaken
-place-in [] i = omega arith
-place-in (l ∷ ls) zero = omega arith
-place-in (l ∷ ls) (suc i) = omega (arith, place-in ls i)
+line-taken-in [] i = omega arith
+line-taken-in (l ∷ ls) zero = omega arith
+line-taken-in (l ∷ ls) (suc i) = omega (arith, line-taken-in ls i)
 
-places-set : (ls : List Lane) (i : ℕ) (l : Lane) → i < length ls
+lines-taken-set : (ls : List Lane) (i : ℕ) (l : Lane) → i < length ls
     → linesTaken (set ls i l) + lineTaken (getD ls i idleLane) ≡ linesTaken ls + lineTaken l
-places-set ls i l h = simp places-total (total-set lineTaken ls i l idleLane h)
+lines-taken-set ls i l h = simp lines-taken-total (total-set lineTaken ls i l idleLane h)
 
 -- ---- what every desk is
 
@@ -73,24 +73,24 @@ fresh-valid =
     record {
       lanes = refl;
       lines = refl;
-      room = omega arith;
+      linesFit = omega arith;
       told = replicate-all LaneFits laneCount idleLane tt;
       settled = replicate-all (λ (l : Line). Small (l .settled)) bookLines blankLine (omega arith);
     }
 
--- what a move of lane i leaves finds its places
-abbrev pub Roomy : Desk → ℕ → Moved → Type 0
-Roomy d i m =
+-- what a move of lane i leaves finds its lines
+abbrev pub MoveFits : Desk → ℕ → Moved → Type 0
+MoveFits d i m =
     let l = laneAt (d .lanes) i in
     d .book .count + linesTaken (d .lanes) + (lineTaken (laneAfter l m) + length (linesFrom i l m)) ≤ bookLines + lineTaken l
 
 module _ (d : Desk) (v : Valid d) where
   pub load-is : load (view d) ≡ d .book .count + linesTaken (d .lanes)
   unfolding load view
-  load-is = ap (λ (n : ℕ). n + linesTaken (d .lanes)) (length-take-le (d .book .count) (d .book .lines) (omega (arith, v .room, v .lines)))
+  load-is = ap (λ (n : ℕ). n + linesTaken (d .lanes)) (length-take-le (d .book .count) (d .book .lines) (omega (arith, v .linesFit, v .lines)))
 
   module _ (i : ℕ) (h : i < laneCount) where
-    -- another lane, and a book that leaves it its place
+    -- another lane, and a book that leaves it its line
     changed-valid : (l : Lane) (b : Book) → LaneFits l → length (b .lines) ≡ bookLines → LinesFit (b .lines)
         → b .count + linesTaken (d .lanes) + lineTaken l ≤ bookLines + lineTaken (laneAt (d .lanes) i)
         → Valid (record { lanes = set (d .lanes) i l; book = b })
@@ -98,12 +98,12 @@ module _ (d : Desk) (v : Valid d) where
         record {
           lanes = simp length-set (v .lanes);
           lines = n;
-          room = omega (arith, places-set (d .lanes) i l (omega (arith, v .lanes)));
+          linesFit = omega (arith, lines-taken-set (d .lanes) i l (omega (arith, v .lanes)));
           told = set-all LaneFits (d .lanes) i l idleLane f (v .told);
           settled = k;
         }
 
-    moved-valid : (m : Moved) → Roomy d i m → Fits m → Valid (movedDesk d i m)
+    moved-valid : (m : Moved) → MoveFits d i m → Fits m → Valid (movedDesk d i m)
     unfolding movedDesk endedDesk lineAt laneAfter linesFrom toldSmall
     moved-valid (Refused x) r f = v
     moved-valid Stays r f = v
@@ -123,7 +123,7 @@ module _ (d : Desk) (v : Valid d) where
 
     -- ---- the desk follows the course
 
-    moved-view : (m : Moved) → Roomy d i m → let l = laneAt (d .lanes) i in
+    moved-view : (m : Moved) → MoveFits d i m → let l = laneAt (d .lanes) i in
         view (movedDesk d i m) ≡ record { lanes = set (d .lanes) i (laneAfter l m); lines = linesOfDesk d ++ linesFrom i l m }
     unfolding view movedDesk endedDesk lineAt laneAfter linesFrom
     moved-view (Refused x) r = rw (set-getD, append-nil)
@@ -138,7 +138,7 @@ module _ (d : Desk) (v : Valid d) where
             → d .book .count + linesTaken (d .lanes) + (lineTaken idleLane + length (lineIf b line)) ≤ bookLines + lineTaken (laneAt (d .lanes) i)
             → view (record { lanes = set (d .lanes) i idleLane; book = pick b (withLine (d .book) line) (d .book) })
             ≡ record { lanes = set (d .lanes) i idleLane; lines = linesOfDesk d ++ lineIf b line }
-        go true e = rw (add-one, take-suc-set (d .book .lines) (d .book .count) line (omega (arith, place-in (d .lanes) i, v .lines)))
+        go true e = rw (add-one, take-suc-set (d .book .lines) (d .book .count) line (omega (arith, line-taken-in (d .lanes) i, v .lines)))
         go false e = rw append-nil
 
 -- what a call does to the lane that it names
@@ -167,23 +167,23 @@ module _ (d : Desk) (c : Call) (room : ℕ) where
         fits = ltb-false room (length (writes (laneFor d c) c)) (g .0);
       }
 
-  taken-roomy : Valid d → Taken d c room → Roomy d (laneOf c) (moveOf d c)
+  taken-fits : Valid d → Taken d c room → MoveFits d (laneOf c) (moveOf d c)
   unfolding oneOpened
-  taken-roomy v t = go (needsLine c) (kept (laneOf c) (laneFor d c) (linesOfDesk d) c (t .passes)) (t .few)
+  taken-fits v t = go (needsLine c) (kept (laneOf c) (laneFor d c) (linesOfDesk d) c (t .passes)) (t .few)
     where
       m : Moved
       m = moveOf d c
 
       go : (o : Bool)
           → lineTaken (laneAfter (laneFor d c) m) + length (linesFrom (laneOf c) (laneFor d c) m) ≡ lineTaken (laneFor d c) + pick o 1 0
-          → o && leb bookLines (load (view d)) ≡ false → Roomy d (laneOf c) m
+          → o && leb bookLines (load (view d)) ≡ false → MoveFits d (laneOf c) m
       go true k e = omega (arith, leb-false bookLines (load (view d)) e, load-is d v)
-      go false k e = omega (arith, v .room)
+      go false k e = omega (arith, v .linesFit)
 
-  -- the line that an accepted call adds finds its place
+  -- the line that an accepted call adds is free
   pub taken-line : Valid d → decide (view d) c room ≡ accept
       → d .book .count + length (linesFrom (laneOf c) (laneFor d c) (moveOf d c)) ≤ bookLines
-  taken-line v e = omega (arith, taken-roomy v (taken e), place-in (d .lanes) (laneOf c))
+  taken-line v e = omega (arith, taken-fits v (taken e), line-taken-in (d .lanes) (laneOf c))
 
   -- ---- an answer
 
@@ -200,7 +200,7 @@ module _ (d : Desk) (c : Call) (room : ℕ) where
   unfolding step view
   follows v e =
       let t = taken e in
-      ap (λ (a : Answer). view (a .desk)) (accepted-answer e) ∙ moved-view d v (laneOf c) (t .lane) (moveOf d c) (taken-roomy v t)
+      ap (λ (a : Answer). view (a .desk)) (accepted-answer e) ∙ moved-view d v (laneOf c) (t .lane) (moveOf d c) (taken-fits v t)
 
   pub answer-valid : Valid d → NumbersFit c → Valid (answerOf d c room .desk)
   unfolding refusedAnswer
@@ -212,7 +212,7 @@ module _ (d : Desk) (c : Call) (room : ℕ) where
           let t = taken e in
           let i = laneOf c in
           rw (accepted-answer e)
-          (moved-valid d v i (t .lane) (moveOf d c) (taken-roomy v t)
+          (moved-valid d v i (t .lane) (moveOf d c) (taken-fits v t)
           (moves-fit (laneFor d c) (linesOfDesk d) c (v .told i) n))
 
 module _ (d : Desk) (c : Call) (out : List ℕ) where

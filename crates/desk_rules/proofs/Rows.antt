@@ -121,20 +121,20 @@ within-test (sale amount) = between amount mostAsked
 within-test (refund password amount) = and-test (leb-test password mostPassword) (between amount mostAsked)
 within-test (reversal password receipt) = and-test (leb-test password mostPassword) (between receipt mostReceipt)
 
-place-open : (p : Phase) (k : Kind) → pick (isIdle p) 0 (pick (booked k) 1 0) ≡ openIn p
-place-open Idle k = refl
-place-open Waiting k = rw (every-kind k)
-place-open Running k = rw (every-kind k)
+line-open : (p : Phase) (k : Kind) → pick (isIdle p) 0 (pick (booked k) 1 0) ≡ openIn p
+line-open Idle k = refl
+line-open Waiting k = rw (every-kind k)
+line-open Running k = rw (every-kind k)
 
 -- P3: "An open payment takes the place of the line that it will write."
-pub places-open : (ls : List Lane) → linesTaken ls ≡ openPayments ls
+pub lines-open : (ls : List Lane) → linesTaken ls ≡ openPayments ls
 unfolding linesTaken lineTaken openPayments
-places-open [] = refl
-places-open (l ∷ ls) = rw (place-open (l .phase) (l .kind), places-open ls)
+lines-open [] = refl
+lines-open (l ∷ ls) = rw (line-open (l .phase) (l .kind), lines-open ls)
 
 full-test : (s : State) (o : Opening) → (booked (kindOf o) && leb bookLines (load s) ≡ true) ↔ (64 ≤ length (s .lines) + openPayments (s .lanes))
 unfolding load
-full-test s o = rw (every-kind (kindOf o), places-open (s .lanes)) (leb-test _ _)
+full-test s o = rw (every-kind (kindOf o), lines-open (s .lanes)) (leb-test _ _)
 
 room-test : (o : Opening) (room : ℕ) → (ltb room (commandSize o) ≡ true) ↔ (room < needs o)
 room-test (sale amount) room = ltb-test _ _

@@ -13,7 +13,7 @@ use Rattle.desk_rules.specs.Course.{Call, laneOf, needsLine, moves, writ
 use Rattle.desk_rules.specs.Desk.{State, fresh, laneAt, linesTaken, load, step, Accepted, run, wrote}
 use Rattle.desk_rules.specs.Runs.{having, callsOf, Own, ownOf, total, oneOpened, openings, Exchange, replies}
 use Rattle.desk_rules.proofs.Calls.{Passes}
-use Rattle.desk_rules.proofs.Lanes.{moves-local, after, by-lane, Told, told, tell, opened-one, lanes-step, load-step}
+use Rattle.desk_rules.proofs.Lanes.{moves-local, after, by-lane, AcceptParts, accept-parts, parts-accept, opened-one, lanes-step, load-step}
 
 -- ---- runs
 
@@ -34,25 +34,25 @@ unfolding run total Accepted
 load-run s [] e h = omega arith
 load-run s (c ∷ cs) e h = omega (arith, load-step s c e (h .0), load-run (step s c) cs (lanes-step s c ∙ e) (h .1))
 
-room-step : (s : State) (c : Call) → load s ≤ bookLines → Told s c → load s + oneOpened c ≤ bookLines
+load-fits : (s : State) (c : Call) → load s ≤ bookLines → AcceptParts s c → load s + oneOpened c ≤ bookLines
 unfolding oneOpened
-room-step s c r t = go (needsLine c) (t .room)
+load-fits s c r t = go (needsLine c) (t .linesFit)
   where
     go : (b : Bool) → (b ≡ true → load s < bookLines) → load s + pick b 1 0 ≤ bookLines
     go true f = omega (arith, f refl)
     go false f = omega arith
 
-room-run : (s : State) (cs : List Call) → length (s .lanes) ≡ laneCount → load s ≤ bookLines → Accepted s cs → load (run s cs) ≤ bookLines
+loads-fit : (s : State) (cs : List Call) → length (s .lanes) ≡ laneCount → load s ≤ bookLines → Accepted s cs → load (run s cs) ≤ bookLines
 unfolding run Accepted
-room-run s [] e r h = r
-room-run s (c ∷ cs) e r h =
-    room-run (step s c) cs (lanes-step s c ∙ e) (omega (arith, load-step s c e (h .0), room-step s c r (told s c (h .0)))) (h .1)
+loads-fit s [] e r h = r
+loads-fit s (c ∷ cs) e r h =
+    loads-fit (step s c) cs (lanes-step s c ∙ e) (omega (arith, load-step s c e (h .0), load-fits s c r (accept-parts s c (h .0)))) (h .1)
 
 pub count : (cs : List Call) → Accepted fresh cs → (openings cs ≡ length (run fresh cs .lines) + linesTaken (run fresh cs .lanes)) × (openings cs ≤ bookLines)
 unfolding fresh load linesTaken lineTaken
 count cs h =
     let l = load-run fresh cs refl h in
-    (omega arith, omega (arith, room-run fresh cs refl (omega arith) h))
+    (omega arith, omega (arith, loads-fit fresh cs refl (omega arith) h))
 
 -- ---- each lane alone
 
@@ -77,7 +77,7 @@ unfolding run Accepted alone having
 run-alone s [] k e h = refl
 run-alone s (c ∷ cs) k e h =
     run-alone (step s c) cs k (lanes-step s c ∙ e) (h .1)
-    ∙ by-lane s c (omega (arith, told s c (h .0) .lane))
+    ∙ by-lane s c (omega (arith, accept-parts s c (h .0) .lane))
     (λ j b o. alone o (callsOf j cs) ≡ alone (ownOf j s) (pick b (c ∷ callsOf j cs) (callsOf j cs))) refl (λ j n. refl) k
 
 pub replies-alone : (s : State) (cs : List Call) (k : ℕ) → length (s .lanes) ≡ laneCount → Accepted s cs → repliesTo k s cs ≡ repliesAlone (ownOf k s) (callsOf k cs)
@@ -86,7 +86,7 @@ replies-alone s [] k e h = refl
 replies-alone s (c ∷ cs) k e h =
     let reply : Exchange = record { call = c; wrote = writes (laneAt (s .lanes) (laneOf c)) c } in
     rw (replies-alone (step s c) cs k (lanes-step s c ∙ e) (h .1))
-    (by-lane s c (omega (arith, told s c (h .0) .lane))
+    (by-lane s c (omega (arith, accept-parts s c (h .0) .lane))
     (λ j b o. pick b (reply ∷ repliesAlone o (callsOf j cs)) (repliesAlone o (callsOf j cs))
     ≡ repliesAlone (ownOf j s) (pick b (c ∷ callsOf j cs) (callsOf j cs))) refl (λ j n. refl) k)
 
@@ -94,7 +94,7 @@ pub accepted-alone : (s : State) (cs : List Call) (k : ℕ) → length (s .lanes
 unfolding Accepted AcceptedAlone having
 accepted-alone s [] k e h = tt
 accepted-alone s (c ∷ cs) k e h =
-    let t = told s c (h .0) in
+    let t = accept-parts s c (h .0) in
     by-lane s c (omega (arith, t .lane)) (λ j b o. AcceptedAlone o (callsOf j cs) → AcceptedAlone (ownOf j s) (pick b (c ∷ callsOf j cs) (callsOf j cs)))
     (λ a. (t .lane, rw moves-local at (t .moved), a)) (λ j n a. a) k (accepted-alone (step s c) cs k (lanes-step s c ∙ e) (h .1))
 
@@ -103,15 +103,15 @@ pub accepted-from : (s : State) (cs : List Call) → length (s .lanes) ≡ laneC
 unfolding Accepted AcceptedAlone having total
 accepted-from s [] e al r = tt
 accepted-from s (c ∷ cs) e al r = (
-  tell s c t,
+  parts-accept s c t,
   accepted-from (step s c) cs (lanes-step s c ∙ e)
       (λ k. by-lane s c (omega (arith, t .lane))
       (λ j b o. AcceptedAlone (ownOf j s) (pick b (c ∷ callsOf j cs) (callsOf j cs)) → AcceptedAlone o (callsOf j cs)) (λ a. a .2) (λ j n a. a) k (al k))
-      (omega (arith, load-step s c e (tell s c t))),
+      (omega (arith, load-step s c e (parts-accept s c t))),
 )
   where
     first : AcceptedAlone (ownOf (laneOf c) s) (c ∷ callsOf (laneOf c) cs)
     first = rw (eq-eqb (laneOf c) (laneOf c) refl) at (al (laneOf c))
 
-    t : Told s c
-    t = record { lane = first .0; moved = rw moves-local (first .1); room = λ q. omega (arith, opened-one c q) }
+    t : AcceptParts s c
+    t = record { lane = first .0; moved = rw moves-local (first .1); linesFit = λ q. omega (arith, opened-one c q) }

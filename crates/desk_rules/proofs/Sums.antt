@@ -23,7 +23,7 @@ use Rattle.desk_rules.specs.Desk.{linesTaken, allIdle}
 use Rattle.desk_rules.specs.Runs.{total}
 use Rattle.desk_rules.specs.Memory.{Valid}
 use Rattle.desk_rules.specs.Turnover.{counted, adds, takes, gain, loss, gains, losses}
-use Rattle.desk_rules.proofs.Memory.{place-most}
+use Rattle.desk_rules.proofs.Memory.{line-taken-most}
 
 -- ---- a sum over a list
 
@@ -42,13 +42,13 @@ module _ {A : Type 0} (f : A → ℕ) (sum : List A → ℕ) (none : sum [] ≡ 
 
 -- ---- open payments
 
-pub places-take : (ls : List Lane) (i : ℕ) → i < length ls → linesTaken (take (i + 1) ls) ≡ linesTaken (take i ls) + lineTaken (getD ls i idleLane)
+pub lines-taken-take : (ls : List Lane) (i : ℕ) → i < length ls → linesTaken (take (i + 1) ls) ≡ linesTaken (take i ls) + lineTaken (getD ls i idleLane)
 unfolding linesTaken
-places-take = sum-take lineTaken linesTaken refl (λ l ls. refl) idleLane
+lines-taken-take = sum-take lineTaken linesTaken refl (λ l ls. refl) idleLane
 
-pub places-most : (i : ℕ) (ls : List Lane) → linesTaken (take i ls) ≤ i
+pub lines-taken-most : (i : ℕ) (ls : List Lane) → linesTaken (take i ls) ≤ i
 unfolding linesTaken
-places-most i ls = omega (arith, sum-most lineTaken linesTaken refl (λ l ls. refl) idleLane 1 i ls (λ k. place-most (getD ls k idleLane)))
+lines-taken-most i ls = omega (arith, sum-most lineTaken linesTaken refl (λ l ls. refl) idleLane 1 i ls (λ k. line-taken-most (getD ls k idleLane)))
 
 -- ---- idle lanes
 pub idle-from : (ls : List Lane) (i : ℕ) → i < length ls

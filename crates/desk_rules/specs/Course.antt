@@ -134,7 +134,7 @@ opens (opening i o) = true
 opens (message i s) = false
 opens (lost i) = false
 
--- R18: an opening that needs a place in the book
+-- R18: an opening that needs a line of the book
 unfoldable pub needsLine : Call → Bool
 needsLine (opening i o) = booked (kindOf o)
 needsLine (message i s) = false

@@ -29,7 +29,7 @@ fresh = record { lanes = replicate laneCount idleLane; lines = [] }
 abbrev pub laneAt : List Lane → ℕ → Lane
 laneAt ls i = getD ls i idleLane
 
--- P3: the places that open payments take
+-- P3: the lines that are kept for open payments
 unfoldable pub linesTaken : List Lane → ℕ
 linesTaken [] = 0
 linesTaken (l ∷ ls) = lineTaken l + linesTaken ls

@@ -17,7 +17,7 @@ isReversal Sale = false
 isReversal Refund = false
 isReversal Reversal = true
 
--- P3, P29: whether an open lane of that kind takes a place in the book, and its end puts a line there
+-- P3, P29: whether an open lane of that kind takes a line of the book, and its end writes it
 abbrev pub booked : Kind → Bool
 booked Sale = true
 booked Refund = true

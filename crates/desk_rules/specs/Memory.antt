@@ -55,7 +55,7 @@ toldSmall (Amount a) = a ≤ mostAsked
 pub record Valid (d : Desk) : Type 0 where
   pub lanes : length (d .lanes) ≡ laneCount
   pub lines : length (d .book .lines) ≡ bookLines
-  pub room : d .book .count + linesTaken (d .lanes) ≤ bookLines
+  pub linesFit : d .book .count + linesTaken (d .lanes) ≤ bookLines
   pub told : (i : ℕ) → toldSmall (getD (d .lanes) i idleLane .status .amount)
   pub settled : (k : ℕ) → getD (d .book .lines) k blankLine .settled ≤ mostAsked
 

@@ -12,8 +12,8 @@ use Rattle.zvt_rules.specs.believed.Writing.{messageBytes}
 use Rattle.basics.specs.Text.{text, addAll, hexText}
 use Rattle.zvt_rules.specs.Listing.{startText, sizeText, messageText, okText, refusedText, linesFrom}
 use Rattle.zvt_rules.specs.declared.Outline.{Outline}
-use Rattle.listing.specs.declared.Line.{Line}
-use Rattle.listing.specs.declared.Line.the-variants.{Message as message-line, Last}
+use Rattle.listing.specs.declared.LineWritten.{LineWritten}
+use Rattle.listing.specs.declared.LineWritten.the-variants.{Message as message-line, Last}
 
 unfoldable pub eachText : List ℕ → List ℕ
 eachText [] = []
@@ -41,7 +41,7 @@ unfoldable pub linesOf : ℕ → List ℕ → List ℕ
 linesOf count s = pick (ltb 65536 (length s)) (refusedText count tooLong ++ (10 ∷ [])) (linesFrom count 0 s)
 
 -- the line n of the input s was put behind the first at bytes; a message, which is not empty, lies in the input
-unfoldable pub Added : NextLine → List ℕ → ℕ → List ℕ → Line → List ℕ → Type 0
+unfoldable pub Added : NextLine → List ℕ → ℕ → List ℕ → LineWritten → List ℕ → Type 0
 Added n s at entry (message-line end next) exit =
     (w : List ℕ) × (n ≡ message w next) × (text end exit ≡ addAll w (text at entry))
     × (1 ≤ next) × (next ≤ length s) × (length s ≤ 65536)

@@ -23,7 +23,7 @@ pub const LIMIT: usize = 65536;
 pub const TEXT: usize = LIMIT * 7;
 
 // Where the text of a line ends, and, where it is a message's, where the next message begins.
-enum Line {
+enum LineWritten {
     Message(usize, usize),
     Last(usize),
 }
@@ -107,23 +107,23 @@ fn refused_line(count: u64, number: u8, at: usize, out: &mut [u8]) -> usize
 }
 
 // The line of the message that the rest of an input begins with, after count messages; or the last line.
-fn next_line(rest: &[u8], count: u32, at: usize, out: &mut [u8]) -> Line
+fn next_line(rest: &[u8], count: u32, at: usize, out: &mut [u8]) -> LineWritten
     ensures { λ r. ⌜ Added (nextOf count (now (rest .entry))) (now (rest .entry)) at (now (out .entry)) r (now (out .exit)) ⌝ }
 {
     let listed = count as u64;
     if LIMIT < rest.len() {
-        return Line::Last(refused_line(listed, Refusal::TOO_LONG, at, out));
+        return LineWritten::Last(refused_line(listed, Refusal::TOO_LONG, at, out));
     }
     if rest.len() == 0 {
-        return Line::Last(ok_line(listed, at, out));
+        return LineWritten::Last(ok_line(listed, at, out));
     }
     let mut ids = [0u8; 256];
     let first = zvt::read_first(rest, &mut ids);
     let fields = first.count;
     let answer = first.answer;
     match answer {
-        FirstAnswer::Refused(f) => Line::Last(refused_line(listed, f.number, at, out)),
-        FirstAnswer::Accepted(m, next) => Line::Message(
+        FirstAnswer::Refused(f) => LineWritten::Last(refused_line(listed, f.number, at, out)),
+        FirstAnswer::Accepted(m, next) => LineWritten::Message(
             message_line(&ids[..fields], listed + 1, m, at, out),
             next,
         ),
@@ -141,8 +141,8 @@ pub fn list(s: &[u8], out: &mut [u8]) -> usize
     let mut count: u32 = 0;
     loop {
         match next_line(&s[from..], count, to, out) {
-            Line::Last(end) => return add(b'\n', end, out),
-            Line::Message(end, next) => {
+            LineWritten::Last(end) => return add(b'\n', end, out),
+            LineWritten::Message(end, next) => {
                 to = add(b'\n', end, out);
                 from += next;
                 count += 1;

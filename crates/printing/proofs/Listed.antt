@@ -10,6 +10,7 @@ use lib.Seq.{drop-cons, drop-drop}
 use lib.Dec.{ltb}
 use borrow.Author.Tests.{lt-ltb, ltb-true, ltb-false}
 use Rattle.basics.specs.Text.{text, addAll}
+use Rattle.basics.specs.Lists.{numbered}
 use Rattle.basics.proofs.Tests.{by-test, never}
 use Rattle.buffers.proofs.TextLaws.{addAll-append, goes-on}
 use Rattle.desk_rules.specs.Lanes.{blankLine, idleLane}
@@ -20,7 +21,7 @@ use Rattle.desk_rules.specs.declared.Lane.{Lane}
 use Rattle.desk_rules.specs.declared.LaneAnswer.the-variants.{Refused as lane-refused, Lane as lane-got}
 use Rattle.zvt_rules.specs.declared.Refusal.{Refusal}
 use Rattle.printing.specs.Answers.{bytesLine}
-use Rattle.printing.specs.Desks.{numbered, blocksText}
+use Rattle.printing.specs.Desks.{blocksText}
 
 -- ---- a loop that tells a text: the buffer keeps its length, what is left comes to the whole text, and what is told has at most n bytes
 pub record Telling (all out₀ rest : List ℕ) (n to : ℕ) (out : List ℕ) : Type 0 where

@@ -8,6 +8,7 @@ use lib.IntN.{ℤ, pos, negsuc}
 use Rattle.basics.specs.Choice.{pick}
 use Rattle.basics.specs.Text.{hexText, decimalText}
 use Rattle.basics.specs.believed.Text.{ascii}
+use Rattle.basics.specs.Lists.{numbered}
 use Rattle.zvt_rules.specs.declared.Status.{Status}
 use Rattle.zvt_rules.specs.declared.ToldCode.{ToldCode}
 use Rattle.zvt_rules.specs.declared.ToldCode.the-variants.{Missing as no-code, Code}
@@ -28,11 +29,6 @@ use Rattle.tape_rules.specs.Block.{blockSize}
 use Rattle.tape_rules.specs.declared.Ending.{Ending}
 use Rattle.tape_rules.specs.declared.Ending.the-variants.{Whole, Refused}
 use Rattle.printing.specs.Answers.{line, numberText, countedText, bytesLine}
-
--- the lines of things that have numbers, the first of them k
-unfoldable pub numbered : {A : Type 0} → (ℕ → A → List ℕ) → ℕ → List A → List ℕ
-numbered line k [] = []
-numbered line k (x ∷ xs) = line k x ++ numbered line (k + 1) xs
 
 -- ---- the book
 abbrev pub kindText : Kind → List ℕ

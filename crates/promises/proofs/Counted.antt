@@ -16,7 +16,7 @@ use Rattle.desk_rules.specs.declared.Outcome.the-variants.{Unclear, Declined, A
 use Rattle.desk_rules.specs.declared.Line.{Line}
 use Rattle.desk_rules.specs.Course.{Call, message}
 use Rattle.desk_rules.specs.believed.LastSale.{Last}
-use Rattle.desk_rules.specs.believed.Due.{Reads, Report, Remembered, nothing, report, CodeIs, AmountIs, Ended, not-taken, aborted, cut, approved, amount-untold, differs, other-code, no-status, LineDue}
+use Rattle.desk_rules.specs.believed.Due.{Reads, Report, Remembered, nothing, report, CodeIs, AmountIs, Ended, not-taken, aborted, link-lost, approved, amount-untold, differs, other-code, no-status, LineDue}
 use Rattle.desk_rules.proofs.Due.{receipt-there, due-same}
 use Rattle.promises.specs.Counted.{AfterCode00, fieldsOf, Counted, WithoutAmount}
 
@@ -46,7 +46,7 @@ ended-so (approved {s = s} {body = body} h z t r) =
     inl (refl, record { completion = s; call = refl; body = body; completes = h; code = z; settled = t; same = r })
 ended-so (not-taken h) = inr (declined, refl)
 ended-so (aborted h) = inr (declined, refl)
-ended-so cut = inr (unclear, refl)
+ended-so link-lost = inr (unclear, refl)
 ended-so (amount-untold h z m) = inr (unclear, refl)
 ended-so (differs h z t r d) = inr (unclear, refl)
 ended-so (other-code h z d) = inr (unclear, refl)

@@ -94,6 +94,6 @@ module _ (day : List DeskTurn) (b : OfBytes (callsIn day)) (t : Taken freshDesk 
       (λ (s : State). ((plus : ℕ) × (minus : ℕ) × Made plus minus) × ((plus minus : ℕ) → Made plus minus → netOf (s .lines) ≡ pos plus -ℤ pos minus))
       day its (net.turnover-there (callsIn day) (its .accepted), net.turnover-due (callsIn day) (its .accepted))
 
--- A payment of every kind takes a place in the book, and so ends with a line.
+-- A payment of every kind takes a line of the book, and so ends with one.
 pub every-kind-booked : (o : Opening) → booked (kindOf o) ≡ true
 every-kind-booked o = every-kind (kindOf o)

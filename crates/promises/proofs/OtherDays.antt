@@ -16,7 +16,7 @@ use Rattle.desk_rules.specs.Desk.{State, fresh, laneAt, step, Accepted, run}
 use Rattle.desk_rules.specs.Memory.{freshDesk, view, Valid}
 use Rattle.desk_rules.specs.Runs.{having, callsOf, Own, ownOf}
 use Rattle.desk_rules.specs.Payments.{oneByOne}
-use Rattle.desk_rules.proofs.Lanes.{after, by-lane, told, accepts-room, lanes-step}
+use Rattle.desk_rules.proofs.Lanes.{after, by-lane, accept-parts, accepts-room, lanes-step}
 use Rattle.desk_rules.proofs.Runs.{repliesTo}
 use Rattle.desk_rules.proofs.Memory.{taken, follows, fresh-valid, answer-valid, view-fresh}
 use Rattle.desk_rules.proofs.Order.{order, same-calls}
@@ -77,7 +77,7 @@ unfolding callsIn Accepted Lent LentAlone having
 lent-alone [] s k e h l = tt
 lent-alone (t ∷ ts) s k e h l =
     let c = t .call in
-    by-lane s c (omega (arith, told s c (h .0) .lane))
+    by-lane s c (omega (arith, accept-parts s c (h .0) .lane))
     (λ j b o. LentAlone o (turnsAt j ts) → LentAlone (ownOf j s) (pick b (t ∷ turnsAt j ts) (turnsAt j ts)))
     (λ a. (l .0, a)) (λ j n a. a) k (lent-alone ts (step s c) k (lanes-step s c ∙ e) (h .1) (l .1))
 
@@ -90,7 +90,7 @@ lent-from (t ∷ ts) s e h al =
     let first : LentAlone (ownOf (laneOf c) s) (t ∷ turnsAt (laneOf c) ts) = rw (eq-eqb (laneOf c) (laneOf c) refl) at (al (laneOf c)) in (
       first .0,
       lent-from ts (step s c) (lanes-step s c ∙ e) (h .1)
-          (λ k. by-lane s c (omega (arith, told s c (h .0) .lane))
+          (λ k. by-lane s c (omega (arith, accept-parts s c (h .0) .lane))
           (λ j b o. LentAlone (ownOf j s) (pick b (t ∷ turnsAt j ts) (turnsAt j ts)) → LentAlone o (turnsAt j ts)) (λ a. a .1) (λ j n a. a) k (al k)),
     )
 

@@ -1,4 +1,5 @@
-// A refusal told in words, those of docs/RULES.md (R1 to R23). What to do next is said in docs/REFUSALS.md.
+// A refusal told in words: the first that docs/RULES.md has for its number (R1 to R23), without the other rules named there. What to do
+// next is said in docs/REFUSALS.md.
 use libc::STDERR_FILENO;
 use zvt_rules::Place;
 use zvt_rules::Refusal;
@@ -10,29 +11,35 @@ fn say(text: &[u8]) {
 // What each number means. A till meets all but 23, which a replayed tape is refused with.
 fn say_meaning(number: u8) {
     match number {
-        1 => say(b"the bytes end before a thing that they began"),
-        2 => say(b"a header announces more than 4,096 bytes of body"),
-        3 => say(b"bytes are left over behind the one message or block"),
-        4 => say(b"a byte that is no length digit stands where one is due"),
-        5 => say(b"a field id is unknown"),
-        6 => say(b"a half of a byte is no decimal digit"),
-        7 => say(b"a field id stands a second time"),
-        8 => say(b"a second tag byte has its top bit set"),
-        9 => say(b"an object is at depth 5"),
-        10 => say(b"an object is the 65th"),
-        11 => say(b"the room lent for what is to be written is too small"),
-        12 => say(b"there is no such lane"),
-        13 => say(b"the lane is not idle"),
-        14 => say(b"the lane is idle"),
-        15 => say(b"the pair, or a body that is not empty, is not allowed in this phase"),
-        16 => say(b"a number is outside its limits"),
-        17 => say(b"there is no sale to reverse"),
-        18 => say(b"lines and open payments are 64 already"),
-        19 => say(b"a payment is open at closing"),
-        20 => say(b"the check of a block is wrong"),
-        21 => say(b"number, used count or filling of a block is wrong"),
-        22 => say(b"the first length byte of a container or data object is 80 or 83 to FF"),
-        23 => say(b"a record of the till does not belong where it stands"),
+        Refusal::ENDS_TOO_SOON => say(b"the bytes end before a thing that they began"),
+        Refusal::TOO_LONG => say(b"a header announces more than 4,096 bytes of body"),
+        Refusal::LEFT_OVER => say(b"bytes are left over behind the one message or block"),
+        Refusal::NO_LENGTH_DIGIT => say(b"a byte that is no length digit stands where one is due"),
+        Refusal::UNKNOWN_FIELD => say(b"a field id is unknown"),
+        Refusal::NOT_DECIMAL => say(b"a half of a byte is no decimal digit"),
+        Refusal::FIELD_TWICE => say(b"a field id stands a second time"),
+        Refusal::TAG_TOO_LONG => say(b"a second tag byte has its top bit set"),
+        Refusal::TOO_DEEP => say(b"an object is at depth 5"),
+        Refusal::TOO_MANY_OBJECTS => say(b"an object is the 65th"),
+        Refusal::NO_ROOM => say(b"the room lent for what is to be written is too small"),
+        Refusal::NO_SUCH_LANE => say(b"there is no such lane"),
+        Refusal::LANE_NOT_IDLE => say(b"the lane is not idle"),
+        Refusal::LANE_IDLE => say(b"the lane is idle"),
+        Refusal::NOT_ALLOWED => say(
+            b"the pair, or a body that is not empty, is not allowed in this phase",
+        ),
+        Refusal::OUTSIDE_LIMITS => say(b"a number is outside its limits"),
+        Refusal::NO_SALE => say(b"there is no sale to reverse"),
+        Refusal::BOOK_FULL => say(b"lines and open payments are 64 already"),
+        Refusal::PAYMENT_OPEN => say(b"a payment is open at closing"),
+        Refusal::WRONG_CHECK => say(b"the check of a block is wrong"),
+        Refusal::WRONG_CONTENTS => say(b"number, used count or filling of a block is wrong"),
+        Refusal::NO_LENGTH => say(
+            b"the first length byte of a container or data object is 80 or 83 to FF",
+        ),
+        Refusal::RECORD_NOT_DUE => say(
+            b"a record of the till is neither an opening as the desk records it nor the reply that is due",
+        ),
         _ => say(b"no refusal has this number"),
     }
 }

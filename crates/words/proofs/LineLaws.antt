@@ -5,17 +5,16 @@ use mathlib.Core.List.{List, [], _∷_, _++_}
 use mathlib.Core.Option.{Option, none, some}
 use Prim.Native.Nat.{ℕ, _+_, _-_, _≤_, _<_}
 use native.Mathlib.Omega.{arith}
-use lib.ListN.{length, getD, drop, length-append, length-drop}
+use lib.ListN.{length, getD, length-append, length-drop}
 use lib.Dec.{leb, eqb}
 use borrow.Author.Tests.{lt-ltb, le-ltb, le-leb, lt-leb, leb-true, leb-false, eq-eqb, ne-eqb}
-use Rattle.basics.specs.Buffers.{front}
 use Rattle.basics.proofs.Tests.{pick-test, by-test, never}
 use Rattle.words.specs.Split.{following, wordOf}
 use Rattle.words.specs.Notation.{bytesOf}
 use Rattle.words.specs.Forms.{Shape, shapeOf}
-use Rattle.words.specs.Lines.{andThen, numberAt, firstOf, Values, valuesOf, bytesAt, Runs, runsOf}
-use Rattle.words.specs.Lines.{Line, lineWith, bare, readAs, orBad, passedOver, lineOf, Told}
-use Rattle.words.specs.Steps.{asNumbers, asSizes, Sized, putBoth}
+use Rattle.words.specs.Lines.{ifSome, numberAt, firstNumber, Values, valuesOf, bytesAt, Runs, runsOf}
+use Rattle.words.specs.Lines.{OrderLine, lineWith, bare, readAs, orBad, passedOver, lineOf, Ordered}
+use Rattle.words.specs.Steps.{asNumbers, asSizes, Sized}
 use Rattle.words.specs.declared.Script.{Script}
 use Rattle.words.specs.declared.Order.{Order}
 use Rattle.words.specs.declared.Numbers.the-variants.{Bad as bad-numbers, Given}
@@ -34,40 +33,40 @@ run-none f k s h = rw (lt-ltb (f .runs) k h)
 
 -- ---- the numbers of a line
 module _ (f : Shape) (s : List ℕ) where
-  pub no-first : firstOf f s ≡ none → valuesOf f s ≡ none
-  unfolding valuesOf andThen
+  pub no-first : firstNumber f s ≡ none → valuesOf f s ≡ none
+  unfolding valuesOf ifSome
   no-first e = rw e
 
-  pub no-second : {a : ℕ} → firstOf f s ≡ some a → numberAt (f .numbers) 2 s ≡ none → valuesOf f s ≡ none
-  unfolding valuesOf andThen
+  pub no-second : {a : ℕ} → firstNumber f s ≡ some a → numberAt (f .numbers) 2 s ≡ none → valuesOf f s ≡ none
+  unfolding valuesOf ifSome
   no-second e g = rw (e, g)
 
-  pub no-third : {a b : ℕ} → firstOf f s ≡ some a → numberAt (f .numbers) 2 s ≡ some b → numberAt (f .numbers) 3 s ≡ none → valuesOf f s ≡ none
-  unfolding valuesOf andThen
+  pub no-third : {a b : ℕ} → firstNumber f s ≡ some a → numberAt (f .numbers) 2 s ≡ some b → numberAt (f .numbers) 3 s ≡ none → valuesOf f s ≡ none
+  unfolding valuesOf ifSome
   no-third e g h = rw (e, g, h)
 
-  pub all-three : {a b c : ℕ} → firstOf f s ≡ some a → numberAt (f .numbers) 2 s ≡ some b → numberAt (f .numbers) 3 s ≡ some c
+  pub all-three : {a b c : ℕ} → firstNumber f s ≡ some a → numberAt (f .numbers) 2 s ≡ some b → numberAt (f .numbers) 3 s ≡ some c
       → valuesOf f s ≡ some (record { first = a; second = b; third = c })
-  unfolding valuesOf andThen
+  unfolding valuesOf ifSome
   all-three e g h = rw (e, g, h)
 
 -- ---- the bytes of a line
 module _ (f : Shape) (room : ℕ) (s : List ℕ) where
   pub no-message : bytesAt f 1 s ≡ none → runsOf f room s ≡ none
-  unfolding runsOf andThen
+  unfolding runsOf ifSome
   no-message e = rw e
 
   pub no-name : {v : List ℕ} → bytesAt f 1 s ≡ some v → bytesAt f 2 s ≡ none → runsOf f room s ≡ none
-  unfolding runsOf andThen
+  unfolding runsOf ifSome
   no-name e g = rw (e, g)
 
   pub no-room : {v w : List ℕ} → bytesAt f 1 s ≡ some v → bytesAt f 2 s ≡ some w → room < length v + length w → runsOf f room s ≡ none
-  unfolding runsOf andThen
+  unfolding runsOf ifSome
   no-room {v} {w} e g h = rw (e, g, lt-leb (length v + length w) room h)
 
   pub both : {v w : List ℕ} → bytesAt f 1 s ≡ some v → bytesAt f 2 s ≡ some w → length v + length w ≤ room
       → runsOf f room s ≡ some (record { message = v; name = w })
-  unfolding runsOf andThen
+  unfolding runsOf ifSome
   both {v} {w} e g h = rw (e, g, le-leb (length v + length w) room h)
 
 -- and the other way: what two runs say that were read
@@ -98,15 +97,15 @@ module _ (f : Shape) (room : ℕ) (s : List ℕ) where
 
   module _ (count : following s ≡ f .numbers + f .runs + f .ids) where
     pub no-values : valuesOf f s ≡ none → readAs f room s ≡ none
-    unfolding readAs andThen
+    unfolding readAs ifSome
     no-values e = rw (eq-eqb (following s) (f .numbers + f .runs + f .ids) count, e)
 
     pub no-runs : {n : Values} → valuesOf f s ≡ some n → runsOf f room s ≡ none → readAs f room s ≡ none
-    unfolding readAs andThen
+    unfolding readAs ifSome
     no-runs e g = rw (eq-eqb (following s) (f .numbers + f .runs + f .ids) count, e, g)
 
     pub read : {n : Values} {r : Runs} → valuesOf f s ≡ some n → runsOf f room s ≡ some r → readAs f room s ≡ some (lineWith (f .what) n r)
-    unfolding readAs andThen
+    unfolding readAs ifSome
     read e g = rw (eq-eqb (following s) (f .numbers + f .runs + f .ids) count, e, g)
 
 -- ---- a line where a script stands
@@ -131,8 +130,8 @@ module _ (at : Script) (room : ℕ) where
   asked [] t l n = absurd (l refl)
   asked (b ∷ s) t l n = rw (t, ne-eqb b 35 n)
 
-pub told-bare : (l : Line) (w : What) (r : Order) (entry : List ℕ) → l ≡ bare w → r ≡ (bare w) .order → Told l r entry entry
-told-bare l w r entry e o = rw e (o, refl)
+pub ordered-bare : (l : OrderLine) (w : What) (r : Order) (entry : List ℕ) → l ≡ bare w → r ≡ (bare w) .order → Ordered l r entry entry
+ordered-bare l w r entry e o = rw e (o, refl)
 
 -- ---- the code's answers, read back
 pub no-numbers : (m : Option Values) → asNumbers m ≡ bad-numbers → m ≡ none
@@ -189,7 +188,7 @@ sizable f s out size = go (runsOf f (length out) s) refl
         }
 
 -- ---- the bytes of a line lie in the room
-record Within (room : ℕ) (l : Line) : Type 0 where
+record Within (room : ℕ) (l : OrderLine) : Type 0 where
   parts : l .order .size ≤ l .order .end
   whole : l .order .end ≡ length (l .bytes)
   inside : l .order .end ≤ room
@@ -198,12 +197,12 @@ bare-within : (room : ℕ) (w : What) → Within room (bare w)
 bare-within room w = record { parts = omega arith; whole = refl; inside = omega arith }
 
 read-within : (f : Shape) (room : ℕ) (s : List ℕ) → Within room (orBad (readAs f room s))
-unfolding readAs andThen
+unfolding readAs ifSome
 read-within f room s =
-    pick-test (λ (m : Option Line). Within room (orBad m)) (eqb (following s) (f .numbers + f .runs + f .ids))
+    pick-test (λ (m : Option OrderLine). Within room (orBad m)) (eqb (following s) (f .numbers + f .runs + f .ids))
     (λ t. values (valuesOf f s)) (λ t. bare-within room what.Bad)
   where
-    runs : (n : Values) (m : Option Runs) → runsOf f room s ≡ m → Within room (orBad (andThen m λ r. some (lineWith (f .what) n r)))
+    runs : (n : Values) (m : Option Runs) → runsOf f room s ≡ m → Within room (orBad (ifSome m λ r. some (lineWith (f .what) n r)))
     runs n none e = bare-within room what.Bad
     runs n (some r) e = record {
       parts = omega arith;
@@ -211,7 +210,7 @@ read-within f room s =
       inside = both-read f room s r e .room-for;
     }
 
-    values : (m : Option Values) → Within room (orBad (andThen m λ n. andThen (runsOf f room s) λ r. some (lineWith (f .what) n r)))
+    values : (m : Option Values) → Within room (orBad (ifSome m λ n. ifSome (runsOf f room s) λ r. some (lineWith (f .what) n r)))
     values none = bare-within room what.Bad
     values (some n) = runs n (runsOf f room s) refl
 
@@ -220,9 +219,9 @@ unfolding lineOf
 line-within at room s =
     pick-test (Within room) (not (at .more) || passedOver s) (λ t. bare-within room what.Pass) (λ t. read-within _ room s)
 
-told-within : (at : Script) (s entry exit : List ℕ) (r : Order) → Told (lineOf at (length entry) s) r entry exit
+ordered-within : (at : Script) (s entry exit : List ℕ) (r : Order) → Ordered (lineOf at (length entry) s) r entry exit
     → (r .size ≤ r .end) × (r .end ≤ length exit)
-told-within at s entry exit r (o, e) =
+ordered-within at s entry exit r (o, e) =
     let l = lineOf at (length entry) s in
     let k = line-within at (length entry) s in
     let long : length exit ≡ length (l .bytes) + (length entry - length (l .bytes)) =
@@ -230,18 +229,18 @@ told-within at s entry exit r (o, e) =
     (rw o (k .parts), rw o (omega (arith, k .whole, k .inside)))
 
 -- ---- what `order_of` answers, of what is passed over and of what is asked
-abbrev Ordered : Script → List ℕ → List ℕ → Order → List ℕ → Type 0
-Ordered at s entry r exit = Told (lineOf at (length entry) s) r entry exit × ((r .size ≤ r .end) × (r .end ≤ length exit))
+abbrev OrderedInside : Script → List ℕ → List ℕ → Order → List ℕ → Type 0
+OrderedInside at s entry r exit = Ordered (lineOf at (length entry) s) r entry exit × ((r .size ≤ r .end) × (r .end ≤ length exit))
 
 pub passed : (at : Script) (s entry : List ℕ) (r : Order) → lineOf at (length entry) s ≡ bare what.Pass → r ≡ (bare what.Pass) .order
-    → Ordered at s entry r entry
+    → OrderedInside at s entry r entry
 passed at s entry r e o =
-    let told = told-bare (lineOf at (length entry) s) what.Pass r entry e o in
-    (told, told-within at s entry entry r told)
+    let told = ordered-bare (lineOf at (length entry) s) what.Pass r entry e o in
+    (told, ordered-within at s entry entry r told)
 
 pub ordered : (at : Script) (s entry exit : List ℕ) (r : Order) (f : Shape)
     → lineOf at (length entry) s ≡ orBad (readAs (shapeOf (at .further) (wordOf 0 s)) (length entry) s)
-    → f ≡ shapeOf (at .further) (wordOf 0 s) → Told (orBad (readAs f (length entry) s)) r entry exit → Ordered at s entry r exit
+    → f ≡ shapeOf (at .further) (wordOf 0 s) → Ordered (orBad (readAs f (length entry) s)) r entry exit → OrderedInside at s entry r exit
 ordered at s entry exit r f e g k =
-    let told : Told (lineOf at (length entry) s) r entry exit = rw (e, ← g) k in
-    (told, told-within at s entry exit r told)
+    let told : Ordered (lineOf at (length entry) s) r entry exit = rw (e, ← g) k in
+    (told, ordered-within at s entry exit r told)

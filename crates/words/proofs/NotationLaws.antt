@@ -11,14 +11,11 @@ use lib.Seq.{drop-cons, take-length}
 use lib.Dec.{leb, ltb, eqb}
 use borrow.Author.Tests.{lt-ltb, le-ltb, ltb-true, ltb-false, le-leb, lt-leb}
 use Rattle.basics.specs.Choice.{pick}
-use Rattle.basics.specs.Buffers.{front}
 use Rattle.basics.specs.Text.{hexValue}
 use Rattle.basics.specs.believed.Text.{ascii}
 use Rattle.basics.proofs.Tests.{by-test, case, no-for, pick-true, pick-false, never}
-use Rattle.words.specs.Split.{alike}
-use Rattle.words.specs.Notation.{allDigits, valueFrom, numberFrom, numberOf, isHex, allHex, inPairs, hexByte, pairsOf, bytesOf}
-use Rattle.words.specs.Steps.{asNumber, asSize, Fits, put}
-use Rattle.words.specs.declared.notation.Number.{Number}
+use Rattle.words.specs.Notation.{allDigits, valueFrom, numberFrom, wordNumber, isHex, allHex, inPairs, hexByte, pairsOf, bytesOf}
+use Rattle.words.specs.Steps.{numberOrBad, asSize, Fits, put}
 use Rattle.words.specs.declared.notation.Number.the-variants.{Bad, Value}
 use Rattle.words.specs.declared.notation.Size.the-variants.{Bad as bad-size, Bytes as so-many}
 use Rattle.words.proofs.SplitLaws.{alike-same}
@@ -179,20 +176,20 @@ at-digit w i n h = rw (add-one i) (ap (numberFrom n) (drop-cons w i 0 h))
 pub at-end : (w : List ℕ) (i n : ℕ) → length w ≤ i → n < 2 ^ 64 → numberFrom n (drop i w) ≡ some n
 at-end w i n h l = ap (numberFrom n) (drop-of-length-le w h) ∙ number-end n l
 
-pub number-sized : (w : List ℕ) → (length w ≡ 0 → ⊥) → length w ≤ 20 → numberOf w ≡ numberFrom 0 w
-unfolding numberOf
+pub number-sized : (w : List ℕ) → (length w ≡ 0 → ⊥) → length w ≤ 20 → wordNumber w ≡ numberFrom 0 w
+unfolding wordNumber
 number-sized w z h = rw (le-leb 1 (length w) (omega arith), le-leb (length w) 20 h)
 
-pub number-short : (w : List ℕ) → length w ≡ 0 → numberOf w ≡ none
-unfolding numberOf
+pub number-short : (w : List ℕ) → length w ≡ 0 → wordNumber w ≡ none
+unfolding wordNumber
 number-short w z = rw z
 
-pub number-long : (w : List ℕ) → 20 < length w → numberOf w ≡ none
-unfolding numberOf
+pub number-long : (w : List ℕ) → 20 < length w → wordNumber w ≡ none
+unfolding wordNumber
 number-long w h = rw (le-leb 1 (length w) (omega arith), lt-leb (length w) 20 h)
 
 -- ---- the code's answers, read back
-pub no-number : (o : Option ℕ) → asNumber o ≡ Bad → o ≡ none
+pub no-number : (o : Option ℕ) → numberOrBad o ≡ Bad → o ≡ none
 no-number none e = refl
 no-number (some n) e = never cc
 
@@ -208,6 +205,6 @@ pub is-size : (o : Option (List ℕ)) (n : ℕ) → asSize o ≡ so-many n → R
 is-size none n e = never cc
 is-size (some v) n e = (v, refl, cc)
 
-pub is-number : (o : Option ℕ) (n : ℕ) → asNumber o ≡ Value n → o ≡ some n
+pub is-number : (o : Option ℕ) (n : ℕ) → numberOrBad o ≡ Value n → o ≡ some n
 is-number none n e = never cc
 is-number (some m) n e = ap some (cc)

@@ -13,7 +13,7 @@ use borrow.Author.Tests.{eq-eqb, ne-eqb, eqb-true, eqb-false}
 use Rattle.bytes.specs.Bytes.{indexOf, slice}
 use Rattle.basics.proofs.Tests.{by-test, no-for, and-test, eqb-test}
 use Rattle.words.specs.Split.{behind, wordsOf, following, wordOf, alike}
-use Rattle.words.specs.Steps.{placeIn}
+use Rattle.words.specs.Steps.{nthIn}
 
 -- ---- a line has a first word
 behind-some : (t : Bool) (b : ℕ) (ws : List (List ℕ)) → behind t b ws ≡ getD (behind t b ws) 0 [] ∷ drop 1 (behind t b ws)
@@ -106,7 +106,7 @@ word-found s k from to e f =
     let size : to - from ≡ indexOf 32 (drop from s) = omega (arith, e, ap (λ (t : List ℕ). indexOf 32 t) all) in
     rw size (sym (first-word (drop from s)) ∙ f)
 
--- ---- the place of a word among others
+-- ---- the number of a word among others
 pub alike-same : (v w : List ℕ) → (alike v w ≡ true) ↔ (v ≡ w)
 unfolding alike
 alike-same [] [] = (λ e. refl, λ e. refl)
@@ -117,16 +117,16 @@ alike-same (b ∷ v) (c ∷ w) =
     (λ e. ap₂ (λ (x : ℕ) (y : List ℕ). x ∷ y) (both .0 e .0) (both .0 e .1), λ e. both .1 (cc, cc))
 
 module _ (ws : List (List ℕ)) (w : List ℕ) (k : ℕ) (h : k < length ws) where
-  pub place-here : getD ws k [] ≡ w → placeIn (drop k ws) w ≡ 0
-  unfolding placeIn
-  place-here e = rw (drop-cons ws k [] h, alike-same (getD ws k []) w .1 e)
+  pub nth-here : getD ws k [] ≡ w → nthIn (drop k ws) w ≡ 0
+  unfolding nthIn
+  nth-here e = rw (drop-cons ws k [] h, alike-same (getD ws k []) w .1 e)
 
-  pub place-behind : (getD ws k [] ≡ w → ⊥) → placeIn (drop k ws) w ≡ placeIn (drop (k + 1) ws) w + 1
-  unfolding placeIn
-  place-behind n =
+  pub nth-behind : (getD ws k [] ≡ w → ⊥) → nthIn (drop k ws) w ≡ nthIn (drop (k + 1) ws) w + 1
+  unfolding nthIn
+  nth-behind n =
       let more = no-for (alike-same (getD ws k []) w) n in
       rw (drop-cons ws k [] h, more, add-one k) (sym (add-one _))
 
-pub place-none : (ws : List (List ℕ)) (w : List ℕ) (k : ℕ) → length ws ≤ k → placeIn (drop k ws) w ≡ 0
-unfolding placeIn
-place-none ws w k h = rw (drop-of-length-le ws h)
+pub nth-none : (ws : List (List ℕ)) (w : List ℕ) (k : ℕ) → length ws ≤ k → nthIn (drop k ws) w ≡ 0
+unfolding nthIn
+nth-none ws w k h = rw (drop-of-length-le ws h)

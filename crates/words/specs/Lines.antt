@@ -9,7 +9,7 @@ use lib.Dec.{leb, ltb, eqb}
 use Rattle.basics.specs.Choice.{pick}
 use Rattle.basics.specs.Buffers.{front}
 use Rattle.words.specs.Split.{following, wordOf}
-use Rattle.words.specs.Notation.{numberOf, bytesOf, idOf}
+use Rattle.words.specs.Notation.{wordNumber, bytesOf, idOf}
 use Rattle.words.specs.Forms.{Shape, shapeOf}
 use Rattle.words.specs.declared.Script.{Script}
 use Rattle.words.specs.declared.What.{What}
@@ -21,19 +21,19 @@ abbrev pub begun : Bool → Script
 begun further = record { further = further; more = true; room = 4101; number = 0; added = 0 }
 
 -- what is out of form in a part is out of form as a whole
-unfoldable pub andThen : {A B : Type 0} → Option A → (A → Option B) → Option B
-andThen none f = none
-andThen (some a) f = f a
+unfoldable pub ifSome : {A B : Type 0} → Option A → (A → Option B) → Option B
+ifSome none f = none
+ifSome (some a) f = f a
 
 -- ---- numbers
 
 -- number k of a line that has so many; 0 where there is none
 unfoldable pub numberAt : ℕ → ℕ → List ℕ → Option ℕ
-numberAt numbers k s = pick (ltb numbers k) (some 0) (numberOf (wordOf k s))
+numberAt numbers k s = pick (ltb numbers k) (some 0) (wordNumber (wordOf k s))
 
 -- the first number, or the id, the last word of its line
-unfoldable pub firstOf : Shape → List ℕ → Option ℕ
-firstOf f s = pick (eqb (f .ids) 0) (numberAt (f .numbers) 1 s) (idOf (wordOf (following s) s))
+unfoldable pub firstNumber : Shape → List ℕ → Option ℕ
+firstNumber f s = pick (eqb (f .ids) 0) (numberAt (f .numbers) 1 s) (idOf (wordOf (following s) s))
 
 pub record Values : Type 0 where
   pub first : ℕ
@@ -42,7 +42,7 @@ pub record Values : Type 0 where
 
 unfoldable pub valuesOf : Shape → List ℕ → Option Values
 valuesOf f s =
-    andThen (firstOf f s) λ first. andThen (numberAt (f .numbers) 2 s) λ second. andThen (numberAt (f .numbers) 3 s) λ third.
+    ifSome (firstNumber f s) λ first. ifSome (numberAt (f .numbers) 2 s) λ second. ifSome (numberAt (f .numbers) 3 s) λ third.
     some (record { first = first; second = second; third = third })
 
 -- ---- bytes
@@ -59,17 +59,17 @@ pub record Runs : Type 0 where
 -- both have to find room
 unfoldable pub runsOf : Shape → ℕ → List ℕ → Option Runs
 runsOf f room s =
-    andThen (bytesAt f 1 s) λ message. andThen (bytesAt f 2 s) λ name.
+    ifSome (bytesAt f 1 s) λ message. ifSome (bytesAt f 2 s) λ name.
     pick (leb (length message + length name) room) (some (record { message = message; name = name })) none
 
 -- ---- lines
 
 -- what a line asks for, and its bytes
-pub record Line : Type 0 where
+pub record OrderLine : Type 0 where
   pub order : Order
   pub bytes : List ℕ
 
-abbrev pub lineWith : What → Values → Runs → Line
+abbrev pub lineWith : What → Values → Runs → OrderLine
 lineWith w n r = record {
   order = record {
     what = w;
@@ -83,17 +83,17 @@ lineWith w n r = record {
 }
 
 -- a line of that form
-unfoldable pub readAs : Shape → ℕ → List ℕ → Option Line
+unfoldable pub readAs : Shape → ℕ → List ℕ → Option OrderLine
 readAs f room s =
     pick (eqb (following s) (f .numbers + f .runs + f .ids))
-    (andThen (valuesOf f s) λ n. andThen (runsOf f room s) λ r. some (lineWith (f .what) n r)) none
+    (ifSome (valuesOf f s) λ n. ifSome (runsOf f room s) λ r. some (lineWith (f .what) n r)) none
 
 -- a line with neither numbers nor bytes
-abbrev pub bare : What → Line
+abbrev pub bare : What → OrderLine
 bare w = lineWith w (record { first = 0; second = 0; third = 0 }) (record { message = []; name = [] })
 
 -- "A line that .. has .. a number, hex or an id out of form .. is answered with `line N not understood`"
-abbrev pub orBad : Option Line → Line
+abbrev pub orBad : Option OrderLine → OrderLine
 orBad none = bare what.Bad
 orBad (some l) = l
 
@@ -103,9 +103,9 @@ passedOver [] = true
 passedOver (b ∷ s) = eqb b 35
 
 -- a line where a script stands: one that has ended passes over what follows
-unfoldable pub lineOf : Script → ℕ → List ℕ → Line
+unfoldable pub lineOf : Script → ℕ → List ℕ → OrderLine
 lineOf at room s = pick (not (at .more) || passedOver s) (bare what.Pass) (orBad (readAs (shapeOf (at .further) (wordOf 0 s)) room s))
 
 -- the order is told, and the line's bytes stand at the start of the buffer
-abbrev pub Told : Line → Order → List ℕ → List ℕ → Type 0
-Told l order entry exit = (order ≡ l .order) × (exit ≡ front (l .bytes) entry)
+abbrev pub Ordered : OrderLine → Order → List ℕ → List ℕ → Type 0
+Ordered l order entry exit = (order ≡ l .order) × (exit ≡ front (l .bytes) entry)

@@ -23,8 +23,8 @@ valueFrom n (c ∷ w) = valueFrom (n * 10 + (c - 48)) w
 unfoldable pub numberFrom : ℕ → List ℕ → Option ℕ
 numberFrom n w = pick (allDigits w && ltb (valueFrom n w) (2 ^ 64)) (some (valueFrom n w)) none
 
-unfoldable pub numberOf : List ℕ → Option ℕ
-numberOf w = pick (leb 1 (length w) && leb (length w) 20) (numberFrom 0 w) none
+unfoldable pub wordNumber : List ℕ → Option ℕ
+wordNumber w = pick (leb 1 (length w) && leb (length w) 20) (numberFrom 0 w) none
 
 -- ---- "Bytes are pairs of hex digits in capital or small letters; `-` stands for no bytes."
 abbrev pub isHex : ℕ → Bool

@@ -9,7 +9,7 @@ use Rattle.basics.specs.Buffers.{front}
 use Rattle.words.specs.Split.{alike}
 use Rattle.words.specs.Forms.{Shape}
 use Rattle.words.specs.Lines.{Values, Runs}
-use Rattle.words.specs.declared.forms.Form.{Form}
+use Rattle.words.specs.declared.forms.Shaped.{Shaped}
 use Rattle.words.specs.declared.notation.Number.{Number}
 use Rattle.words.specs.declared.notation.Number.the-variants.{Bad as bad-number, Value}
 use Rattle.words.specs.declared.notation.Size.{Size}
@@ -22,17 +22,17 @@ use Rattle.words.specs.declared.Sizes.the-variants.{Bad as bad-sizes, En
 -- ---- forms
 
 -- the number of the first of these words that is w; where none is, how many they are
-unfoldable pub placeIn : List (List ℕ) → List ℕ → ℕ
-placeIn [] w = zero
-placeIn (v ∷ vs) w = pick (alike v w) zero (suc (placeIn vs w))
+unfoldable pub nthIn : List (List ℕ) → List ℕ → ℕ
+nthIn [] w = zero
+nthIn (v ∷ vs) w = pick (alike v w) zero (suc (nthIn vs w))
 
-abbrev pub shape : Form → Shape
+abbrev pub shape : Shaped → Shape
 shape f = record { what = f .0; numbers = f .1; runs = f .2; ids = f .3 }
 
 -- ---- a number, and all of them
-abbrev pub asNumber : Option ℕ → Number
-asNumber none = bad-number
-asNumber (some n) = Value n
+abbrev pub numberOrBad : Option ℕ → Number
+numberOrBad none = bad-number
+numberOrBad (some n) = Value n
 
 abbrev pub asNumbers : Option Values → Numbers
 asNumbers none = bad-numbers

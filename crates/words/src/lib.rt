@@ -3,21 +3,21 @@ mod forms;
 mod notation;
 mod split;
 
-use crate::forms::Form;
-use crate::forms::form_of;
+use crate::forms::Shaped;
+use crate::forms::shape_of;
 use crate::notation::Number;
 use crate::notation::Size;
 use crate::notation::id_of;
-use crate::notation::number_of;
 use crate::notation::put_bytes;
 use crate::notation::size_of;
+use crate::notation::word_number;
 use crate::split::following;
 use crate::split::word;
 ghost use mathlib.Core.Path.{_≡_};
 ghost use Prim.Native.Nat.{_≤_};
 ghost use lib.ListN.{length};
-ghost use Rattle.words.specs.Lines.{begun, numberAt, firstOf, valuesOf, bytesAt, runsOf, bare, readAs, orBad, lineOf, Told};
-ghost use Rattle.words.specs.Steps.{asNumber, asSize, Fits, put, shape, asNumbers, asSizes, Sized, putBoth};
+ghost use Rattle.words.specs.Lines.{begun, numberAt, firstNumber, valuesOf, bytesAt, runsOf, bare, readAs, orBad, lineOf, Ordered};
+ghost use Rattle.words.specs.Steps.{numberOrBad, asSize, Fits, put, shape, asNumbers, asSizes, Sized, putBoth};
 
 // Where a script stands, but for its desk: whether the further words are understood, whether it goes on, how many bytes are lent to a
 // call that writes, how many lines were played, and how many bytes were added.
@@ -125,17 +125,17 @@ fn empty(what: What) -> Order
 
 // Number k of a line that has so many; 0 where there is none.
 fn number_at(numbers: u8, k: u8, s: &[u8]) -> Number
-    ensures { λ r. ⌜ r ≡ asNumber (numberAt numbers k (now (s .entry))) ⌝ }
+    ensures { λ r. ⌜ r ≡ numberOrBad (numberAt numbers k (now (s .entry))) ⌝ }
 {
     if numbers < k {
         return Number::Value(0);
     }
-    number_of(word(s, k as usize))
+    word_number(word(s, k as usize))
 }
 
 // The first number, which is the id where a field is asked for.
-fn first_of(form: Form, s: &[u8]) -> Number
-    ensures { λ r. ⌜ r ≡ asNumber (firstOf (shape form) (now (s .entry))) ⌝ }
+fn first_number(form: Shaped, s: &[u8]) -> Number
+    ensures { λ r. ⌜ r ≡ numberOrBad (firstNumber (shape form) (now (s .entry))) ⌝ }
 {
     if form.3 == 0 {
         return number_at(form.1, 1, s);
@@ -144,7 +144,7 @@ fn first_of(form: Form, s: &[u8]) -> Number
 }
 
 // How many bytes run k of a line of that form has; 0 where there is none.
-fn size_at(form: Form, k: u8, s: &[u8]) -> Size
+fn size_at(form: Shaped, k: u8, s: &[u8]) -> Size
     ensures { λ r. ⌜ r ≡ asSize (bytesAt (shape form) k (now (s .entry))) ⌝ }
 {
     if form.2 < k {
@@ -154,7 +154,7 @@ fn size_at(form: Form, k: u8, s: &[u8]) -> Size
 }
 
 // Its bytes go to the start of out.
-fn put_at(form: Form, k: u8, s: &[u8], out: &mut [u8])
+fn put_at(form: Shaped, k: u8, s: &[u8], out: &mut [u8])
     requires { ⌜ Fits (bytesAt (shape form) k (now s)) (now out) ⌝ }
     ensures { λ _. ⌜ now (out .exit) ≡ put (bytesAt (shape form) k (now (s .entry))) (now (out .entry)) ⌝ }
 {
@@ -165,10 +165,10 @@ fn put_at(form: Form, k: u8, s: &[u8], out: &mut [u8])
 }
 
 // The numbers of a line of that form.
-fn numbers_of(form: Form, s: &[u8]) -> Numbers
+fn numbers_of(form: Shaped, s: &[u8]) -> Numbers
     ensures { λ r. ⌜ r ≡ asNumbers (valuesOf (shape form) (now (s .entry))) ⌝ }
 {
-    let Number::Value(first) = first_of(form, s) else {
+    let Number::Value(first) = first_number(form, s) else {
         return Numbers::Bad;
     };
     let Number::Value(second) = number_at(form.1, 2, s) else {
@@ -181,7 +181,7 @@ fn numbers_of(form: Form, s: &[u8]) -> Numbers
 }
 
 // Where the runs of bytes of a line of that form end, in so much room.
-fn sizes_of(form: Form, room: usize, s: &[u8]) -> Sizes
+fn sizes_of(form: Shaped, room: usize, s: &[u8]) -> Sizes
     ensures { λ r. ⌜ r ≡ asSizes (runsOf (shape form) room (now (s .entry))) ⌝ }
 {
     let Size::Bytes(size) = size_at(form, 1, s) else {
@@ -200,7 +200,7 @@ fn sizes_of(form: Form, room: usize, s: &[u8]) -> Sizes
 }
 
 // The runs of bytes, of which the first has that size, go to the start of bytes.
-fn put_runs(form: Form, size: usize, s: &[u8], bytes: &mut [u8])
+fn put_runs(form: Shaped, size: usize, s: &[u8], bytes: &mut [u8])
     requires { ⌜ Sized (runsOf (shape form) (length (now bytes)) (now s)) size ⌝ }
     ensures { λ _. ⌜ now (bytes .exit) ≡ putBoth (runsOf (shape form) (length (now (bytes .entry))) (now (s .entry))) (now (bytes .entry)) ⌝ }
 {
@@ -209,8 +209,8 @@ fn put_runs(form: Form, size: usize, s: &[u8], bytes: &mut [u8])
 }
 
 // A line of that form.
-fn read_as(form: Form, s: &[u8], bytes: &mut [u8]) -> Order
-    ensures { λ r. ⌜ Told (orBad (readAs (shape form) (length (now (bytes .entry))) (now (s .entry)))) r (now (bytes .entry)) (now (bytes .exit)) ⌝ }
+fn read_as(form: Shaped, s: &[u8], bytes: &mut [u8]) -> Order
+    ensures { λ r. ⌜ Ordered (orBad (readAs (shape form) (length (now (bytes .entry))) (now (s .entry)))) r (now (bytes .entry)) (now (bytes .exit)) ⌝ }
 {
     let count = form.1 as usize + form.2 as usize + form.3 as usize;
     if following(s) != count {
@@ -236,7 +236,7 @@ fn read_as(form: Form, s: &[u8], bytes: &mut [u8]) -> Order
 
 // The order of a line; its bytes go to the start of bytes. A line that is not understood leaves them as they were.
 pub fn order_of(at: Script, s: &[u8], bytes: &mut [u8]) -> Order
-    ensures told { λ r. ⌜ Told (lineOf at (length (now (bytes .entry))) (now (s .entry))) r (now (bytes .entry)) (now (bytes .exit)) ⌝ }
+    ensures ordered { λ r. ⌜ Ordered (lineOf at (length (now (bytes .entry))) (now (s .entry))) r (now (bytes .entry)) (now (bytes .exit)) ⌝ }
     ensures inside { λ r. ⌜ (r .size ≤ r .end) × (r .end ≤ length (now (bytes .exit))) ⌝ }
 {
     if !at.more {
@@ -248,5 +248,5 @@ pub fn order_of(at: Script, s: &[u8], bytes: &mut [u8]) -> Order
     if s[0] == b'#' {
         return empty(What::Pass);
     }
-    read_as(form_of(at.further, word(s, 0)), s, bytes)
+    read_as(shape_of(at.further, word(s, 0)), s, bytes)
 }

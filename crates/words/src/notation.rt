@@ -4,8 +4,8 @@ use check::same;
 ghost use mathlib.Core.Path.{_≡_};
 ghost use mathlib.Core.Bool.{true};
 ghost use mathlib.Core.List.{[], _∷_};
-ghost use Rattle.words.specs.Notation.{isHex, hexByte, numberFrom, numberOf, inPairs, bytesOf, idOf};
-ghost use Rattle.words.specs.Steps.{asNumber, asSize, Fits, put};
+ghost use Rattle.words.specs.Notation.{isHex, hexByte, numberFrom, wordNumber, inPairs, bytesOf, idOf};
+ghost use Rattle.words.specs.Steps.{numberOrBad, asSize, Fits, put};
 
 pub(crate) enum Number {
     Bad,
@@ -24,7 +24,7 @@ const MOST: u64 = 18446744073709551615;
 
 // The number n with one decimal digit more.
 fn with_digit(n: u64, c: u8) -> Number
-    ensures { λ r. ⌜ r ≡ asNumber (numberFrom n (c ∷ [])) ⌝ }
+    ensures { λ r. ⌜ r ≡ numberOrBad (numberFrom n (c ∷ [])) ⌝ }
 {
     if c < b'0' {
         return Number::Bad;
@@ -40,8 +40,8 @@ fn with_digit(n: u64, c: u8) -> Number
 }
 
 // The decimal number that w is.
-pub(crate) fn number_of(w: &[u8]) -> Number
-    ensures { λ r. ⌜ r ≡ asNumber (numberOf (now (w .entry))) ⌝ }
+pub(crate) fn word_number(w: &[u8]) -> Number
+    ensures { λ r. ⌜ r ≡ numberOrBad (wordNumber (now (w .entry))) ⌝ }
 {
     if w.len() == 0 {
         return Number::Bad;
@@ -115,7 +115,7 @@ pub(crate) fn put_bytes(w: &[u8], out: &mut [u8])
 
 // The id of a field: one byte.
 pub(crate) fn id_of(w: &[u8]) -> Number
-    ensures { λ r. ⌜ r ≡ asNumber (idOf (now (w .entry))) ⌝ }
+    ensures { λ r. ⌜ r ≡ numberOrBad (idOf (now (w .entry))) ⌝ }
 {
     if w.len() != 2 {
         return Number::Bad;

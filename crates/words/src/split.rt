@@ -5,7 +5,7 @@ ghost use Prim.Native.Nat.{_≤_};
 ghost use lib.ListN.{length, drop};
 ghost use Rattle.words.specs.Split.{wordsOf, wordOf};
 ghost use Rattle.words.specs.Split.{following as followingIn};
-ghost use Rattle.words.specs.Steps.{placeIn};
+ghost use Rattle.words.specs.Steps.{nthIn};
 
 // How many words follow the first.
 pub(crate) fn following(s: &[u8]) -> usize
@@ -50,8 +50,8 @@ pub(crate) fn word<'a>(s: &'a [u8], k: usize) -> &'a [u8]
 }
 
 // The number of the word of a table that w is; where it is none of them, how many they are.
-pub(crate) fn place(w: &[u8], table: &[u8]) -> usize
-    ensures { λ r. ⌜ r ≡ placeIn (wordsOf (now (table .entry))) (now (w .entry)) ⌝ }
+pub(crate) fn nth(w: &[u8], table: &[u8]) -> usize
+    ensures { λ r. ⌜ r ≡ nthIn (wordsOf (now (table .entry))) (now (w .entry)) ⌝ }
 {
     let last = following(table);
     let mut k: usize = 0;

@@ -69,8 +69,8 @@ digits-sound (suc d) v at s w e =
     rw (high, low, digits-sound d v at s (l .0) (l .1)) (sym (take-suc s d 0 (l .2)))
 
 -- ---- an id, d bytes, and v bytes behind them
-pub cut : (id : ℕ) (t : List ℕ) (d v : ℕ) → take (1 + d + v) (id ∷ t) ≡ id ∷ (take d t ++ part (1 + d) (1 + d + v) (id ∷ t))
-cut id t d v =
+pub field-parts : (id : ℕ) (t : List ℕ) (d v : ℕ) → take (1 + d + v) (id ∷ t) ≡ id ∷ (take d t ++ part (1 + d) (1 + d + v) (id ∷ t))
+field-parts id t d v =
     let a : 1 + d ≡ suc d = omega arith in
     let e : 1 + d + v ≡ suc (d + v) = omega arith in
     let k : suc (d + v) - suc d ≡ v = omega arith in
@@ -114,7 +114,7 @@ plain-sound id n at d v t o ok p e =
     let size : length value ≡ v = omega (arith, part-length (id ∷ t) (1 + d) (1 + d + v) (omega arith) (g .0)) in
     rw (g .2)
     (record {
-      bytes = rw (size, p) (sym (cut id t d v));
+      bytes = rw (size, p) (sym (field-parts id t d v));
       ok = (rw size ok, g .1);
       id = refl;
       count = omega arith;
@@ -185,7 +185,7 @@ container-sound id n at t o b six e =
     let size : length value ≡ v = omega (arith, part-length (id ∷ t) (1 + d) (1 + d + v) (omega arith) (g .3)) in
     rw (g .5)
     (record {
-      bytes = rw (r .0, size, l .0, ← six) (sym (cut id t d v));
+      bytes = rw (r .0, size, l .0, ← six) (sym (field-parts id t d v));
       ok = (rw (r .0, size) (l .1), r .1);
       id = sym six;
       count = r .2;

@@ -1,7 +1,7 @@
 -- The text of a listing: the definition and the second writing agree, and how long it is. Assumes nothing.
 use mathlib.Core.Path.{_≡_, refl, sym, ap, ap₂, _∙_}
 use mathlib.Core.Bool.{Bool, true, false}
-use mathlib.Core.Logic.{_↔_, _⊎_, inl, inr, ⊎-elim}
+use mathlib.Core.Logic.{_↔_, inl, inr, ⊎-elim}
 use mathlib.Core.List.{List, [], _∷_, _++_, append-nil, append-assoc}
 use Prim.Native.Nat.{ℕ, zero, suc, _+_, _-_, _*_, _/_, _%_, _^_, _<_, _≤_}
 use native.Mathlib.Omega.{arith}
@@ -21,7 +21,7 @@ use Rattle.zvt_rules.specs.Values.{bodyFields}
 use Rattle.basics.specs.Text.{hexText, decimalText}
 use Rattle.zvt_rules.specs.Listing.{idsText, bodyIds, idsOf, shortOrLong, startText, sizeText, messageText, endText, okText, refusedText, lineAnd, linesFrom, listing}
 use Rattle.basics.specs.believed.Text.{ascii}
-use Rattle.zvt_rules.specs.believed.Listing.{words, Ids, ShortOrLong, Line, Last, Lists, Listing}
+use Rattle.zvt_rules.specs.believed.Listing.{words, Ids, ShortOrLong, MessageLine, Last, Lists, Listing}
 use Rattle.basics.proofs.Tests.{by-test, true-false, pick-test}
 use Rattle.zvt_rules.proofs.ObjectBytes.{bytes-drop, bytes-take}
 use Rattle.zvt_rules.proofs.MessageBytes.{first-sound, first-complete, message-size}
@@ -138,8 +138,8 @@ line-words n m =
     ∙ rw (ids-spaced (m .body))
     (sym (append-assoc number (32 ∷ pair) (32 ∷ ((size ++ form) ++ ids)) ∙ ap (λ (w : List ℕ). number ++ (32 ∷ (pair ++ (32 ∷ w)))) behind))
 
-line-only : (n : ℕ) (m : Message) (t : List ℕ) → MessageOk m → Line n m t → t ≡ messageText n m ++ (10 ∷ [])
-unfolding Line
+line-only : (n : ℕ) (m : Message) (t : List ℕ) → MessageOk m → MessageLine n m t → t ≡ messageText n m ++ (10 ∷ [])
+unfolding MessageLine
 line-only n m t ok (number, class, instruction, size, form, ids, a, b, c, d, e, f, g) =
     let same : words (number ∷ (class ++ instruction) ∷ size ∷ form ∷ ids) ≡ messageText n m =
     rw (decimal-exactly n number .0 a, hex-only _ class b, hex-only _ instruction c, decimal-exactly _ size .0 d, form-only m form ok e, ids-only _ ids f)
@@ -155,8 +155,8 @@ module _ (m : Message) (h : Bytes (messageBytes m)) where
       let (front, whole, size) = list-ends m password fs e in
       rw (whole, drop-append-seam front (listBytes fs)) at (bytes-drop (length front) (messageBytes m) h)
 
-  line-is : (n : ℕ) → MessageOk m → Line n m (messageText n m ++ (10 ∷ []))
-  unfolding Line messageBytes Bytes
+  line-is : (n : ℕ) → MessageOk m → MessageLine n m (messageText n m ++ (10 ∷ []))
+  unfolding MessageLine messageBytes Bytes
   line-is n ok = (
     decimalText n,
     hexText (m .class),

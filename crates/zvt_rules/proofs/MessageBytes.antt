@@ -50,14 +50,14 @@ length-sound (x ∷ s) l b e =
 
 -- ---- a header
 -- the bytes of a message with that header, whose body is there
-cut : (long : Bool) (c i : ℕ) (t : List ℕ) (v : ℕ)
+header-parts : (long : Bool) (c i : ℕ) (t : List ℕ) (v : ℕ)
     → take (headerSize long + v) (c ∷ (i ∷ t))
     ≡ c ∷ (i ∷ (take (headerSize long - 2) t ++ part (headerSize long) (headerSize long + v) (c ∷ (i ∷ t))))
-cut false c i t v =
+header-parts false c i t v =
     let e : 3 + v ≡ suc (suc (1 + v)) = omega arith in
     let k : suc (suc (1 + v)) - 3 ≡ v = omega arith in
     rw (e, k) (ap (λ (x : List ℕ). c ∷ (i ∷ x)) (take-add 1 v t))
-cut true c i t v =
+header-parts true c i t v =
     let e : 5 + v ≡ suc (suc (3 + v)) = omega arith in
     let k : suc (suc (3 + v)) - 5 ≡ v = omega arith in
     rw (e, k) (ap (λ (x : List ℕ). c ∷ (i ∷ x)) (take-add 3 v t))
@@ -76,7 +76,7 @@ header-sound (c ∷ (i ∷ t)) h b e =
     let k = then-got (lengthOf t) _ h e in
     let w = with-in c i (c ∷ (i ∷ t)) (k .0) h (k .2) in
     let l = length-sound t (k .0) (bytes-drop 2 (c ∷ (i ∷ t)) b) (k .1) in
-    rw (w .2) (rw (l .0) (sym (cut (k .0 .long) c i t (k .0 .value))), length-ok (k .0 .long) (k .0 .value) (l .1) (w .0))
+    rw (w .2) (rw (l .0) (sym (header-parts (k .0 .long) c i t (k .0 .value))), length-ok (k .0 .long) (k .0 .value) (l .1) (w .0))
 
 abbrev pub headerFor : Message → Heading
 headerFor m = record { class = m .class; instruction = m .instruction; long = m .long; size = length (bodyBytes (m .body)) }

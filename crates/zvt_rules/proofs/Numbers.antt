@@ -32,17 +32,17 @@ OfMessage r = ((1 ≤ r .number) × (r .number ≤ 10)) ⊎ (r .number ≡ 22)
 
 data Small {A : Type 0} : Reading A → Type 0 where
   is : (a : A) → Small (got a)
-  no : (f : Refusal) → Low f → Small (refused f)
+  refused-low : (f : Refusal) → Low f → Small (refused f)
 
 small-unless : {A : Type 0} (t : Bool) (f : Refusal) (x : Reading A) → Low f → Small x → Small (unless t f x)
 unfolding unless
-small-unless true f x l h = no f l
+small-unless true f x l h = refused-low f l
 small-unless false f x l h = h
 
 small-with : {A B : Type 0} (x : Reading A) (f : A → Reading B) → Small x → ((a : A) → x ≡ got a → Small (f a)) → Small (andThen x f)
 unfolding andThen
 small-with _ f (is a) h = h a refl
-small-with _ f (no r l) h = no r l
+small-with _ f (refused-low r l) h = refused-low r l
 
 small-then : {A B : Type 0} (x : Reading A) (f : A → Reading B) → Small x → ((a : A) → Small (f a)) → Small (andThen x f)
 small-then x f s h = small-with x f s (λ a _. h a)
@@ -53,29 +53,29 @@ small-pick t h k = pick-test Small t (λ e. h) (λ e. k)
 -- ---- objects
 second-small : (at : ℕ) (s : List ℕ) → Small (secondTag at s)
 unfolding secondTag
-second-small at [] = no _ refl
+second-small at [] = refused-low _ refl
 second-small at (b ∷ s) = small-unless _ _ _ refl (is 2)
 
 tag-small : (at : ℕ) (s : List ℕ) → Small (tagSize at s)
 unfolding tagSize
-tag-small at [] = no _ refl
+tag-small at [] = refused-low _ refl
 tag-small at (b ∷ s) = small-pick (longTag b) (second-small (at + 1) s) (is 1)
 
 one-small : (at : ℕ) (s : List ℕ) → Small (oneByteLen at s)
 unfolding oneByteLen
-one-small at [] = no _ refl
+one-small at [] = refused-low _ refl
 one-small at (v ∷ s) = is _
 
 two-small : (at : ℕ) (s : List ℕ) → Small (twoByteLen at s)
 unfolding twoByteLen
-two-small at [] = no _ refl
-two-small at (h ∷ []) = no _ refl
+two-small at [] = refused-low _ refl
+two-small at (h ∷ []) = refused-low _ refl
 two-small at (h ∷ (l ∷ s)) = is _
 
 len-small : (at : ℕ) (s : List ℕ) → Small (lenOf at s)
 unfolding lenOf
-len-small at [] = no _ refl
-len-small at (b ∷ s) = small-pick (ltb b 0x80) (is _) (small-pick (eqb b 0x81) (one-small (at + 1) s) (small-pick (eqb b 0x82) (two-small (at + 1) s) (no _ refl)))
+len-small at [] = refused-low _ refl
+len-small at (b ∷ s) = small-pick (ltb b 0x80) (is _) (small-pick (eqb b 0x81) (one-small (at + 1) s) (small-pick (eqb b 0x82) (two-small (at + 1) s) (refused-low _ refl)))
 
 head-small : (at : ℕ) (s : List ℕ) → Small (headOf at s)
 unfolding headOf headWith
@@ -112,7 +112,7 @@ object-small left n at s = object-by left n at s (λ l m a t h. run-small l m a 
 digits-small : (d v at : ℕ) (s : List ℕ) → Small (digitsOf d v at s)
 unfolding digitsOf
 digits-small zero v at s = is v
-digits-small (suc d) v at [] = no _ refl
+digits-small (suc d) v at [] = refused-low _ refl
 digits-small (suc d) v at (b ∷ s) = small-unless _ _ _ refl (digits-small d _ _ s)
 
 decimal-small : {A : Type 0} (at : ℕ) (s : List ℕ) (x : Reading A) → Small x → Small (unlessUndecimal at s x)
@@ -135,7 +135,7 @@ container-small n at s =
 
 format-small : (id n at : ℕ) (s : List ℕ) (format : Format) → Small (fieldBy id n at s format)
 unfolding fieldBy
-format-small id n at s Unknown = no _ refl
+format-small id n at s Unknown = refused-low _ refl
 format-small id n at s (Fixed k) = plain-small id n at 1 k s
 format-small id n at s (Digits d) = small-then _ _ (digits-small _ _ _ _) λ v. plain-small id n at (1 + d) v s
 format-small id n at s Container = container-small n at s
@@ -160,19 +160,19 @@ list-small seen n at s = list-by (suc (length s)) seen n at s (omega arith)
 -- ---- messages
 long-small : (s : List ℕ) → Small (longLength s)
 unfolding longLength
-long-small [] = no _ refl
-long-small (l ∷ []) = no _ refl
+long-small [] = refused-low _ refl
+long-small (l ∷ []) = refused-low _ refl
 long-small (l ∷ (h ∷ s)) = is _
 
 length-small : (s : List ℕ) → Small (lengthOf s)
 unfolding lengthOf
-length-small [] = no _ refl
+length-small [] = refused-low _ refl
 length-small (b ∷ s) = small-pick (eqb b 0xFF) (long-small s) (is _)
 
 header-small : (s : List ℕ) → Small (headerOf s)
 unfolding headerOf headerWith
-header-small [] = no _ refl
-header-small (c ∷ []) = no _ refl
+header-small [] = refused-low _ refl
+header-small (c ∷ []) = refused-low _ refl
 header-small (c ∷ (i ∷ s)) = small-then _ _ (length-small s) λ l. small-unless _ _ _ refl (small-unless _ _ _ refl (is _))
 
 whole-small : (s : List ℕ) → Small (wholeHeader s)
@@ -192,7 +192,7 @@ read-small s = small-then _ _ (whole-small s) λ h. small-then _ _ (body-small _
 -- ---- the numbers
 small-number : {A : Type 0} {x : Reading A} (f : Refusal) → Small x → x ≡ refused f → OfMessage f
 small-number f (is a) e = absurd (got-not-refused e)
-small-number f (no g l) e = let same : g ≡ f = cc in rw same at (or-test (between (g .number) 10) (eqb-test (g .number) 22) .0 l)
+small-number f (refused-low g l) e = let same : g ≡ f = cc in rw same at (or-test (between (g .number) 10) (eqb-test (g .number) 22) .0 l)
 
 pub read-numbers : (s : List ℕ) (f : Refusal) → readOf s ≡ refused f → OfMessage f
 read-numbers s f e = small-number f (read-small s) e

@@ -93,7 +93,7 @@ one-from left n at s o run b e =
     let h = w .head in
     let i = head-in at s h (w .read) in
     let g = head-sound at s h b (w .read) in
-    let room = w .room in
+    let room = w .few in
     ⊎-elim
     (λ x.
     let inner = part (from h) (to h) s in

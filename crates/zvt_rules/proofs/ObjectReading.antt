@@ -103,7 +103,7 @@ Inside run left n at s o h =
     ⊎ ((nested (getD s 0 0) ≡ false) × (leafOf n s h ≡ o))
 
 pub record ObjRead (run : RunReader) (left n at : ℕ) (s : List ℕ) (o : OneRead) : Type 0 where
-  pub room : n < mostObjects
+  pub few : n < mostObjects
   pub deep : 0 < left
   pub head : Head
   pub read : headOf at s ≡ got head
@@ -124,7 +124,7 @@ object-got run left n at s o e =
     let d = unless-got (eqb left 0) (faultAt 9 at) _ o (c .1) in
     let h = then-got (headOf at s) _ o (d .1) in
     let z = eqb-false left 0 (d .0) in
-    record { room = leb-false mostObjects n (c .0); deep = omega arith; head = h .0; read = h .1; inside = inside-got run left n at s (h .0) o (h .2) }
+    record { few = leb-false mostObjects n (c .0); deep = omega arith; head = h .0; read = h .1; inside = inside-got run left n at s (h .0) o (h .2) }
 
 -- it takes two bytes at least, and lies within
 object-in : (run : RunReader) (left n at : ℕ) (s : List ℕ) (o : OneRead) → object run left n at s ≡ got o → (2 ≤ o .size) × (o .size ≤ length s)

@@ -27,10 +27,10 @@ use Rattle.zvt_rules.proofs.ObjectReading.{part-length}
 use Rattle.zvt_rules.proofs.Lengths.{lenBytes-size, len-sound, len-written}
 use Rattle.zvt_rules.proofs.ObjectBytes.{bytes-drop, bytes-part}
 use Rattle.zvt_rules.proofs.FieldReading.{digit-test, digit-fails, digits-in, value-in, field-in, field-got, list-none, list-step}
-use Rattle.zvt_rules.proofs.FieldBytes.{digitBytes-size, digits-written, digits-sound, cut, value-back, back-within, back, field-by, six, container-id, begins, field-sound, field-complete}
+use Rattle.zvt_rules.proofs.FieldBytes.{digitBytes-size, digits-written, digits-sound, field-parts, value-back, back-within, back, field-by, six, container-id, begins, field-sound, field-complete}
 use Rattle.basics.proofs.Lists.{among-exactly}
-use Rattle.zvt_rules.proofs.RowReadings.{Told, is, not, told-unless, moved, placed, told-pick, told-then, told-as, filled}
-use Rattle.zvt_rules.proofs.RowObjects.{SizedRead, sized-read, len-told, value-short, run-refused, run-told}
+use Rattle.zvt_rules.proofs.RowReadings.{Covered, is, not, covered-unless, moved, placed, covered-pick, covered-then, covered-as, filled}
+use Rattle.zvt_rules.proofs.RowObjects.{SizedRead, sized-read, len-covered, value-short, run-refused, run-covered}
 
 -- ---- the tests of single bytes and ids, as the rows say them
 decimal-fails : (b : ℕ) → (decimal b ≡ false) ↔ Undecimal b
@@ -265,17 +265,17 @@ one-more {d} {at} b e (bad front c s h l f) =
     placed (DigitsNo (suc d) at (b ∷ (front ++ (c ∷ s)))) 4 z (bad (b ∷ front) c s (e, h) (omega arith) f)
 
 -- length digits
-digits-told : (d v at : ℕ) (s : List ℕ) → Told (DigitsNo d at s) (digitsOf d v at s)
+digits-covered : (d v at : ℕ) (s : List ℕ) → Covered (DigitsNo d at s) (digitsOf d v at s)
 unfolding digitsOf LengthDigits
-digits-told zero v at s = is v
-digits-told (suc d) v at [] =
+digits-covered zero v at s = is v
+digits-covered (suc d) v at [] =
     let z : at + 0 ≡ at = omega arith in
     not (faultAt 1 at) (placed (DigitsNo (suc d) at []) 1 z (out {s = []} tt (omega arith)))
-digits-told (suc d) v at (b ∷ s) =
+digits-covered (suc d) v at (b ∷ s) =
     let z : at + 0 ≡ at = omega arith in
-    told-unless (inverse (lengthDigit b)) (faultAt 4 at)
+    covered-unless (inverse (lengthDigit b)) (faultAt 4 at)
     (λ t. placed (DigitsNo (suc d) at (b ∷ s)) 4 z (bad [] b s tt (omega arith) (digit-fails b .0 (not-true (lengthDigit b) t))))
-    (λ t. told-as (digits-told d _ (at + 1) s) (λ r. one-more b (digit-test b .0 (not-false (lengthDigit b) t))))
+    (λ t. covered-as (digits-covered d _ (at + 1) s) (λ r. one-more b (digit-test b .0 (not-false (lengthDigit b) t))))
 
 -- digits that are all there are read
 digits-all : (d v at : ℕ) (s : List ℕ) → LengthDigits s → d ≤ length s → (w : ℕ) × (digitsOf d v at s ≡ got w)
@@ -316,17 +316,17 @@ one-more-decimal {at} b e (first front c s h f) =
     placed (UndecimalNo at (b ∷ (front ++ (c ∷ s)))) 6 z (first (b ∷ front) c s (e, h) f)
 
 -- decimal bytes, before whatever follows
-pub undecimal-told : {A : Type 0} {P : Refusal → Type 0} (at : ℕ) (s : List ℕ) (x : Reading A) → ((r : Refusal) → UndecimalNo at s r → P r)
-    → (Decimals s → Told P x) → Told P (unlessUndecimal at s x)
+pub undecimal-covered : {A : Type 0} {P : Refusal → Type 0} (at : ℕ) (s : List ℕ) (x : Reading A) → ((r : Refusal) → UndecimalNo at s r → P r)
+    → (Decimals s → Covered P x) → Covered P (unlessUndecimal at s x)
 unfolding unlessUndecimal Decimals
-undecimal-told at [] x m g = g tt
-undecimal-told at (b ∷ s) x m g =
+undecimal-covered at [] x m g = g tt
+undecimal-covered at (b ∷ s) x m g =
     let z : at + 0 ≡ at = omega arith in
-    told-unless (inverse (decimal b)) (faultAt 6 at)
+    covered-unless (inverse (decimal b)) (faultAt 6 at)
     (λ t. m (faultAt 6 at) (placed (UndecimalNo at (b ∷ s)) 6 z (first [] b s tt (decimal-fails b .0 (not-true (decimal b) t)))))
     (λ t.
     let e = not-false (decimal b) t in
-    undecimal-told (at + 1) s x (λ r h. m r (one-more-decimal b e h)) (λ h. g (e, h)))
+    undecimal-covered (at + 1) s x (λ r h. m r (one-more-decimal b e h)) (λ h. g (e, h)))
 
 -- a value that is not decimal
 undecimal-row : {seen : List ℕ} {n at d : ℕ} {value t : List ℕ} {r : Refusal} (id : ℕ) (s : List ℕ) → New seen id
@@ -341,13 +341,13 @@ undecimal-row {seen} {n} {at} {d} {t = t} id s new ok h e size (first front b ta
     (subst (λ (x : List ℕ). ListNo seen n at x (faultAt 6 (at + suc (length (head ++ front))))) e (undecimal id front b tail s new ok h ds f))
 
 -- a plain value
-plain-told : (seen : List ℕ) (id n at d v : ℕ) (t : List ℕ) → New seen id → SizeOk (formatOf id) v
-    → lengthIn (formatOf id) v ≡ take d t → d ≤ length t → Told (ListNo seen n at (id ∷ t)) (plainOf id n at (1 + d) v (id ∷ t))
+plain-covered : (seen : List ℕ) (id n at d v : ℕ) (t : List ℕ) → New seen id → SizeOk (formatOf id) v
+    → lengthIn (formatOf id) v ≡ take d t → d ≤ length t → Covered (ListNo seen n at (id ∷ t)) (plainOf id n at (1 + d) v (id ∷ t))
 unfolding plainOf valueOf digitsIn fieldBytes
-plain-told seen id n at d v t new ok p l =
+plain-covered seen id n at d v t new ok p l =
     let s = id ∷ t in
-    told-then _
-    (told-unless (ltb (length s) (1 + d + v)) (faultAt 1 (at + length s))
+    covered-then _
+    (covered-unless (ltb (length s) (1 + d + v)) (faultAt 1 (at + length s))
     (λ u.
     let less : length t < d + v = omega (arith, ltb-true (length s) (1 + d + v) u) in
     let f = filled (lengthIn (formatOf id) v) t d v p l less in
@@ -358,11 +358,11 @@ plain-told seen id n at d v t new ok p l =
     let i = value-in at (1 + d) v s value e in
     let size : length value ≡ v = omega (arith, ap length (i .1), part-length s (1 + d) (1 + d + v) (omega arith) (i .0)) in
     let front : lengthIn (formatOf id) (length value) ≡ take d t = rw size p in
-    let taken : fieldBytes (plain id value) ≡ take (1 + d + v) s = rw (front, ← (i .1)) (sym (cut id t d v)) in
+    let taken : fieldBytes (plain id value) ≡ take (1 + d + v) s = rw (front, ← (i .1)) (sym (field-parts id t d v)) in
     let whole = ap (λ (x : List ℕ). x ++ drop (1 + d + v) s) taken ∙ take-append-drop (1 + d + v) s in
-    told-pick (holdsDigits id)
+    covered-pick (holdsDigits id)
     (λ h.
-    undecimal-told (at + (1 + d)) value _
+    undecimal-covered (at + (1 + d)) value _
     (λ r row. undecimal-row id (drop (1 + d + v) s) new (rw size ok) h whole (ap length front ∙ length-take-le d t l) row)
     (λ ds. is _))
     (λ h. is _))
@@ -389,18 +389,18 @@ digits-row {seen} {n} {at} {id} d e new (bad front b s h l f) =
     placed (ListNo seen n at (id ∷ (front ++ (b ∷ s)))) 4 z (noDigit front _ b s new e l (digits-said front h .1) f)
 
 -- a container
-container-told : (seen : List ℕ) (n at : ℕ) (t : List ℕ) → New seen 0x06 → Bytes (0x06 ∷ t)
-    → Told (ListNo seen n at (0x06 ∷ t)) (containerOf n at (0x06 ∷ t))
+container-covered : (seen : List ℕ) (n at : ℕ) (t : List ℕ) → New seen 0x06 → Bytes (0x06 ∷ t)
+    → Covered (ListNo seen n at (0x06 ∷ t)) (containerOf n at (0x06 ∷ t))
 unfolding containerOf valueOf
-container-told seen n at t new b =
+container-covered seen n at t new b =
     let s : List ℕ = 0x06 ∷ t in
     let bs = bytes-drop 1 s b in
-    told-then _ (len-told (at + 1) t bs) (λ r h. sizedIn new h)
+    covered-then _ (len-covered (at + 1) t bs) (λ r h. sizedIn new h)
     (λ l e.
     let a = 1 + formSize (l .form) in
     let w = len-sound (at + 1) t l bs e in
-    told-then _
-    (told-unless (ltb (length s) (a + l .value)) (faultAt 1 (at + length s))
+    covered-then _
+    (covered-unless (ltb (length s) (a + l .value)) (faultAt 1 (at + length s))
     (λ u.
     let less : length t < formSize (l .form) + l .value = omega (arith, ltb-true (length s) (a + l .value) u) in
     let end : at + 1 + length t ≡ at + length s = omega arith in
@@ -410,36 +410,36 @@ container-told seen n at t new b =
     (λ value g.
     let i = value-in at a (l .value) s value g in
     let size : length value ≡ l .value = omega (arith, ap length (i .1), part-length s a (a + l .value) (omega arith) (i .0)) in
-    told-then _ (run-told 4 n (at + a) value (rw (i .1) at (bytes-part a (a + l .value) s b)))
+    covered-then _ (run-covered 4 n (at + a) value (rw (i .1) at (bytes-part a (a + l .value) s b)))
     (λ r row.
     let taken : 0x06 ∷ (lenBytes (l .form) (length value) ++ value) ≡ take (a + l .value) s
-    = rw (size, w .0, ← (i .1)) (sym (cut 0x06 t (formSize (l .form)) (l .value))) in
+    = rw (size, w .0, ← (i .1)) (sym (field-parts 0x06 t (formSize (l .form)) (l .value))) in
     let whole = ap (λ (x : List ℕ). x ++ drop (a + l .value) s) taken ∙ take-append-drop (a + l .value) s in
     inside-row (l .form) value (drop (a + l .value) s) new (rw size (w .1)) whole row)
     (λ o x. is _)))
 
 -- a field by its format
-format-told : (seen : List ℕ) (id n at : ℕ) (t : List ℕ) (f : Format) → formatOf id ≡ f → New seen id → Bytes (id ∷ t)
-    → Told (ListNo seen n at (id ∷ t)) (fieldBy id n at (id ∷ t) f)
+format-covered : (seen : List ℕ) (id n at : ℕ) (t : List ℕ) (f : Format) → formatOf id ≡ f → New seen id → Bytes (id ∷ t)
+    → Covered (ListNo seen n at (id ∷ t)) (fieldBy id n at (id ∷ t) f)
 unfolding fieldBy SizeOk lengthIn Bytes
-format-told seen id n at t Unknown e new b = not (faultAt 5 at) (noField e)
-format-told seen id n at t (Fixed k) e new b = plain-told seen id n at 0 k t new (rw e) (rw e) (omega arith)
-format-told seen id n at t (Digits d) e new b =
-    told-then _ (digits-told d 0 (at + 1) t) (λ r. digits-row d e new)
+format-covered seen id n at t Unknown e new b = not (faultAt 5 at) (noField e)
+format-covered seen id n at t (Fixed k) e new b = plain-covered seen id n at 0 k t new (rw e) (rw e) (omega arith)
+format-covered seen id n at t (Digits d) e new b =
+    covered-then _ (digits-covered d 0 (at + 1) t) (λ r. digits-row d e new)
     (λ v g.
     let i = digits-in d 0 (at + 1) t v g in
-    plain-told seen id n at d v t new (rw e (omega arith)) (rw e (digits-sound d 0 (at + 1) t v g)) (i .0))
-format-told seen id n at t Container e new b =
+    plain-covered seen id n at d v t new (rw e (omega arith)) (rw e (digits-sound d 0 (at + 1) t v g)) (i .0))
+format-covered seen id n at t Container e new b =
     let z = container-id id (b 0) e in
-    rw z (container-told seen n at t (rw z at new) (rw z at b))
+    rw z (container-covered seen n at t (rw z at new) (rw z at b))
 
 -- a field
-field-told : (seen : List ℕ) (n at id : ℕ) (t : List ℕ) → Bytes (id ∷ t) → Told (ListNo seen n at (id ∷ t)) (fieldOf seen n at (id ∷ t))
+field-covered : (seen : List ℕ) (n at id : ℕ) (t : List ℕ) → Bytes (id ∷ t) → Covered (ListNo seen n at (id ∷ t)) (fieldOf seen n at (id ∷ t))
 unfolding fieldOf
-field-told seen n at id t b =
-    told-unless (unknown (formatOf id)) (faultAt 5 at) (λ u. noField (unknown-test (formatOf id) .0 u))
-    (λ u. told-unless (among seen id) (faultAt 7 at) (λ v. twice (fails (unknown-test (formatOf id)) .0 u) (among-exactly seen id .0 v))
-    (λ v. format-told seen id n at t (formatOf id) refl (new-test seen id .0 v) b))
+field-covered seen n at id t b =
+    covered-unless (unknown (formatOf id)) (faultAt 5 at) (λ u. noField (unknown-test (formatOf id) .0 u))
+    (λ u. covered-unless (among seen id) (faultAt 7 at) (λ v. twice (fails (unknown-test (formatOf id)) .0 u) (among-exactly seen id .0 v))
+    (λ v. format-covered seen id n at t (formatOf id) refl (new-test seen id .0 v) b))
 
 -- a row behind one more field
 behind-row : {seen : List ℕ} {n at id : ℕ} {s rest : List ℕ} {size count : ℕ} {r : Refusal} (f : Field) → fieldBytes f ++ rest ≡ s
@@ -449,24 +449,24 @@ behind-row {n = n} f e z ok i new c few row =
     let less : n + countField f ≤ 64 = omega arith in rw (← e) (behind f ok (rw i at new) less (rw (i, z, c) at row))
 
 -- a list, one field after the other
-list-told-by : (f : ℕ) (seen : List ℕ) (n at : ℕ) (s : List ℕ) → length s ≤ f → n ≤ 64 → Bytes s → Told (ListNo seen n at s) (listOf seen n at s)
-list-told-by zero seen n at [] l m b = rw (list-none seen n at [] refl) (is _)
-list-told-by zero seen n at (id ∷ t) l m b = absurd (omega arith)
-list-told-by (suc f) seen n at [] l m b = rw (list-none seen n at [] refl) (is _)
-list-told-by (suc f) seen n at (id ∷ t) l m b =
+list-covered-by : (f : ℕ) (seen : List ℕ) (n at : ℕ) (s : List ℕ) → length s ≤ f → n ≤ 64 → Bytes s → Covered (ListNo seen n at s) (listOf seen n at s)
+list-covered-by zero seen n at [] l m b = rw (list-none seen n at [] refl) (is _)
+list-covered-by zero seen n at (id ∷ t) l m b = absurd (omega arith)
+list-covered-by (suc f) seen n at [] l m b = rw (list-none seen n at [] refl) (is _)
+list-covered-by (suc f) seen n at (id ∷ t) l m b =
     let s = id ∷ t in
     rw (list-step seen n at s (omega arith))
-    (told-then _ (field-told seen n at id t b) (λ r h. h)
+    (covered-then _ (field-covered seen n at id t b) (λ r h. h)
     (λ o e.
     let i = field-in seen n at s o e in
     let g = field-sound seen n at s o b e in
     let rest = drop (o .size) s in
     let less : length rest ≤ f = omega (arith, length-drop (o .size) s) in
-    told-then _ (list-told-by f (id ∷ seen) (o .count) (at + o .size) rest less (g .few m) (bytes-drop (o .size) s b))
+    covered-then _ (list-covered-by f (id ∷ seen) (o .count) (at + o .size) rest less (g .few m) (bytes-drop (o .size) s b))
     (λ r row.
     behind-row (o .field) (rw (g .bytes) (take-append-drop (o .size) s)) (sym (ap length (g .bytes) ∙ length-take-le (o .size) s (i .1)))
     (g .ok) (sym (g .id)) (new-test seen id .0 (field-got seen n at s o e .1)) (g .count) (g .few m) row)
     (λ o x. is _)))
 
-pub list-told : (seen : List ℕ) (n at : ℕ) (s : List ℕ) → n ≤ 64 → Bytes s → Told (ListNo seen n at s) (listOf seen n at s)
-list-told seen n at s m b = list-told-by (length s) seen n at s (omega arith) m b
+pub list-covered : (seen : List ℕ) (n at : ℕ) (s : List ℕ) → n ≤ 64 → Bytes s → Covered (ListNo seen n at s) (listOf seen n at s)
+list-covered seen n at s m b = list-covered-by (length s) seen n at s (omega arith) m b

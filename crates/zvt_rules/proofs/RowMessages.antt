@@ -29,8 +29,8 @@ use Rattle.zvt_rules.proofs.FieldReading.{header-in}
 use Rattle.zvt_rules.proofs.FieldBytes.{decimals-read}
 use Rattle.zvt_rules.proofs.MessageBytes.{header-sound, header-complete, behind as body-behind, lengthBytes-size, length-ok, length-sound, read-sound, read-complete, first-complete, first-exactly}
 use Rattle.zvt_rules.proofs.Fewest.{shortens-exactly}
-use Rattle.zvt_rules.proofs.RowReadings.{Told, is, not, told, told-cases, told-unless, told-then, told-as, filled}
-use Rattle.zvt_rules.proofs.RowFields.{undecimal-stops, UndecimalNo, first, undecimal-told, list-refused, list-told}
+use Rattle.zvt_rules.proofs.RowReadings.{Covered, is, not, covered, covered-cases, covered-unless, covered-then, covered-as, filled}
+use Rattle.zvt_rules.proofs.RowFields.{undecimal-stops, UndecimalNo, first, undecimal-covered, list-refused, list-covered}
 
 -- ---- a body: what a row says is refused
 -- a password and the list behind it
@@ -56,22 +56,22 @@ body-refused at s Secured r h = secured-refused h
 undecimal-row : {at : ℕ} {w s : List ℕ} {r : Refusal} (t : List ℕ) → length w ≡ 3 → w ++ t ≡ s → UndecimalNo at w r → SecuredNo at s r
 undecimal-row t size e (first front b back ds f) = rw (← e) (undecimal front b back t size ds f)
 
-secured-told : (at : ℕ) (s : List ℕ) → Bytes s → Told (SecuredNo at s) (securedOf at s)
+secured-covered : (at : ℕ) (s : List ℕ) → Bytes s → Covered (SecuredNo at s) (securedOf at s)
 unfolding securedOf
-secured-told at s b =
-    told-unless (ltb (length s) 3) (faultAt 1 (at + length s)) (λ u. short (ltb-true (length s) 3 u))
+secured-covered at s b =
+    covered-unless (ltb (length s) 3) (faultAt 1 (at + length s)) (λ u. short (ltb-true (length s) 3 u))
     (λ u.
     let size = length-take-le 3 s (ltb-false (length s) 3 u) in
-    undecimal-told at (take 3 s) _ (λ r row. undecimal-row (drop 3 s) size (take-append-drop 3 s) row)
-    (λ ds. told-then _ (list-told [] 0 (at + 3) (drop 3 s) (omega arith) (bytes-drop 3 s b))
+    undecimal-covered at (take 3 s) _ (λ r row. undecimal-row (drop 3 s) size (take-append-drop 3 s) row)
+    (λ ds. covered-then _ (list-covered [] 0 (at + 3) (drop 3 s) (omega arith) (bytes-drop 3 s b))
     (λ r row. subst (λ (x : List ℕ). SecuredNo at x r) (take-append-drop 3 s) (behind (take 3 s) size ds (rw size row)))
     (λ l e. is _)))
 
-body-told : (at : ℕ) (s : List ℕ) (l : Layout) → Bytes s → Told (BodyNo l at s) (bodyOf at s l)
+body-covered : (at : ℕ) (s : List ℕ) (l : Layout) → Bytes s → Covered (BodyNo l at s) (bodyOf at s l)
 unfolding BodyNo bodyOf
-body-told at s Plain b = is _
-body-told at s FieldList b = told-then _ (list-told [] 0 at s (omega arith) b) (λ r h. h) (λ l e. is _)
-body-told at s Secured b = secured-told at s b
+body-covered at s Plain b = is _
+body-covered at s FieldList b = covered-then _ (list-covered [] 0 at s (omega arith) b) (λ r h. h) (λ l e. is _)
+body-covered at s Secured b = secured-covered at s b
 
 -- ---- a header: what a row says is refused
 -- its length was read, and its body is cut short
@@ -121,27 +121,27 @@ whole-refused (leftOver c i long w s ok l) =
 
 -- ---- what is refused a row says
 -- the bytes of the length
-length-told : (c i : ℕ) (t : List ℕ) → Bytes t → Told (HeaderNo (c ∷ (i ∷ t))) (lengthOf t)
+length-covered : (c i : ℕ) (t : List ℕ) → Bytes t → Covered (HeaderNo (c ∷ (i ∷ t))) (lengthOf t)
 unfolding lengthOf longLength LengthOk lengthBytes Bytes
-length-told c i [] b = not _ (short c i false [] (omega arith) (record { missing = 0 ∷ []; some = omega arith; joined = refl }))
-length-told c i (x ∷ []) b =
-    pick-test (Told (HeaderNo (c ∷ (i ∷ (x ∷ []))))) (eqb x 0xFF)
+length-covered c i [] b = not _ (short c i false [] (omega arith) (record { missing = 0 ∷ []; some = omega arith; joined = refl }))
+length-covered c i (x ∷ []) b =
+    pick-test (Covered (HeaderNo (c ∷ (i ∷ (x ∷ []))))) (eqb x 0xFF)
     (λ u.
     let e = eqb-true x 0xFF u in
     not _ (short {s = c ∷ (i ∷ (x ∷ []))} c i true [] (omega arith) (record { missing = 0 ∷ (0 ∷ []); some = omega arith; joined = rw e })))
     (λ u. is _)
-length-told c i (x ∷ (l ∷ [])) b =
+length-covered c i (x ∷ (l ∷ [])) b =
     let w : List ℕ = replicate l 0 in
     let size : length w ≡ l = length-replicate l 0 in
     let byte : l < 256 = b 1 in
     let low : length w % 256 ≡ l = omega arith in
     let high : length w / 256 ≡ 0 = omega arith in
-    pick-test (Told (HeaderNo (c ∷ (i ∷ (x ∷ (l ∷ [])))))) (eqb x 0xFF)
+    pick-test (Covered (HeaderNo (c ∷ (i ∷ (x ∷ (l ∷ [])))))) (eqb x 0xFF)
     (λ u.
     let e = eqb-true x 0xFF u in
     not _ (short {s = c ∷ (i ∷ (x ∷ (l ∷ [])))} c i true w (omega arith) (record { missing = 0 ∷ w; some = omega arith; joined = cc })))
     (λ u. is _)
-length-told c i (x ∷ (l ∷ (h ∷ t))) b = pick-test (Told (HeaderNo (c ∷ (i ∷ (x ∷ (l ∷ (h ∷ t))))))) (eqb x 0xFF) (λ u. is _) (λ u. is _)
+length-covered c i (x ∷ (l ∷ (h ∷ t))) b = pick-test (Covered (HeaderNo (c ∷ (i ∷ (x ∷ (l ∷ (h ∷ t))))))) (eqb x 0xFF) (λ u. is _) (λ u. is _)
 
 -- a length that is over the limit
 over : (c i : ℕ) (t : List ℕ) (l : BodyLength) → longLength t ≡ got l → 4_096 < l .value → HeaderNo (c ∷ (i ∷ (0xFF ∷ t))) (unplaced 2)
@@ -172,17 +172,17 @@ cut-row c i t l b e h less =
     short {s = c ∷ (i ∷ t)} c i (l .long) (f .0) (rw (f .1) (length-ok (l .long) (l .value) (w .1) h))
     (record { missing = x .missing; some = x .some; joined = rw (f .1) (ap (λ (y : List ℕ). c ∷ (i ∷ y)) (x .joined)) })
 
-header-told : (s : List ℕ) → Bytes s → Told (HeaderNo s) (headerOf s)
+header-covered : (s : List ℕ) → Bytes s → Covered (HeaderNo s) (headerOf s)
 unfolding headerOf headerWith LengthOk lengthBytes
-header-told [] b = not _ (short 0 0 false [] (omega arith) (record { missing = 0 ∷ (0 ∷ (0 ∷ [])); some = omega arith; joined = refl }))
-header-told (c ∷ []) b = not _ (short c 0 false [] (omega arith) (record { missing = 0 ∷ (0 ∷ []); some = omega arith; joined = refl }))
-header-told (c ∷ (i ∷ t)) b =
+header-covered [] b = not _ (short 0 0 false [] (omega arith) (record { missing = 0 ∷ (0 ∷ (0 ∷ [])); some = omega arith; joined = refl }))
+header-covered (c ∷ []) b = not _ (short c 0 false [] (omega arith) (record { missing = 0 ∷ (0 ∷ []); some = omega arith; joined = refl }))
+header-covered (c ∷ (i ∷ t)) b =
     let s = c ∷ (i ∷ t) in
     let bs = bytes-drop 2 s b in
-    told-then _ (length-told c i t bs) (λ r h. h)
+    covered-then _ (length-covered c i t bs) (λ r h. h)
     (λ l e.
-    told-unless (ltb 4_096 (l .value)) (unplaced 2) (λ u. over-row c i t l bs e (ltb-true 4_096 (l .value) u))
-    (λ u. told-unless (ltb (length s) (headerSize (l .long) + l .value)) (unplaced 1)
+    covered-unless (ltb 4_096 (l .value)) (unplaced 2) (λ u. over-row c i t l bs e (ltb-true 4_096 (l .value) u))
+    (λ u. covered-unless (ltb (length s) (headerSize (l .long) + l .value)) (unplaced 1)
     (λ v. cut-row c i t l bs e (ltb-false 4_096 (l .value) u) (ltb-true (length s) (headerSize (l .long) + l .value) v))
     (λ v. is _)))
 
@@ -210,13 +210,13 @@ over-left : {s : List ℕ} (c i : ℕ) (long : Bool) (w t : List ℕ) → Length
     → WholeNo s (unplaced 3)
 over-left c i long w t ok l e = rw (← e) (leftOver c i long w t ok l)
 
-whole-told : (s : List ℕ) → Bytes s → Told (WholeNo s) (wholeHeader s)
+whole-covered : (s : List ℕ) → Bytes s → Covered (WholeNo s) (wholeHeader s)
 unfolding wholeHeader
-whole-told s b =
-    told-then _ (header-told s b) (λ r h. header h)
+whole-covered s b =
+    covered-then _ (header-covered s b) (λ r h. header h)
     (λ h e.
     let f = frames s h b e in
-    told-unless (ltb (end h) (length s)) (unplaced 3)
+    covered-unless (ltb (end h) (length s)) (unplaced 3)
     (λ u.
     over-left (h .class) (h .instruction) (h .long) (part (start h) (end h) s) (drop (end h) s) (f .fits)
     (omega (arith, ltb-true (end h) (length s) u, length-drop (end h) s)) (f .bytes))
@@ -266,57 +266,57 @@ short-refused room {s} {r} b (unread h) = then-stop _ _ (then-stop _ _ (read-ref
 short-refused room {s} b (tight w k l) = then-on _ w (shortens-exactly s w b .1 k) ∙ rw (lt-ltb room (length w) l)
 
 module _ (s : List ℕ) (b : Bytes s) where
-  message-told : (h : Heading) → headerOf s ≡ got h → Told (FramedNo s (drop (end h) s)) (messageOf s h)
+  message-covered : (h : Heading) → headerOf s ≡ got h → Covered (FramedNo s (drop (end h) s)) (messageOf s h)
   unfolding messageOf FramedNo
-  message-told h e =
+  message-covered h e =
       let f = frames s h b e in
       let w = part (start h) (end h) s in
-      told-then _ (body-told (start h) w (layoutOf (h .class) (h .instruction)) (bytes-part (start h) (end h) s b))
+      covered-then _ (body-covered (start h) w (layoutOf (h .class) (h .instruction)) (bytes-part (start h) (end h) s b))
       (λ r row. (h .class, h .instruction, h .long, w, f .bytes, f .fits, rw (lengthBytes-size (h .long) (length w)) row))
       (λ m g. is _)
 
-  read-told : Told (ReadNo s) (readOf s)
+  read-covered : Covered (ReadNo s) (readOf s)
   unfolding readOf
-  read-told =
-      told-then _ (whole-told s b) (λ r h. inl h)
+  read-covered =
+      covered-then _ (whole-covered s b) (λ r h. inl h)
       (λ h e.
       let w = whole-got s h e in
-      told-as (message-told h (w .0)) (λ r m. inr (rw (drop-of-length-le s (w .1)) at m)))
+      covered-as (message-covered h (w .0)) (λ r m. inr (rw (drop-of-length-le s (w .1)) at m)))
 
-  first-told : Told (FirstNo s) (firstOf s)
+  first-covered : Covered (FirstNo s) (firstOf s)
   unfolding firstOf
-  first-told = told-then _ (header-told s b) (λ r h. inl h) (λ h e. told-as (message-told h e) (λ r m. inr (drop (end h) s, m)))
+  first-covered = covered-then _ (header-covered s b) (λ r h. inl h) (λ h e. covered-as (message-covered h e) (λ r m. inr (drop (end h) s, m)))
 
-  short-told : (room : ℕ) → Told (ShortNo room s) (shortened room s)
+  short-covered : (room : ℕ) → Covered (ShortNo room s) (shortened room s)
   unfolding shortened shorten
-  short-told room =
-      told-then _ (told-then _ (told-as read-told (λ r h. unread h)) (λ r h. h) (λ m e. is (write m))) (λ r h. h)
+  short-covered room =
+      covered-then _ (covered-then _ (covered-as read-covered (λ r h. unread h)) (λ r h. h) (λ m e. is (write m))) (λ r h. h)
       (λ w e.
-      told-unless (ltb room (length w)) (unplaced 11) (λ t. tight w (shortens-exactly s w b .0 e) (ltb-true room (length w) t))
+      covered-unless (ltb room (length w)) (unplaced 11) (λ t. tight w (shortens-exactly s w b .0 e) (ltb-true room (length w) t))
       (λ t. is w))
 
   -- ---- bytes are refused with that number, at that place, exactly where a row says so
   pub header-exactly : (r : Refusal) → (headerOf s ≡ refused r) ↔ HeaderNo s r
-  header-exactly r = (told r (header-told s b), header-refused)
+  header-exactly r = (covered r (header-covered s b), header-refused)
 
   pub whole-exactly : (r : Refusal) → (wholeHeader s ≡ refused r) ↔ WholeNo s r
-  whole-exactly r = (told r (whole-told s b), whole-refused)
+  whole-exactly r = (covered r (whole-covered s b), whole-refused)
 
   pub read-no-exactly : (r : Refusal) → (readOf s ≡ refused r) ↔ ReadNo s r
-  read-no-exactly r = (told r read-told, read-refused s r)
+  read-no-exactly r = (covered r read-covered, read-refused s r)
 
   pub first-no-exactly : (r : Refusal) → (firstOf s ≡ refused r) ↔ FirstNo s r
-  first-no-exactly r = (told r first-told, first-refused s r)
+  first-no-exactly r = (covered r first-covered, first-refused s r)
 
   pub short-no-exactly : (room : ℕ) (r : Refusal) → (shortened room s ≡ refused r) ↔ ShortNo room s r
-  short-no-exactly room r = (told r (short-told room), short-refused room b)
+  short-no-exactly room r = (covered r (short-covered room), short-refused room b)
 
   -- ---- the rows by themselves: all bytes are a message's, or have a row
   pub read-cover : ((m : Message) × ((messageBytes m ≡ s) × MessageOk m)) ⊎ ((r : Refusal) × ReadNo s r)
-  read-cover = ⊎-elim (λ x. inl (x .0, read-sound s (x .0) b (x .1))) inr (told-cases read-told)
+  read-cover = ⊎-elim (λ x. inl (x .0, read-sound s (x .0) b (x .1))) inr (covered-cases read-covered)
 
   pub first-cover : ((m : Message) × ((rest : List ℕ) × ((messageBytes m ++ rest ≡ s) × MessageOk m))) ⊎ ((r : Refusal) × FirstNo s r)
-  first-cover = ⊎-elim (λ x. inl (x .0, first-exactly s (x .0) b .0 (x .1))) inr (told-cases first-told)
+  first-cover = ⊎-elim (λ x. inl (x .0, first-exactly s (x .0) b .0 (x .1))) inr (covered-cases first-covered)
 
 -- and one at most
 refused-same : {A : Type 0} {r q : Refusal} → _≡_ {A = Reading A} (refused r) (refused q) → r ≡ q
@@ -324,9 +324,6 @@ refused-same e = cc
 
 pub read-once : (s : List ℕ) (r q : Refusal) → ReadNo s r → ReadNo s q → r ≡ q
 read-once s r q a b = refused-same (sym (read-refused s r a) ∙ read-refused s q b)
-
-pub first-once : (s : List ℕ) (r q : Refusal) → FirstNo s r → FirstNo s q → r ≡ q
-first-once s r q a b = refused-same (sym (first-refused s r a) ∙ first-refused s q b)
 
 -- and no message that is allowed has one
 pub read-never : (m : Message) (r : Refusal) → MessageOk m → ReadNo (messageBytes m) r → ⊥

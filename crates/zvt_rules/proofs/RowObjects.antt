@@ -23,7 +23,7 @@ use Rattle.zvt_rules.proofs.Readings.{then-on, then-stop}
 use Rattle.zvt_rules.proofs.ObjectReading.{part-length, tag-in, len-in, head-in, one-in, run-none, run-step, one-step}
 use Rattle.zvt_rules.proofs.Lengths.{lenBytes-size, len-sound, len-written}
 use Rattle.zvt_rules.proofs.ObjectBytes.{bytes-drop, bytes-part, tag-sound, tag-written, head-sound, value-part, first, head-written, one-sound, one-complete}
-use Rattle.zvt_rules.proofs.RowReadings.{Told, is, not, told-unless, moved, placed, told-pick, told-then, filled}
+use Rattle.zvt_rules.proofs.RowReadings.{Covered, is, not, covered-unless, moved, placed, covered-pick, covered-then, filled}
 
 -- ---- what a row says is refused
 -- a length and that many bytes: refused at the length, or the value is too short
@@ -151,29 +151,29 @@ other b h i j =
     (λ l. ⊎-elim (λ e. absurd (i (sym e))) (λ m. ⊎-elim (λ e. absurd (j (sym e))) inr (eq-or-lt-of-le m)) (eq-or-lt-of-le l)) (eq-or-lt-of-le h)
 
 -- a tag
-tag-told : (left n at : ℕ) (s : List ℕ) → ObjectFits left n → 0 < length s → Told (RunNo left n at s) (tagSize at s)
+tag-covered : (left n at : ℕ) (s : List ℕ) → ObjectFits left n → 0 < length s → Covered (RunNo left n at s) (tagSize at s)
 unfolding tagSize secondTag TagOk
-tag-told left n at [] r l = absurd (omega arith)
-tag-told left n at (b ∷ []) r l =
-    told-pick (longTag b)
+tag-covered left n at [] r l = absurd (omega arith)
+tag-covered left n at (b ∷ []) r l =
+    covered-pick (longTag b)
     (λ t. not (faultAt 1 (at + 1))
     (tagShort (b ∷ (0 ∷ [])) (nested b) r l (t, refl, refl) (record { missing = 0 ∷ []; some = omega arith; joined = refl })))
     (λ t. is 1)
-tag-told left n at (b ∷ (c ∷ s)) r l =
-    told-pick (longTag b)
-    (λ t. told-unless (topBit c) (faultAt 8 (at + 1)) (λ u. tagWrong r (eqb-true (b % 32) 31 t) (leb-true 128 c u)) (λ u. is 2)) (λ t. is 1)
+tag-covered left n at (b ∷ (c ∷ s)) r l =
+    covered-pick (longTag b)
+    (λ t. covered-unless (topBit c) (faultAt 8 (at + 1)) (λ u. tagWrong r (eqb-true (b % 32) 31 t) (leb-true 128 c u)) (λ u. is 2)) (λ t. is 1)
 
 -- 81 and one byte, 82 and two
-one-told : (at b : ℕ) (s : List ℕ) → b ≡ 0x81 → Told (SizedNo at (b ∷ s)) (oneByteLen (at + 1) s)
+one-covered : (at b : ℕ) (s : List ℕ) → b ≡ 0x81 → Covered (SizedNo at (b ∷ s)) (oneByteLen (at + 1) s)
 unfolding oneByteLen FormOk sized lenBytes
-one-told at b [] e = not (faultAt 1 (at + 1)) (short {s = b ∷ []} one [] (omega arith) (record { missing = 0 ∷ []; some = omega arith; joined = rw e }))
-one-told at b (v ∷ s) e = is _
+one-covered at b [] e = not (faultAt 1 (at + 1)) (short {s = b ∷ []} one [] (omega arith) (record { missing = 0 ∷ []; some = omega arith; joined = rw e }))
+one-covered at b (v ∷ s) e = is _
 
-two-told : (at b : ℕ) (s : List ℕ) → b ≡ 0x82 → Bytes s → Told (SizedNo at (b ∷ s)) (twoByteLen (at + 1) s)
+two-covered : (at b : ℕ) (s : List ℕ) → b ≡ 0x82 → Bytes s → Covered (SizedNo at (b ∷ s)) (twoByteLen (at + 1) s)
 unfolding twoByteLen FormOk sized lenBytes Bytes
-two-told at b [] e h =
+two-covered at b [] e h =
     not (faultAt 1 (at + 1)) (short {s = b ∷ []} two [] (omega arith) (record { missing = 0 ∷ (0 ∷ []); some = omega arith; joined = rw e }))
-two-told at b (x ∷ []) e h =
+two-covered at b (x ∷ []) e h =
     let w : List ℕ = replicate (x * 256) 0 in
     let size : length w ≡ x * 256 = length-replicate (x * 256) 0 in
     let high : length w / 256 ≡ x = omega arith in
@@ -182,18 +182,18 @@ two-told at b (x ∷ []) e h =
     not (faultAt 1 (at + 1 + 1))
     (placed (SizedNo at (b ∷ (x ∷ []))) 1 z
     (short {s = b ∷ (x ∷ [])} two w (omega (arith, h 0)) (record { missing = 0 ∷ w; some = omega arith; joined = cc })))
-two-told at b (x ∷ (y ∷ s)) e h = is _
+two-covered at b (x ∷ (y ∷ s)) e h = is _
 
 -- a length
-pub len-told : (at : ℕ) (s : List ℕ) → Bytes s → Told (SizedNo at s) (lenOf at s)
+pub len-covered : (at : ℕ) (s : List ℕ) → Bytes s → Covered (SizedNo at s) (lenOf at s)
 unfolding lenOf FormOk sized lenBytes Bytes
-len-told at [] h =
+len-covered at [] h =
     let z : at + 0 ≡ at = omega arith in
     not (faultAt 1 at) (placed (SizedNo at []) 1 z (short bare [] (omega arith) (record { missing = 0 ∷ []; some = omega arith; joined = refl })))
-len-told at (b ∷ s) h =
-    told-pick (ltb b 0x80) (λ t. is _)
-    (λ t. told-pick (eqb b 0x81) (λ u. one-told at b s (eqb-true b 0x81 u))
-    (λ u. told-pick (eqb b 0x82) (λ w. two-told at b s (eqb-true b 0x82 w) (λ i. h (suc i)))
+len-covered at (b ∷ s) h =
+    covered-pick (ltb b 0x80) (λ t. is _)
+    (λ t. covered-pick (eqb b 0x81) (λ u. one-covered at b s (eqb-true b 0x81 u))
+    (λ u. covered-pick (eqb b 0x82) (λ w. two-covered at b s (eqb-true b 0x82 w) (λ i. h (suc i)))
     (λ w. not (faultAt 22 at) (wrong (other b (ltb-false b 0x80 t) (eqb-false b 0x81 u) (eqb-false b 0x82 w))))))
 
 -- a value that is too short, behind a length that was read
@@ -210,10 +210,10 @@ tag-first : (at : ℕ) (s : List ℕ) (t : ℕ) → tagSize at s ≡ got t → (
 tag-first at s t e = (length-take-le t s (tag-in at s t e .1), take-append-drop t s)
 
 -- a head
-head-told : (left n at : ℕ) (s : List ℕ) → ObjectFits left n → 0 < length s → Bytes s → Told (RunNo left n at s) (headOf at s)
+head-covered : (left n at : ℕ) (s : List ℕ) → ObjectFits left n → 0 < length s → Bytes s → Covered (RunNo left n at s) (headOf at s)
 unfolding headOf headWith
-head-told left n at s room l b =
-    told-then _ (tag-told left n at s room l) (λ r h. h)
+head-covered left n at s room l b =
+    covered-then _ (tag-covered left n at s room l) (λ r h. h)
     (λ t e.
     let f = tag-first at s t e in
     let rest = drop t s in
@@ -222,9 +222,9 @@ head-told left n at s room l b =
     = λ r h.
     subst (λ (x : List ℕ). RunNo left n at x r) (f .1)
     (sizedIn (take t s) (nested (getD s 0 0)) room (tag-sound at s t e) (rw (f .0) h)) in
-    told-then _ (len-told (at + t) rest bs) row
+    covered-then _ (len-covered (at + t) rest bs) row
     (λ m g.
-    told-unless _ (faultAt 1 (at + length s))
+    covered-unless _ (faultAt 1 (at + length s))
     (λ u.
     let less : length rest < formSize (m .form) + m .value
     = omega (arith, ltb-true (length s) (t + formSize (m .form) + m .value) u, length-drop t s, tag-in at s t e) in
@@ -234,25 +234,25 @@ head-told left n at s room l b =
 
 -- an object, where that is known of the shorter runs
 abbrev Shorter : List ℕ → Type 0
-Shorter s = (left n at : ℕ) (t : List ℕ) → length t < length s → Bytes t → Told (RunNo left n at t) (runOf left n at t)
+Shorter s = (left n at : ℕ) (t : List ℕ) → length t < length s → Bytes t → Covered (RunNo left n at t) (runOf left n at t)
 
 -- an object by its steps
-one-told-by : (left n at : ℕ) (s : List ℕ) → 0 < length s → Bytes s → Shorter s → Told (RunNo left n at s) (oneOf left n at s)
-one-told-by left n at s l b ih =
+one-covered-by : (left n at : ℕ) (s : List ℕ) → 0 < length s → Bytes s → Shorter s → Covered (RunNo left n at s) (oneOf left n at s)
+one-covered-by left n at s l b ih =
     rw (one-step left n at s)
-    (told-unless (leb 64 n) (faultAt 10 at) (λ t. tooMany l (leb-true 64 n t))
-    (λ t. told-unless (eqb left 0) (faultAt 9 at) (λ u. tooDeep l (leb-false 64 n t) (eqb-true left 0 u))
+    (covered-unless (leb 64 n) (faultAt 10 at) (λ t. tooMany l (leb-true 64 n t))
+    (λ t. covered-unless (eqb left 0) (faultAt 9 at) (λ u. tooDeep l (leb-false 64 n t) (eqb-true left 0 u))
     (λ u.
     let zero = eqb-false left 0 u in
     let room : ObjectFits left n = (leb-false 64 n t, omega arith) in
-    told-then _ (head-told left n at s room l b) (λ r h. h)
+    covered-then _ (head-covered left n at s room l b) (λ r h. h)
     (λ h e.
     let i = head-in at s h e in
     let g = head-sound at s h b e in
     let inner = part (from h) (to h) s in
     let less : length inner < length s = omega (arith, part-length s (from h) (to h) (omega arith) (i .2)) in
-    told-pick (nested (getD s 0 0))
-    (λ v. told-then _ (ih (left - 1) (n + 1) (at + from h) inner less (bytes-part (from h) (to h) s b))
+    covered-pick (nested (getD s 0 0))
+    (λ v. covered-then _ (ih (left - 1) (n + 1) (at + from h) inner less (bytes-part (from h) (to h) s b))
     (λ r row.
     let tag = take (h .tag) s in
     let whole : (tag ++ sized (h .form) inner) ++ drop (to h) s ≡ s = rw (g .2) (take-append-drop (to h) s) in
@@ -274,23 +274,23 @@ behind-row : {left n at : ℕ} {s rest : List ℕ} {size count : ℕ} {r : Refus
 behind-row {n = n} o e f ok c few row = let less : n + countObj o ≤ 64 = omega arith in rw (← e) (behind o ok less (rw (f, c) at row))
 
 -- a run, one object after the other
-run-told-by : (f left n at : ℕ) (s : List ℕ) → length s ≤ f → Bytes s → Told (RunNo left n at s) (runOf left n at s)
-run-told-by zero left n at [] l b = rw (run-none left n at [] refl) (is _)
-run-told-by zero left n at (c ∷ s) l b = absurd (omega arith)
-run-told-by (suc f) left n at [] l b = rw (run-none left n at [] refl) (is _)
-run-told-by (suc f) left n at (c ∷ t) l b =
+run-covered-by : (f left n at : ℕ) (s : List ℕ) → length s ≤ f → Bytes s → Covered (RunNo left n at s) (runOf left n at s)
+run-covered-by zero left n at [] l b = rw (run-none left n at [] refl) (is _)
+run-covered-by zero left n at (c ∷ s) l b = absurd (omega arith)
+run-covered-by (suc f) left n at [] l b = rw (run-none left n at [] refl) (is _)
+run-covered-by (suc f) left n at (c ∷ t) l b =
     let s = c ∷ t in
     rw (run-step left n at s (omega arith))
-    (told-then _ (one-told-by left n at s (omega arith) b (λ i m a u h. run-told-by f i m a u (omega arith))) (λ r h. h)
+    (covered-then _ (one-covered-by left n at s (omega arith) b (λ i m a u h. run-covered-by f i m a u (omega arith))) (λ r h. h)
     (λ o e.
     let i = one-in left n at s o e in
     let g = one-sound left n at s o b e in
     let rest = drop (o .size) s in
-    told-then _ (run-told-by f left (o .count) (at + o .size) rest (omega (arith, length-drop (o .size) s)) (bytes-drop (o .size) s b))
+    covered-then _ (run-covered-by f left (o .count) (at + o .size) rest (omega (arith, length-drop (o .size) s)) (bytes-drop (o .size) s b))
     (λ r row.
     behind-row (o .obj) (rw (g .0) (take-append-drop (o .size) s))
     (sym (ap length (g .0) ∙ length-take-le (o .size) s (i .1))) (g .1) (g .2) (g .3) row)
     (λ r x. is _)))
 
-pub run-told : (left n at : ℕ) (s : List ℕ) → Bytes s → Told (RunNo left n at s) (runOf left n at s)
-run-told left n at s b = run-told-by (length s) left n at s (omega arith) b
+pub run-covered : (left n at : ℕ) (s : List ℕ) → Bytes s → Covered (RunNo left n at s) (runOf left n at s)
+run-covered left n at s b = run-covered-by (length s) left n at s (omega arith) b

@@ -13,41 +13,41 @@ use Rattle.zvt_rules.specs.believed.Rows.{Cut}
 use Rattle.zvt_rules.proofs.Readings.{got-not-refused}
 
 -- a reading that is refused only with a fault that P says
-pub data Told {A : Type 0} (P : Refusal → Type 0) : Reading A → Type 0 where
-  is : (a : A) → Told P (got a)
-  not : (r : Refusal) → P r → Told P (refused r)
+pub data Covered {A : Type 0} (P : Refusal → Type 0) : Reading A → Type 0 where
+  is : (a : A) → Covered P (got a)
+  not : (r : Refusal) → P r → Covered P (refused r)
 
 -- what it is refused with, P says
-pub told : {A : Type 0} {P : Refusal → Type 0} {x : Reading A} (r : Refusal) → Told P x → x ≡ refused r → P r
-told r (is a) e = absurd (got-not-refused e)
-told {P = P} r (not q h) e = let same : q ≡ r = cc in subst P same h
+pub covered : {A : Type 0} {P : Refusal → Type 0} {x : Reading A} (r : Refusal) → Covered P x → x ≡ refused r → P r
+covered r (is a) e = absurd (got-not-refused e)
+covered {P = P} r (not q h) e = let same : q ≡ r = cc in subst P same h
 
 -- it was read, or P says a refusal
-pub told-cases : {A : Type 0} {P : Refusal → Type 0} {x : Reading A} → Told P x → ((a : A) × (x ≡ got a)) ⊎ ((r : Refusal) × P r)
-told-cases (is a) = inl (a, refl)
-told-cases (not r h) = inr (r, h)
+pub covered-cases : {A : Type 0} {P : Refusal → Type 0} {x : Reading A} → Covered P x → ((a : A) × (x ≡ got a)) ⊎ ((r : Refusal) × P r)
+covered-cases (is a) = inl (a, refl)
+covered-cases (not r h) = inr (r, h)
 
 -- through a test, a choice and a second step; and by a weaker P
-pub told-unless : {A : Type 0} {P : Refusal → Type 0} (t : Bool) (r : Refusal) {x : Reading A} → (t ≡ true → P r) → (t ≡ false → Told P x)
-    → Told P (unless t r x)
+pub covered-unless : {A : Type 0} {P : Refusal → Type 0} (t : Bool) (r : Refusal) {x : Reading A} → (t ≡ true → P r) → (t ≡ false → Covered P x)
+    → Covered P (unless t r x)
 unfolding unless
-told-unless true r h g = not r (h refl)
-told-unless false r h g = g refl
+covered-unless true r h g = not r (h refl)
+covered-unless false r h g = g refl
 
-pub told-pick : {A : Type 0} {P : Refusal → Type 0} (t : Bool) {x y : Reading A} → (t ≡ true → Told P x) → (t ≡ false → Told P y)
-    → Told P (pick t x y)
-told-pick true h g = h refl
-told-pick false h g = g refl
+pub covered-pick : {A : Type 0} {P : Refusal → Type 0} (t : Bool) {x y : Reading A} → (t ≡ true → Covered P x) → (t ≡ false → Covered P y)
+    → Covered P (pick t x y)
+covered-pick true h g = h refl
+covered-pick false h g = g refl
 
-pub told-then : {A B : Type 0} {P Q : Refusal → Type 0} {x : Reading A} (f : A → Reading B) → Told Q x → ((r : Refusal) → Q r → P r)
-    → ((a : A) → x ≡ got a → Told P (f a)) → Told P (andThen x f)
+pub covered-then : {A B : Type 0} {P Q : Refusal → Type 0} {x : Reading A} (f : A → Reading B) → Covered Q x → ((r : Refusal) → Q r → P r)
+    → ((a : A) → x ≡ got a → Covered P (f a)) → Covered P (andThen x f)
 unfolding andThen
-told-then f (is a) m g = g a refl
-told-then f (not r h) m g = not r (m r h)
+covered-then f (is a) m g = g a refl
+covered-then f (not r h) m g = not r (m r h)
 
-pub told-as : {A : Type 0} {P Q : Refusal → Type 0} {x : Reading A} → Told Q x → ((r : Refusal) → Q r → P r) → Told P x
-told-as (is a) m = is a
-told-as (not r h) m = not r (m r h)
+pub covered-as : {A : Type 0} {P Q : Refusal → Type 0} {x : Reading A} → Covered Q x → ((r : Refusal) → Q r → P r) → Covered P x
+covered-as (is a) m = is a
+covered-as (not r h) m = not r (m r h)
 
 -- the same refusal, its place written otherwise
 pub moved : {A : Type 0} (k : ℕ) {p q : ℕ} → p ≡ q → _≡_ {A = Reading A} (refused (faultAt k p)) (refused (faultAt k q))

@@ -43,9 +43,9 @@ moves-to c =
 passes : (c : tie.At-match-keys2) → Passes (moveOf (begun (c .before) .args .t1) (call (begun (c .before))))
 passes c = rw (moves-to (c .before)) (passes-tag (c .before .opened .result) (c .match .keys2))
 
--- a place in the book
-placed : (c : tie.Else2) → c .before .no-line .result ≡ false
-placed c = c .if2 .left
+-- a line of the book
+line-left : (c : tie.Else2) → c .before .no-line .result ≡ false
+line-left c = c .if2 .left
 
 -- and room for the command
 abbrev asked : tie.After-command-size → tie.After-opened
@@ -61,7 +61,7 @@ accepts c =
     let p = c .before .before in
     let h = asked (c .before) in
     let q = begun h in
-    goes-on (q .args .t1) (call q) _ (low h) (passes (p .before .before)) (sym (p .before .no-line .ensures) ∙ placed p) (rw (size (c .before)) (c .if3 .left))
+    goes-on (q .args .t1) (call q) _ (low h) (passes (p .before .before)) (sym (p .before .no-line .ensures) ∙ line-left p) (rw (size (c .before)) (c .if3 .left))
 
 returns : tie.Need-returns
 unfolding laneOf NumbersFit
@@ -94,7 +94,7 @@ returns-4 c =
     let h = asked s in
     let q = begun h in
     refused-as (q .args .t1) (q .pre) (call q) tt (q .args .out .now) _ (unplaced 11)
-    (no-room (q .args .t1) (call q) _ (low h) (passes (p .before .before)) (sym (p .before .no-line .ensures) ∙ placed p) (rw (size s) (c .before .if3 .taken)))
+    (no-room (q .args .t1) (call q) _ (low h) (passes (p .before .before)) (sym (p .before .no-line .ensures) ∙ line-left p) (rw (size s) (c .before .if3 .taken)))
     (c .refused3 .ensures)
 
 put-command-requires : tie.Need-put-command-requires

@@ -39,7 +39,7 @@ pub data Writes (s : State) : Call → List ℕ → Type 0 where
   -- P18: "A running lane replies 80 00 00 to each accepted message."
   reply : {i : ℕ} {b : List ℕ} → phaseAt s i ≡ Running → Writes s (message i b) (0x80 ∷ 0x00 ∷ 0x00 ∷ [])
   -- P27: "Where the link is lost, a waiting or running lane .. replies nothing."
-  cut : {i : ℕ} → Writes s (lost i) []
+  link-lost : {i : ℕ} → Writes s (lost i) []
 
 -- ---- what it makes of its lane
 

@@ -79,7 +79,7 @@ pub data Ended (i : ℕ) (kind : Kind) (asked : ℕ) (status : List Field) : Cal
   -- P21: "06 1E ends the payment, declined. The first byte of its body is the code, the others are not read"
   aborted : {s : List ℕ} {b : ℕ} {rest : List ℕ} → Reads s 0x06 0x1E (bytes (b ∷ rest)) → Ended i kind asked status (message i s) Declined 0 b
   -- P27: "Where the link is lost, a waiting or running lane ends its payment, unclear". P33: "The code of a lost link is 0."
-  cut : Ended i kind asked status (lost i) Unclear 0 0
+  link-lost : Ended i kind asked status (lost i) Unclear 0 0
   -- P23: "At 06 0F a remembered code 00 means approved, but for P24 and P25", the two rows below. "The settled amount is field 04 of the
   -- remembered status; an amount of 0 counts as told." P33, here and below: "The code at 06 0F is the remembered one"
   approved : {s : List ℕ} {body : Body} {amount : ℕ} → Reads s 0x06 0x0F body → CodeIs status 0 → AmountIs status amount

@@ -1,7 +1,7 @@
 -- `numbers_of`: one number after the other. Assumes nothing.
 use mathlib.Core.Path.{_≡_, sym, ap, _∙_}
 use mathlib.Core.Option.{some}
-use Rattle.words.specs.Lines.{firstOf, numberAt}
+use Rattle.words.specs.Lines.{firstNumber, numberAt}
 use Rattle.words.specs.Steps.{shape, asNumbers}
 use Rattle.words.proofs.NotationLaws.{no-number, is-number}
 use Rattle.words.proofs.LineLaws.{no-first, no-second, no-third, all-three}
@@ -18,15 +18,15 @@ first c = c .before .before
 abbrev second : tie.After-number-at2 → tie.After-second
 second c = c .before .before
 
-first-is : (c : tie.After-first) → firstOf (shape (start c .args .form)) (start c .args .s .now) ≡ some (c .first .given .0 .0)
-first-is c = is-number _ _ (sym (c .before .before .first-of .ensures) ∙ c .first .given .1)
+first-is : (c : tie.After-first) → firstNumber (shape (start c .args .form)) (start c .args .s .now) ≡ some (c .first .given .0 .0)
+first-is c = is-number _ _ (sym (c .before .before .first-number .ensures) ∙ c .first .given .1)
 
 second-is : (c : tie.After-second) → let a = start (first (c .before .before)) .args in
     numberAt (a .form .1) 2 (a .s .now) ≡ some (c .second .given .0 .0)
 second-is c = is-number _ _ (sym (c .before .before .number-at .ensures) ∙ c .second .given .1)
 
 returns : tie.Need-returns
-returns c = ap asNumbers (sym (no-first _ _ (no-number _ (sym (c .before .before .first-of .ensures) ∙ c .enum-told .given .1))))
+returns c = ap asNumbers (sym (no-first _ _ (no-number _ (sym (c .before .before .first-number .ensures) ∙ c .enum-told .given .1))))
 
 returns-2 : tie.Need-returns-2
 returns-2 c =

@@ -36,7 +36,7 @@ returns-4 c =
     let some = word .before .before .before in
     let a = start (some .before) .args in
     let line = asked (a .at) _ (a .s .now) (not-false _ (some .before .if1 .left)) (some .if2 .left) (word .before .if3 .left) in
-    let shape-is = form .form-of .ensures ∙ ap (shapeOf (a .at .further)) (word .word .ensures) in
+    let shape-is = form .shape-of .ensures ∙ ap (shapeOf (a .at .further)) (word .word .ensures) in
     ordered (a .at) (a .s .now) (a .bytes .now) _ _ _ line shape-is (done .read-as .ensures)
 
 pub order-of-spec : {M : Type 1} → statement M

@@ -7,7 +7,7 @@ use Rattle.words.specs.Split.{following}
 use Rattle.words.specs.Lines.{valuesOf, Runs, runsOf, orBad}
 use Rattle.words.specs.Steps.{shape, putBoth}
 use Rattle.words.specs.declared.What.the-variants.{Bad}
-use Rattle.words.proofs.LineLaws.{wrong-count, no-values, no-runs, read, told-bare, no-numbers, numbers-are, no-sizes, Ended, sizes-are}
+use Rattle.words.proofs.LineLaws.{wrong-count, no-values, no-runs, read, ordered-bare, no-numbers, numbers-are, no-sizes, Ended, sizes-are}
 use borrow.Author.Needs.{needs}
 use Rattle.words.proofs.read_as.Statement.{statement}
 use Rattle.words.proofs.read_as.Tie as tie
@@ -39,20 +39,20 @@ runs c = sizes-are _ _ _ (sym (c .before .before .sizes-of .ensures) ∙ c .size
 returns : tie.Need-returns
 returns c =
     let called = c .before .before in
-    told-bare _ Bad _ _ (ap orBad (wrong-count _ _ _ λ e. c .before .if1 .taken (called .following .ensures ∙ e))) (c .empty .ensures)
+    ordered-bare _ Bad _ _ (ap orBad (wrong-count _ _ _ λ e. c .before .if1 .taken (called .following .ensures ∙ e))) (c .empty .ensures)
 
 returns-2 : tie.Need-returns-2
 returns-2 c =
     let called = c .before .before .before in
     let no = no-numbers _ (sym (called .numbers-of .ensures) ∙ c .before .enum-told .given .1) in
-    told-bare _ Bad _ _ (ap orBad (no-values _ _ _ (count called) no)) (c .empty2 .ensures)
+    ordered-bare _ Bad _ _ (ap orBad (no-values _ _ _ (count called) no)) (c .empty2 .ensures)
 
 returns-3 : tie.Need-returns-3
 returns-3 c =
     let called = c .before .before .before in
     let told = called .before .before in
     let no = no-sizes _ (sym (called .sizes-of .ensures) ∙ c .before .enum-told2 .given .1) in
-    told-bare _ Bad _ _ (ap orBad (no-runs _ _ _ (count (numbers told)) (values told) no)) (c .empty3 .ensures)
+    ordered-bare _ Bad _ _ (ap orBad (no-runs _ _ _ (count (numbers told)) (values told) no)) (c .empty3 .ensures)
 
 put-runs-requires : tie.Need-put-runs-requires
 put-runs-requires c κs = let r = runs (c .before .before) in rw (r .1) (r .2)

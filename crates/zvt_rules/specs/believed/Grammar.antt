@@ -4,7 +4,7 @@ use mathlib.Core.Path.{_≡_}
 use Prim.Native.Nat.{ℕ, _-_, _^_, _<_, _≤_}
 use mathlib.Core.Bool.{Bool, true, false}
 use mathlib.Core.List.{List, [], _∷_}
-use lib.ListN.{length, getD}
+use lib.ListN.{length}
 use Rattle.zvt_rules.specs.declared.Format.{Format}
 use Rattle.zvt_rules.specs.declared.Format.the-variants.{Unknown, Fixed, Digits, Container}
 use Rattle.zvt_rules.specs.declared.Layout.{Layout}

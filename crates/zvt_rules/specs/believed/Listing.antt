@@ -30,8 +30,8 @@ unfoldable pub ShortOrLong : Message → List ℕ → Type 0
 ShortOrLong m w = ((write m ≡ messageBytes m) × (w ≡ ascii "short")) ⊎ ((write m ≡ messageBytes m → ⊥) × (w ≡ ascii "long"))
 
 -- M17: "its number, from 1; the pair; the length of the body as sent; `short` .. else `long`; the ids .., none for a plain body"
-unfoldable pub Line : ℕ → Message → List ℕ → Type 0
-Line number m t = (n : List ℕ) × (class : List ℕ) × (instruction : List ℕ) × (size : List ℕ) × (form : List ℕ) × (ids : List (List ℕ))
+unfoldable pub MessageLine : ℕ → Message → List ℕ → Type 0
+MessageLine number m t = (n : List ℕ) × (class : List ℕ) × (instruction : List ℕ) × (size : List ℕ) × (form : List ℕ) × (ids : List (List ℕ))
     × Decimal number n × Hex (m .class) class × Hex (m .instruction) instruction × Decimal (length (bodyBytes (m .body))) size
     × ShortOrLong m form × Ids (bodyFields (m .body)) ids × (t ≡ words (n ∷ (class ++ instruction) ∷ size ∷ form ∷ ids) ++ ascii "\n")
 
@@ -46,7 +46,7 @@ Last count s t = (n : List ℕ) × Decimal count n × (((s ≡ []) × (t ≡ wor
 unfoldable pub Lists : ℕ → List Message → List ℕ → List ℕ → Type 0
 Lists count [] s t = Last count s t
 Lists count (m ∷ ms) s t = (rest : List ℕ) × (line : List ℕ) × (lines : List ℕ) × MessageOk m × (s ≡ messageBytes m ++ rest)
-    × Line (count + 1) m line × Lists (count + 1) ms rest lines × (t ≡ line ++ lines)
+    × MessageLine (count + 1) m line × Lists (count + 1) ms rest lines × (t ≡ line ++ lines)
 
 -- M19: "More than 65,536 bytes of input give `end 0 refused 2` and nothing else."
 unfoldable pub Listing : List ℕ → List ℕ → Type 0

@@ -1,7 +1,7 @@
 -- Which message bytes are, and what a status information tells, by the bytes that say it. Definitions only.
 use mathlib.Core.Path.{_≡_}
 use mathlib.Core.Bool.{Bool}
-use mathlib.Core.List.{List, [], _∷_, _++_}
+use mathlib.Core.List.{List, []}
 use Prim.Native.Nat.{ℕ}
 use Rattle.basics.specs.believed.Lists.{In}
 use Rattle.zvt_rules.specs.Fields.{Field, plain}

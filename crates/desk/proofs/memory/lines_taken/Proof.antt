@@ -1,4 +1,4 @@
--- `desk::memory::lines_taken` meets its contract. The loop's invariant: `n` is the places that the first `i` lanes take. Assumes
+-- `desk::memory::lines_taken` meets its contract. The loop's invariant: `n` is how many lines are kept for the first `i` lanes. Assumes
 -- nothing.
 use mathlib.Core.Path.{_≡_, _∙_, ap}
 use Prim.Native.Nat.{_≤_, _-_}
@@ -8,8 +8,8 @@ use lib.Seq.{take-all}
 use Rattle.desk_rules.specs.Desk.{laneAt, linesTaken}
 use Rattle.desk_rules.specs.Lanes.{lineTaken}
 use Rattle.desk_rules.specs.Numbers.{laneCount}
-use Rattle.desk_rules.proofs.Memory.{place-most}
-use Rattle.desk_rules.proofs.Sums.{places-take, places-most}
+use Rattle.desk_rules.proofs.Memory.{line-taken-most}
+use Rattle.desk_rules.proofs.Sums.{lines-taken-take, lines-taken-most}
 use Rattle.desk.proofs.memory.lines_taken.Statement.{statement}
 use Rattle.desk.proofs.memory.lines_taken.Tie as tie
 
@@ -29,7 +29,7 @@ add-n c =
     let d = turn .before .args .t1 in
     let i = turn .loop .i in
     let e : c .line-taken .result ≡ lineTaken (laneAt (d .lanes) i) = c .line-taken .ensures in
-    omega (arith, place-most (laneAt (d .lanes) i), places-most i (d .lanes))
+    omega (arith, line-taken-most (laneAt (d .lanes) i), lines-taken-most i (d .lanes))
 
 loop-again : tie.Need-loop-again Inv-loop μ-loop
 loop-again c =
@@ -37,7 +37,7 @@ loop-again c =
     let d = turn .before .args .t1 in
     let i = turn .loop .i in
     let e : c .line-taken .result ≡ lineTaken (laneAt (d .lanes) i) = c .line-taken .ensures in
-    omega (arith, places-take (d .lanes) i (omega arith))
+    omega (arith, lines-taken-take (d .lanes) i (omega arith))
 
 returns : tie.Need-returns Inv-loop μ-loop
 returns c =

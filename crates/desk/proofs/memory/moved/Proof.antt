@@ -1,5 +1,5 @@
 -- `desk::memory::moved` meets its contract. Assumes nothing.
-use Rattle.desk.proofs.CallLaws.{line-placed}
+use Rattle.desk.proofs.CallLaws.{booked-fits}
 use Rattle.desk_rules.specs.Memory.{movedDesk}
 use borrow.Author.Needs.{needs}
 use Rattle.desk.proofs.memory.moved.Statement.{statement}
@@ -10,7 +10,7 @@ ended-requires c κs =
     let m = c .before .before .before in
     let q = m .before .before in
     let e = m .m2 .given .0 in
-    (q .pre .0, λ b. line-placed (q .args .t1) (q .args .lane) (e .0) (e .1 .0) (e .1 .1 .0) (rw (m .m2 .given .1) at (q .pre .1)) (rw (c .ending-line .ensures) at b))
+    (q .pre .0, λ b. booked-fits (q .args .t1) (q .args .lane) (e .0) (e .1 .0) (e .1 .1 .0) (rw (m .m2 .given .1) at (q .pre .1)) (rw (c .ending-line .ensures) at b))
 
 returns : tie.Need-returns
 unfolding movedDesk

@@ -6,8 +6,9 @@ use native.Mathlib.Omega.{arith}
 use lib.ListN.{length, drop}
 use lib.Seq.{length-take-le}
 use borrow.Author.Needs.{needs}
+use Rattle.basics.specs.Lists.{numbered}
 use Rattle.desk_rules.specs.Memory.{linesOfDesk}
-use Rattle.printing.specs.Desks.{numbered, lineText, linesText}
+use Rattle.printing.specs.Desks.{lineText, linesText}
 use Rattle.printing.proofs.Listed.{Telling, tells, told, line-next, line-none, numbered-none}
 use Rattle.printing.proofs.desks.add_lines.Statement.{statement}
 use Rattle.printing.proofs.desks.add_lines.Tie as tie

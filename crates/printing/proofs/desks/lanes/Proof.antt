@@ -5,7 +5,8 @@ use Prim.Native.Nat.{_-_, _*_, _≤_}
 use native.Mathlib.Omega.{arith}
 use lib.ListN.{drop}
 use borrow.Author.Needs.{needs}
-use Rattle.printing.specs.Desks.{numbered, laneText, lanesText}
+use Rattle.basics.specs.Lists.{numbered}
+use Rattle.printing.specs.Desks.{laneText, lanesText}
 use Rattle.printing.proofs.Prints.{printed}
 use Rattle.printing.proofs.Listed.{Telling, tells, told, lane-next, lane-there, numbered-none}
 use Rattle.printing.proofs.desks.lanes.Statement.{statement}

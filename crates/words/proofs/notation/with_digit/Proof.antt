@@ -2,7 +2,7 @@
 use mathlib.Core.Path.{sym, ap, _∙_}
 use mathlib.Core.List.{[]}
 use native.Mathlib.Omega.{arith}
-use Rattle.words.specs.Steps.{asNumber}
+use Rattle.words.specs.Steps.{numberOrBad}
 use borrow.Author.Tests.{le-leb, lt-leb}
 use Rattle.words.proofs.NotationLaws.{number-no, number-yes, number-over, number-end}
 use borrow.Author.Needs.{needs}
@@ -12,24 +12,24 @@ use Rattle.words.proofs.notation.with_digit.Tie as tie
 returns : tie.Need-returns
 returns c =
     let a = c .before .args in
-    ap asNumber (sym (number-no (a .n) (a .c) [] (rw (lt-leb 48 (a .c) (c .if1 .taken)))))
+    ap numberOrBad (sym (number-no (a .n) (a .c) [] (rw (lt-leb 48 (a .c) (c .if1 .taken)))))
 
 returns-2 : tie.Need-returns-2
 returns-2 c =
     let a = c .before .before .args in
-    ap asNumber (sym (number-no (a .n) (a .c) [] (rw (le-leb 48 (a .c) (c .before .if1 .left), lt-leb (a .c) 57 (c .if2 .taken)))))
+    ap numberOrBad (sym (number-no (a .n) (a .c) [] (rw (le-leb 48 (a .c) (c .before .if1 .left), lt-leb (a .c) 57 (c .if2 .taken)))))
 
 returns-3 : tie.Need-returns-3
 returns-3 c =
     let a = c .before .before .before .args in
-    ap asNumber (sym (number-over (a .n) (a .c) [] (omega arith)))
+    ap numberOrBad (sym (number-over (a .n) (a .c) [] (omega arith)))
 
 returns-4 : tie.Need-returns-4
 returns-4 c =
     let digit = c .before in
     let a = digit .before .before .args in
     let yes = number-yes (a .n) (a .c) [] (rw (le-leb 48 (a .c) (digit .before .if1 .left), le-leb (a .c) 57 (digit .if2 .left))) in
-    ap asNumber (sym (yes ∙ number-end _ (omega arith)))
+    ap numberOrBad (sym (yes ∙ number-end _ (omega arith)))
 
 pub with-digit-spec : {M : Type 1} → statement M
 with-digit-spec =

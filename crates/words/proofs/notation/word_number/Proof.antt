@@ -1,14 +1,14 @@
--- `notation::number_of`. The invariant: the digits from i on, behind those that say n, say what all do. Assumes nothing.
+-- `notation::word_number`. The invariant: the digits from i on, behind those that say n, say what all do. Assumes nothing.
 use Prim.Native.Nat.{_+_, _≤_, _<_, _-_, _^_}
 use mathlib.Core.Path.{_≡_, refl, sym, ap, _∙_}
 use native.Mathlib.Omega.{arith}
 use lib.ListN.{length, drop}
 use Rattle.words.specs.Notation.{numberFrom}
-use Rattle.words.specs.Steps.{asNumber}
+use Rattle.words.specs.Steps.{numberOrBad}
 use Rattle.words.proofs.NotationLaws.{number-short, number-long, number-sized, number-stops, number-goes, at-digit, at-end, no-number, is-number}
 use borrow.Author.Needs.{needs}
-use Rattle.words.proofs.notation.number_of.Statement.{statement}
-use Rattle.words.proofs.notation.number_of.Tie as tie
+use Rattle.words.proofs.notation.word_number.Statement.{statement}
+use Rattle.words.proofs.notation.word_number.Tie as tie
 
 abbrev Inv-loop : tie.InvT-loop
 Inv-loop w n₀ i₀ n i = (i ≤ length w) × (n < 2 ^ 64) × (numberFrom n (drop i w) ≡ numberFrom 0 w)
@@ -17,10 +17,10 @@ abbrev μ-loop : tie.MeasureT-loop
 μ-loop w n₀ i₀ n i = length w - i
 
 returns : tie.Need-returns Inv-loop μ-loop
-returns c = ap asNumber (sym (number-short _ (c .if1 .taken)))
+returns c = ap numberOrBad (sym (number-short _ (c .if1 .taken)))
 
 returns-2 : tie.Need-returns-2 Inv-loop μ-loop
-returns-2 c = ap asNumber (sym (number-long _ (c .if2 .taken)))
+returns-2 c = ap numberOrBad (sym (number-long _ (c .if2 .taken)))
 
 loop-holds : tie.Need-loop-holds Inv-loop μ-loop
 loop-holds c = (omega arith, omega arith, refl)
@@ -34,7 +34,7 @@ returns-3 c =
     let w = sized .before .before .before .args .w .now in
     let whole = number-sized w (sized .before .if1 .left) (sized .if2 .left) ∙ sym (at .loop .inv .2) in
     let stops = number-stops (at .loop .n) _ (drop (at .loop .i + 1) w) (no-number _ (sym (digit .with-digit .ensures) ∙ c .enum-told .given .1)) in
-    ap asNumber (sym (whole ∙ at-digit w (at .loop .i) (at .loop .n) (turn .loop-test .taken) ∙ stops))
+    ap numberOrBad (sym (whole ∙ at-digit w (at .loop .i) (at .loop .n) (turn .loop-test .taken) ∙ stops))
 
 loop-again : tie.Need-loop-again Inv-loop μ-loop
 loop-again c =
@@ -52,10 +52,10 @@ returns-4 c =
     let sized = at .before in
     let w = sized .before .before .before .args .w .now in
     let whole = number-sized w (sized .before .if1 .left) (sized .if2 .left) ∙ sym (at .loop .inv .2) in
-    ap asNumber (sym (whole ∙ at-end w (at .loop .i) (at .loop .n) (c .loop-test .left) (at .loop .inv .1)))
+    ap numberOrBad (sym (whole ∙ at-end w (at .loop .i) (at .loop .n) (c .loop-test .left) (at .loop .inv .1)))
 
-pub number-of-spec : {M : Type 1} → statement M
-number-of-spec =
+pub word-number-spec : {M : Type 1} → statement M
+word-number-spec =
     tie.close
     (tie.spec Inv-loop μ-loop returns returns-2 loop-holds (λ c. search needs) (λ c κs. search needs) (λ c. search needs) returns-3
     (λ c. search needs) (λ c. search needs) (λ c. search needs) loop-again returns-4)

@@ -1,31 +1,31 @@
--- `forms::form_of`: the row of the word. Assumes nothing.
+-- `forms::shape_of`: the row of the word. Assumes nothing.
 use mathlib.Core.Path.{sym, _∙_}
 use mathlib.Core.List.{[]}
 use Rattle.words.specs.Forms.{scriptRows, caseRows, shapeIn, shapeOf}
 use Rattle.words.specs.Split.{behind, wordsOf}
 use Rattle.words.proofs.FormLaws.{known, unknown}
 use borrow.Author.Needs.{needs}
-use Rattle.words.proofs.forms.form_of.Statement.{statement}
-use Rattle.words.proofs.forms.form_of.Tie as tie
+use Rattle.words.proofs.forms.shape_of.Statement.{statement}
+use Rattle.words.proofs.forms.shape_of.Tie as tie
 
 returns : tie.Need-returns
 unfolding wordsOf behind shapeOf
-returns c = known scriptRows _ _ _ (c .before .before .place .ensures) (c .before .if1 .taken)
+returns c = known scriptRows _ _ _ (c .before .before .nth .ensures) (c .before .if1 .taken)
 
 returns-2 : tie.Need-returns-2
 unfolding wordsOf behind shapeOf
 returns-2 c =
     let further = c .before in
     let other = further .before in
-    rw (further .if2 .taken) (c .case-form .ensures ∙ sym (unknown scriptRows caseRows _ _ (other .before .place .ensures) (other .if1 .left)))
+    rw (further .if2 .taken) (c .case-shape .ensures ∙ sym (unknown scriptRows caseRows _ _ (other .before .nth .ensures) (other .if1 .left)))
 
 returns-3 : tie.Need-returns-3
 unfolding wordsOf behind shapeOf shapeIn
 returns-3 c =
     let other = c .before in
-    rw (c .if2 .left) (sym (unknown scriptRows [] _ _ (other .before .place .ensures) (other .if1 .left)))
+    rw (c .if2 .left) (sym (unknown scriptRows [] _ _ (other .before .nth .ensures) (other .if1 .left)))
 
-pub form-of-spec : {M : Type 1} → statement M
-form-of-spec =
+pub shape-of-spec : {M : Type 1} → statement M
+shape-of-spec =
     tie.close
     (tie.spec (λ c. search needs) (λ c κs. search needs) (λ c. search needs) (λ c. search needs) returns (λ c κs. search needs) returns-2 returns-3)

@@ -1,21 +1,21 @@
--- `forms::case_form`: the row of the word. Assumes nothing.
+-- `forms::case_shape`: the row of the word. Assumes nothing.
 use mathlib.Core.Path.{sym}
 use mathlib.Core.List.{[]}
 use Rattle.words.specs.Forms.{caseRows, shapeIn}
 use Rattle.words.specs.Split.{behind, wordsOf}
 use Rattle.words.proofs.FormLaws.{known, unknown}
 use borrow.Author.Needs.{needs}
-use Rattle.words.proofs.forms.case_form.Statement.{statement}
-use Rattle.words.proofs.forms.case_form.Tie as tie
+use Rattle.words.proofs.forms.case_shape.Statement.{statement}
+use Rattle.words.proofs.forms.case_shape.Tie as tie
 
 returns : tie.Need-returns
 unfolding wordsOf behind
-returns c = known caseRows [] _ _ (c .before .before .place .ensures) (c .before .if1 .taken)
+returns c = known caseRows [] _ _ (c .before .before .nth .ensures) (c .before .if1 .taken)
 
 returns-2 : tie.Need-returns-2
 unfolding wordsOf behind shapeIn
-returns-2 c = sym (unknown caseRows [] _ _ (c .before .place .ensures) (c .if1 .left))
+returns-2 c = sym (unknown caseRows [] _ _ (c .before .nth .ensures) (c .if1 .left))
 
-pub case-form-spec : {M : Type 1} → statement M
-case-form-spec =
+pub case-shape-spec : {M : Type 1} → statement M
+case-shape-spec =
     tie.close (tie.spec (λ c. search needs) (λ c κs. search needs) (λ c. search needs) (λ c. search needs) returns returns-2)
