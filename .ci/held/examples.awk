@@ -45,8 +45,14 @@ function played(text) {
 # A command has the next block below it.
 function end_command() { if (command != "") said("no block below the command says what it prints"); command = "" }
 
-page != $1 {
+function end_page() {
     end_command()
+    if (drawn != "") said("no example reads the message that is drawn above")
+    drawn = ""
+}
+
+page != $1 {
+    end_page()
     page = name = $1
     gsub(/^.*\/|\.md$/, "", name)
     name = tolower(name)
@@ -59,8 +65,7 @@ command != "" { example(command "=" $5); command = ""; next }
 match($5, /\001byte [ 0-9A-F]*\001/) { drawn = substr($5, RSTART + 5, RLENGTH - 6); gsub(/ /, "", drawn); next }
 { print >rest }
 END {
-    end_command()
-    if (drawn != "") said("no example reads the message that is drawn here")
+    end_page()
     for (place in cases) if (!(place in used)) { print place ": no example of the page is this case"; wrong++ }
     print examples + 0 >tally
     exit wrong > 0

@@ -5,7 +5,7 @@
 
 function claim(what, where, name) {
     if (where !~ /^(crates|docs)\//) where = "crates/" where
-    print FILENAME "\t" FNR "\t" what "\t" where "\t" name
+    print FILENAME "\t" FNR "\t" what "\t" where "\t" name "\t" kind "\t" heading
 }
 
 function folder() { return here != "" ? here : home[kind] }
@@ -67,6 +67,7 @@ function entry(name) { kind = name; here = file = carried = ""; depth = edits = 
 /^```/ { fenced = !fenced; next }
 fenced { next }
 /^## / { split("", home) }
+/^#/ { heading = /^### / ? FNR : "" }
 /^#/ || /^$/ { entry(""); origin = first_part(home["definition"]); if (/^#/) next }
 /^- [a-z]+: / { entry(substr($2, 1, length($2) - 1)) }
 {
