@@ -1,7 +1,7 @@
 # The numbers of refusal. REFUSALS has one heading "**12: .. ** (`Refusal::NO_SUCH_LANE`, R12, ..)" for each number of RULES, below a
 # section that names it ("## 12 to 19: .."), and no other; constant and rule are those of the number. In API the number before a constant
-# of Refusal is its own. What shop says of a number are the first words of RULES, without brackets, but for the number in the variable
-# but; and what REPLAY says that it says. Inputs, by the variable of: the rules (rules.awk), the public names (public.awk), REFUSALS, API,
+# of Refusal is its own. What shop says of a number are the first words of RULES, without brackets; and what REPLAY
+# says that it says. Inputs, by the variable of: the rules (rules.awk), the public names (public.awk), REFUSALS, API,
 # the code of shop, REPLAY.
 
 function said(what) { print FILENAME ":" FNR ": " what; wrong++ }
@@ -49,7 +49,7 @@ of == "API" {
 
 # ---- shop: "NUMBER => say(b"WORDS")", also over several lines
 function hold_words(number, words) {
-    if (number != but && (words == "" || index(meaning[number], words) != 1)) said("not the words of R" number ": " words)
+    if (words == "" || index(meaning[number], words) != 1) said("not the words of R" number ": " words)
 }
 
 FNR == 1 { number = "" }
