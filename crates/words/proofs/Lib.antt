@@ -1,5 +1,5 @@
--- The laws of words, of numbers and bytes, of forms and of lines.
+-- The laws of words, of numbers and bytes, of shapes and of lines.
 pub mod SplitLaws
 pub mod NotationLaws
-pub mod FormLaws
+pub mod ShapeLaws
 pub mod LineLaws

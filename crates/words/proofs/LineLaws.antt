@@ -11,7 +11,7 @@ use borrow.Author.Tests.{lt-ltb, le-ltb, le-leb, lt-leb, leb-true, leb-false, eq
 use Rattle.basics.proofs.Tests.{pick-test, by-test, never}
 use Rattle.words.specs.Split.{following, wordOf}
 use Rattle.words.specs.Notation.{bytesOf}
-use Rattle.words.specs.Forms.{Shape, shapeOf}
+use Rattle.words.specs.Shapes.{Shape, shapeOf}
 use Rattle.words.specs.Lines.{ifSome, numberAt, firstNumber, Values, valuesOf, bytesAt, Runs, runsOf}
 use Rattle.words.specs.Lines.{OrderLine, lineWith, bare, readAs, orBad, passedOver, lineOf, Ordered}
 use Rattle.words.specs.Steps.{asNumbers, asSizes, Sized}
@@ -89,7 +89,7 @@ both-read f room s r e = go (bytesAt f 1 s) (bytesAt f 2 s) refl refl
         rw (← is) (record { first = p; second = q; room-for = fits }))
         (λ t. let over : room < length v + length w = leb-false _ _ t in never (cc (no-room f room s p q over)))
 
--- ---- a line of a form
+-- ---- a line of a shape
 module _ (f : Shape) (room : ℕ) (s : List ℕ) where
   pub wrong-count : (following s ≡ f .numbers + f .runs + f .ids → ⊥) → readAs f room s ≡ none
   unfolding readAs

@@ -10,7 +10,7 @@ use Rattle.basics.specs.Choice.{pick}
 use Rattle.basics.specs.Buffers.{front}
 use Rattle.words.specs.Split.{following, wordOf}
 use Rattle.words.specs.Notation.{wordNumber, bytesOf, idOf}
-use Rattle.words.specs.Forms.{Shape, shapeOf}
+use Rattle.words.specs.Shapes.{Shape, shapeOf}
 use Rattle.words.specs.declared.Script.{Script}
 use Rattle.words.specs.declared.What.{What}
 use Rattle.words.specs.declared.What.the-variants as what
@@ -82,7 +82,7 @@ lineWith w n r = record {
   bytes = r .message ++ r .name;
 }
 
--- a line of that form
+-- a line of that shape
 unfoldable pub readAs : Shape → ℕ → List ℕ → Option OrderLine
 readAs f room s =
     pick (eqb (following s) (f .numbers + f .runs + f .ids))

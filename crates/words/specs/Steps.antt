@@ -7,9 +7,9 @@ use lib.ListN.{length}
 use Rattle.basics.specs.Choice.{pick}
 use Rattle.basics.specs.Buffers.{front}
 use Rattle.words.specs.Split.{alike}
-use Rattle.words.specs.Forms.{Shape}
+use Rattle.words.specs.Shapes.{Shape}
 use Rattle.words.specs.Lines.{Values, Runs}
-use Rattle.words.specs.declared.forms.Shaped.{Shaped}
+use Rattle.words.specs.declared.shapes.Shaped.{Shaped}
 use Rattle.words.specs.declared.notation.Number.{Number}
 use Rattle.words.specs.declared.notation.Number.the-variants.{Bad as bad-number, Value}
 use Rattle.words.specs.declared.notation.Size.{Size}
@@ -19,7 +19,7 @@ use Rattle.words.specs.declared.Numbers.the-variants.{Bad as bad-numbers
 use Rattle.words.specs.declared.Sizes.{Sizes}
 use Rattle.words.specs.declared.Sizes.the-variants.{Bad as bad-sizes, Ends}
 
--- ---- forms
+-- ---- shapes
 
 -- the number of the first of these words that is w; where none is, how many they are
 unfoldable pub nthIn : List (List ℕ) → List ℕ → ℕ

@@ -1,16 +1,16 @@
 // The words of a line: what a line asks for, in a script or with the further words of a file of cases.
-mod forms;
 mod notation;
+mod shapes;
 mod split;
 
-use crate::forms::Shaped;
-use crate::forms::shape_of;
 use crate::notation::Number;
 use crate::notation::Size;
 use crate::notation::id_of;
 use crate::notation::put_bytes;
 use crate::notation::size_of;
 use crate::notation::word_number;
+use crate::shapes::Shaped;
+use crate::shapes::shape_of;
 use crate::split::following;
 use crate::split::word;
 ghost use mathlib.Core.Path.{_≡_};
@@ -134,60 +134,60 @@ fn number_at(numbers: u8, k: u8, s: &[u8]) -> Number
 }
 
 // The first number, which is the id where a field is asked for.
-fn first_number(form: Shaped, s: &[u8]) -> Number
-    ensures { λ r. ⌜ r ≡ numberOrBad (firstNumber (shape form) (now (s .entry))) ⌝ }
+fn first_number(row: Shaped, s: &[u8]) -> Number
+    ensures { λ r. ⌜ r ≡ numberOrBad (firstNumber (shape row) (now (s .entry))) ⌝ }
 {
-    if form.3 == 0 {
-        return number_at(form.1, 1, s);
+    if row.3 == 0 {
+        return number_at(row.1, 1, s);
     }
     id_of(word(s, following(s)))
 }
 
-// How many bytes run k of a line of that form has; 0 where there is none.
-fn size_at(form: Shaped, k: u8, s: &[u8]) -> Size
-    ensures { λ r. ⌜ r ≡ asSize (bytesAt (shape form) k (now (s .entry))) ⌝ }
+// How many bytes run k of a line of that shape has; 0 where there is none.
+fn size_at(row: Shaped, k: u8, s: &[u8]) -> Size
+    ensures { λ r. ⌜ r ≡ asSize (bytesAt (shape row) k (now (s .entry))) ⌝ }
 {
-    if form.2 < k {
+    if row.2 < k {
         return Size::Bytes(0);
     }
-    size_of(word(s, form.1 as usize + k as usize))
+    size_of(word(s, row.1 as usize + k as usize))
 }
 
 // Its bytes go to the start of out.
-fn put_at(form: Shaped, k: u8, s: &[u8], out: &mut [u8])
-    requires { ⌜ Fits (bytesAt (shape form) k (now s)) (now out) ⌝ }
-    ensures { λ _. ⌜ now (out .exit) ≡ put (bytesAt (shape form) k (now (s .entry))) (now (out .entry)) ⌝ }
+fn put_at(row: Shaped, k: u8, s: &[u8], out: &mut [u8])
+    requires { ⌜ Fits (bytesAt (shape row) k (now s)) (now out) ⌝ }
+    ensures { λ _. ⌜ now (out .exit) ≡ put (bytesAt (shape row) k (now (s .entry))) (now (out .entry)) ⌝ }
 {
-    if form.2 < k {
+    if row.2 < k {
         return;
     }
-    put_bytes(word(s, form.1 as usize + k as usize), out);
+    put_bytes(word(s, row.1 as usize + k as usize), out);
 }
 
-// The numbers of a line of that form.
-fn numbers_of(form: Shaped, s: &[u8]) -> Numbers
-    ensures { λ r. ⌜ r ≡ asNumbers (valuesOf (shape form) (now (s .entry))) ⌝ }
+// The numbers of a line of that shape.
+fn numbers_of(row: Shaped, s: &[u8]) -> Numbers
+    ensures { λ r. ⌜ r ≡ asNumbers (valuesOf (shape row) (now (s .entry))) ⌝ }
 {
-    let Number::Value(first) = first_number(form, s) else {
+    let Number::Value(first) = first_number(row, s) else {
         return Numbers::Bad;
     };
-    let Number::Value(second) = number_at(form.1, 2, s) else {
+    let Number::Value(second) = number_at(row.1, 2, s) else {
         return Numbers::Bad;
     };
-    let Number::Value(third) = number_at(form.1, 3, s) else {
+    let Number::Value(third) = number_at(row.1, 3, s) else {
         return Numbers::Bad;
     };
     Numbers::Given(first, second, third)
 }
 
-// Where the runs of bytes of a line of that form end, in so much room.
-fn sizes_of(form: Shaped, room: usize, s: &[u8]) -> Sizes
-    ensures { λ r. ⌜ r ≡ asSizes (runsOf (shape form) room (now (s .entry))) ⌝ }
+// Where the runs of bytes of a line of that shape end, in so much room.
+fn sizes_of(row: Shaped, room: usize, s: &[u8]) -> Sizes
+    ensures { λ r. ⌜ r ≡ asSizes (runsOf (shape row) room (now (s .entry))) ⌝ }
 {
-    let Size::Bytes(size) = size_at(form, 1, s) else {
+    let Size::Bytes(size) = size_at(row, 1, s) else {
         return Sizes::Bad;
     };
-    let Size::Bytes(other) = size_at(form, 2, s) else {
+    let Size::Bytes(other) = size_at(row, 2, s) else {
         return Sizes::Bad;
     };
     if room < size {
@@ -200,30 +200,30 @@ fn sizes_of(form: Shaped, room: usize, s: &[u8]) -> Sizes
 }
 
 // The runs of bytes, of which the first has that size, go to the start of bytes.
-fn put_runs(form: Shaped, size: usize, s: &[u8], bytes: &mut [u8])
-    requires { ⌜ Sized (runsOf (shape form) (length (now bytes)) (now s)) size ⌝ }
-    ensures { λ _. ⌜ now (bytes .exit) ≡ putBoth (runsOf (shape form) (length (now (bytes .entry))) (now (s .entry))) (now (bytes .entry)) ⌝ }
+fn put_runs(row: Shaped, size: usize, s: &[u8], bytes: &mut [u8])
+    requires { ⌜ Sized (runsOf (shape row) (length (now bytes)) (now s)) size ⌝ }
+    ensures { λ _. ⌜ now (bytes .exit) ≡ putBoth (runsOf (shape row) (length (now (bytes .entry))) (now (s .entry))) (now (bytes .entry)) ⌝ }
 {
-    put_at(form, 1, s, bytes);
-    put_at(form, 2, s, &mut bytes[size..]);
+    put_at(row, 1, s, bytes);
+    put_at(row, 2, s, &mut bytes[size..]);
 }
 
-// A line of that form.
-fn read_as(form: Shaped, s: &[u8], bytes: &mut [u8]) -> Order
-    ensures { λ r. ⌜ Ordered (orBad (readAs (shape form) (length (now (bytes .entry))) (now (s .entry)))) r (now (bytes .entry)) (now (bytes .exit)) ⌝ }
+// A line of that shape.
+fn read_as(row: Shaped, s: &[u8], bytes: &mut [u8]) -> Order
+    ensures { λ r. ⌜ Ordered (orBad (readAs (shape row) (length (now (bytes .entry))) (now (s .entry)))) r (now (bytes .entry)) (now (bytes .exit)) ⌝ }
 {
-    let count = form.1 as usize + form.2 as usize + form.3 as usize;
+    let count = row.1 as usize + row.2 as usize + row.3 as usize;
     if following(s) != count {
         return empty(What::Bad);
     }
-    let Numbers::Given(first, second, third) = numbers_of(form, s) else {
+    let Numbers::Given(first, second, third) = numbers_of(row, s) else {
         return empty(What::Bad);
     };
-    let Sizes::Ends(size, end) = sizes_of(form, bytes.len(), s) else {
+    let Sizes::Ends(size, end) = sizes_of(row, bytes.len(), s) else {
         return empty(What::Bad);
     };
-    put_runs(form, size, s, bytes);
-    let what = form.0;
+    put_runs(row, size, s, bytes);
+    let what = row.0;
     Order {
         what,
         first,

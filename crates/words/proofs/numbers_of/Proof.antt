@@ -18,11 +18,11 @@ first c = c .before .before
 abbrev second : tie.After-number-at2 → tie.After-second
 second c = c .before .before
 
-first-is : (c : tie.After-first) → firstNumber (shape (start c .args .form)) (start c .args .s .now) ≡ some (c .first .given .0 .0)
+first-is : (c : tie.After-first) → firstNumber (shape (start c .args .row)) (start c .args .s .now) ≡ some (c .first .given .0 .0)
 first-is c = is-number _ _ (sym (c .before .before .first-number .ensures) ∙ c .first .given .1)
 
 second-is : (c : tie.After-second) → let a = start (first (c .before .before)) .args in
-    numberAt (a .form .1) 2 (a .s .now) ≡ some (c .second .given .0 .0)
+    numberAt (a .row .1) 2 (a .s .now) ≡ some (c .second .given .0 .0)
 second-is c = is-number _ _ (sym (c .before .before .number-at .ensures) ∙ c .second .given .1)
 
 returns : tie.Need-returns

@@ -1,8 +1,8 @@
--- `order_of`: what is passed over, or a line of the form of its first word. Assumes nothing.
+-- `order_of`: what is passed over, or a line of the shape that its first word has. Assumes nothing.
 use mathlib.Core.Path.{ap, _∙_}
 use native.Mathlib.Omega.{arith}
 use borrow.Author.Tests.{not-true, not-false}
-use Rattle.words.specs.Forms.{shapeOf}
+use Rattle.words.specs.Shapes.{shapeOf}
 use Rattle.words.proofs.LineLaws.{ended, blank, comment, asked, passed, ordered}
 use borrow.Author.Needs.{needs}
 use Rattle.words.proofs.order_of.Statement.{statement}
@@ -31,12 +31,12 @@ returns-3 c =
 returns-4 : tie.Need-returns-4
 returns-4 c =
     let done = c .before .before in
-    let form = done .before .before in
-    let word = form .before in
+    let shaped = done .before .before in
+    let word = shaped .before in
     let some = word .before .before .before in
     let a = start (some .before) .args in
     let line = asked (a .at) _ (a .s .now) (not-false _ (some .before .if1 .left)) (some .if2 .left) (word .before .if3 .left) in
-    let shape-is = form .shape-of .ensures ∙ ap (shapeOf (a .at .further)) (word .word .ensures) in
+    let shape-is = shaped .shape-of .ensures ∙ ap (shapeOf (a .at .further)) (word .word .ensures) in
     ordered (a .at) (a .s .now) (a .bytes .now) _ _ _ line shape-is (done .read-as .ensures)
 
 pub order-of-spec : {M : Type 1} → statement M

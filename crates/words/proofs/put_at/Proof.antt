@@ -21,7 +21,7 @@ put-bytes-requires c κs =
     let here = word .before .before in
     let start = here .before .before .before .before in
     let a = start .args in
-    rw (word .word .ensures) (rw (run-here (shape (a .form)) (a .k) (a .s .now) (here .if1 .left)) at (start .pre))
+    rw (word .word .ensures) (rw (run-here (shape (a .row)) (a .k) (a .s .now) (here .if1 .left)) at (start .pre))
 
 returns-2 : tie.Need-returns-2
 returns-2 c =
@@ -29,7 +29,7 @@ returns-2 c =
     let word = done .before .before in
     let here = word .before .before in
     let a = here .before .before .before .before .args in
-    let run = ap bytesOf (word .word .ensures) ∙ sym (run-here (shape (a .form)) (a .k) (a .s .now) (here .if1 .left)) in
+    let run = ap bytesOf (word .word .ensures) ∙ sym (run-here (shape (a .row)) (a .k) (a .s .now) (here .if1 .left)) in
     done .put-bytes .ensures ∙ ap (λ (o : Option (List ℕ)). put o (a .out .now)) run
 
 pub put-at-spec : {M : Type 1} → statement M

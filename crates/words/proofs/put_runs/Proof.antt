@@ -9,7 +9,7 @@ use borrow.Author.Needs.{needs}
 use Rattle.words.proofs.put_runs.Statement.{statement}
 use Rattle.words.proofs.put_runs.Tie as tie
 
-runs : (z : tie.Start) → Sizable (shape (z .args .form)) (z .args .s .now) (z .args .bytes .now) (z .args .size)
+runs : (z : tie.Start) → Sizable (shape (z .args .row)) (z .args .s .now) (z .args .bytes .now) (z .args .size)
 runs z = sizable _ _ _ _ (z .pre)
 
 abbrev start : tie.After-put-at → tie.Start

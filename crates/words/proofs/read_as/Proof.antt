@@ -24,16 +24,16 @@ counted c = c .before .before
 abbrev begun : tie.After-sizes-of → tie.Start
 begun c = start (counted (numbers (c .before .before)))
 
-count : (c : tie.After-numbers-of) → let a = start (counted c) .args in following (a .s .now) ≡ a .form .1 + a .form .2 + a .form .3
+count : (c : tie.After-numbers-of) → let a = start (counted c) .args in following (a .s .now) ≡ a .row .1 + a .row .2 + a .row .3
 count c = sym (counted c .following .ensures) ∙ c .before .if1 .left
 
 values : (c : tie.After-first) → let a = start (counted (numbers c)) .args in
     let n = c .first .given .0 in
-    valuesOf (shape (a .form)) (a .s .now) ≡ some (record { first = n .0; second = n .1 .0; third = n .1 .1 .0 })
+    valuesOf (shape (a .row)) (a .s .now) ≡ some (record { first = n .0; second = n .1 .0; third = n .1 .1 .0 })
 values c = numbers-are _ _ _ _ (sym (numbers c .numbers-of .ensures) ∙ c .first .given .1)
 
 runs : (c : tie.After-size) → let a = begun (c .before .before) .args in
-    Ended (runsOf (shape (a .form)) (length (a .bytes .now)) (a .s .now)) (c .size .given .0 .0) (c .size .given .0 .1 .0)
+    Ended (runsOf (shape (a .row)) (length (a .bytes .now)) (a .s .now)) (c .size .given .0 .0) (c .size .given .0 .1 .0)
 runs c = sizes-are _ _ _ (sym (c .before .before .sizes-of .ensures) ∙ c .size .given .1)
 
 returns : tie.Need-returns

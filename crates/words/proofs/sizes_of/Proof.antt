@@ -20,14 +20,14 @@ message c = c .before .before
 abbrev asked : tie.After-other → tie.Start
 asked c = start (message (c .before .before))
 
-message-is : (c : tie.After-size) → Run (bytesAt (shape (start c .args .form)) 1 (start c .args .s .now)) (c .size .given .0 .0)
+message-is : (c : tie.After-size) → Run (bytesAt (shape (start c .args .row)) 1 (start c .args .s .now)) (c .size .given .0 .0)
 message-is c = is-size _ _ (sym (c .before .before .size-at .ensures) ∙ c .size .given .1)
 
-name-is : (c : tie.After-other) → Run (bytesAt (shape (asked c .args .form)) 2 (asked c .args .s .now)) (c .other .given .0 .0)
+name-is : (c : tie.After-other) → Run (bytesAt (shape (asked c .args .row)) 2 (asked c .args .s .now)) (c .other .given .0 .0)
 name-is c = is-size _ _ (sym (c .before .before .size-at2 .ensures) ∙ c .other .given .1)
 
 over : (c : tie.After-other) → let a = asked c .args in a .room < message (c .before .before) .size .given .0 .0 + c .other .given .0 .0
-    → runsOf (shape (a .form)) (a .room) (a .s .now) ≡ none
+    → runsOf (shape (a .row)) (a .room) (a .s .now) ≡ none
 over c h =
     let v = message-is (message (c .before .before)) in
     let w = name-is c in

@@ -2,7 +2,7 @@
 use crate::What;
 use crate::split::nth;
 ghost use mathlib.Core.Path.{_≡_};
-ghost use Rattle.words.specs.Forms.{caseRows, shapeIn, shapeOf};
+ghost use Rattle.words.specs.Shapes.{caseRows, shapeIn, shapeOf};
 ghost use Rattle.words.specs.Steps.{shape};
 
 // Behind the word of a line stand so many numbers, behind them so many runs of bytes, and behind those so many ids.

@@ -1,12 +1,12 @@
--- `forms::case_shape`: the row of the word. Assumes nothing.
+-- `shapes::case_shape`: the row of the word. Assumes nothing.
 use mathlib.Core.Path.{sym}
 use mathlib.Core.List.{[]}
-use Rattle.words.specs.Forms.{caseRows, shapeIn}
+use Rattle.words.specs.Shapes.{caseRows, shapeIn}
 use Rattle.words.specs.Split.{behind, wordsOf}
-use Rattle.words.proofs.FormLaws.{known, unknown}
+use Rattle.words.proofs.ShapeLaws.{known, unknown}
 use borrow.Author.Needs.{needs}
-use Rattle.words.proofs.forms.case_shape.Statement.{statement}
-use Rattle.words.proofs.forms.case_shape.Tie as tie
+use Rattle.words.proofs.shapes.case_shape.Statement.{statement}
+use Rattle.words.proofs.shapes.case_shape.Tie as tie
 
 returns : tie.Need-returns
 unfolding wordsOf behind

@@ -1,4 +1,4 @@
--- Laws of the forms of lines: a table of words and one of forms, row by row. Assumes nothing.
+-- Laws of the shapes of lines: a table of words and one of shapes, row by row. Assumes nothing.
 use mathlib.Core.Path.{_≡_, refl}
 use mathlib.Core.List.{List, [], _∷_, _++_, map}
 use Prim.Native.Nat.{ℕ, suc, _≤_, _<_}
@@ -6,17 +6,17 @@ use native.Mathlib.Omega.{arith}
 use lib.ListN.{length, getD}
 use Rattle.basics.proofs.Tests.{by-test}
 use Rattle.words.specs.Split.{alike}
-use Rattle.words.specs.Forms.{Row, shapeIn}
+use Rattle.words.specs.Shapes.{Row, shapeIn}
 use Rattle.words.specs.Steps.{nthIn, shape}
 use Rattle.words.specs.declared.What.the-variants as what
-use Rattle.words.specs.declared.forms.Shaped.{Shaped}
+use Rattle.words.specs.declared.shapes.Shaped.{Shaped}
 
 abbrev pub wordsIn : List Row → List (List ℕ)
 wordsIn rs = map (λ r. r .word) rs
 
 -- the table of the code
 abbrev pub shapedIn : List Row → List Shaped
-shapedIn rs = map (λ r. (r .form .what, r .form .numbers, r .form .runs, r .form .ids)) rs
+shapedIn rs = map (λ r. (r .shape .what, r .shape .numbers, r .shape .runs, r .shape .ids)) rs
 
 abbrev pub noShape : Shaped
 noShape = (what.Bad, 0, 0, 0)

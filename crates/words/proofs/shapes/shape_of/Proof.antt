@@ -1,12 +1,12 @@
--- `forms::shape_of`: the row of the word. Assumes nothing.
+-- `shapes::shape_of`: the row of the word. Assumes nothing.
 use mathlib.Core.Path.{sym, _∙_}
 use mathlib.Core.List.{[]}
-use Rattle.words.specs.Forms.{scriptRows, caseRows, shapeIn, shapeOf}
+use Rattle.words.specs.Shapes.{scriptRows, caseRows, shapeIn, shapeOf}
 use Rattle.words.specs.Split.{behind, wordsOf}
-use Rattle.words.proofs.FormLaws.{known, unknown}
+use Rattle.words.proofs.ShapeLaws.{known, unknown}
 use borrow.Author.Needs.{needs}
-use Rattle.words.proofs.forms.shape_of.Statement.{statement}
-use Rattle.words.proofs.forms.shape_of.Tie as tie
+use Rattle.words.proofs.shapes.shape_of.Statement.{statement}
+use Rattle.words.proofs.shapes.shape_of.Tie as tie
 
 returns : tie.Need-returns
 unfolding wordsOf behind shapeOf

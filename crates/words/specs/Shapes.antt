@@ -18,10 +18,10 @@ pub record Shape : Type 0 where
 
 pub record Row : Type 0 where
   pub word : List ℕ
-  pub form : Shape
+  pub shape : Shape
 
 abbrev pub row : String → What → ℕ → ℕ → ℕ → Row
-row word what numbers runs ids = record { word = ascii word; form = record { what = what; numbers = numbers; runs = runs; ids = ids } }
+row word what numbers runs ids = record { word = ascii word; shape = record { what = what; numbers = numbers; runs = runs; ids = ids } }
 
 -- the words of a script
 abbrev pub scriptRows : List Row
@@ -67,10 +67,10 @@ caseRows =
     ∷ row "replay-records" what.ReplayRecords 0 1 0
     ∷ []
 
--- the form of a line with that first word; where the word is none of these, it is bad
+-- the shape of a line with that first word; where the word is none of these, it is bad
 unfoldable pub shapeIn : List Row → List ℕ → Shape
 shapeIn [] name = record { what = what.Bad; numbers = 0; runs = 0; ids = 0 }
-shapeIn (r ∷ rs) name = pick (alike (r .word) name) (r .form) (shapeIn rs name)
+shapeIn (r ∷ rs) name = pick (alike (r .word) name) (r .shape) (shapeIn rs name)
 
 -- "In a script, as `trial` plays it, none of these words is understood."
 unfoldable pub shapeOf : Bool → List ℕ → Shape
