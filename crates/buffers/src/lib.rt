@@ -1,5 +1,8 @@
 // A lent buffer: filled with one value, counted, or written with text. Each function of text adds behind the first at bytes and answers
 // where the text then ends. What does not fit is left out.
+
+#![tactic(auto)]
+
 ghost use Rattle.std.specs.Prelude.{◌≡◌, ◌<◌, min, [], ◌∷◌, length, replicate};
 ghost use Rattle.io.specs.Counts.{IsPrefixLen};
 ghost use Rattle.basics.specs.Text.{text, add_all, hex_digit, hex_text, hexes, bytes_text, hex_value, decimal_text};

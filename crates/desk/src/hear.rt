@@ -14,7 +14,7 @@ use zvt_rules::{
 };
 
 // What a message says to a running lane.
-#[derive(Drop)]
+#[derive(Clone, Copy)]
 pub(crate) enum Said {
     Completion,
     Abort,

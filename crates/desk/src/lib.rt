@@ -1,5 +1,8 @@
 // The desk: eight lanes and the day book. A desk goes into a call and comes back by value; its answer says what was written, or why
 // the call was refused.
+
+#![tactic(auto)]
+
 mod commands;
 mod hear;
 mod memory;

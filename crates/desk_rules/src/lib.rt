@@ -1,5 +1,8 @@
 // What an opening, a lane, a line, the day book and the desk are, with their limits and constructors. The course of a payment stands in
 // specs/, its laws in proofs/; the functions of the desk stand in crate desk.
+
+#![tactic(auto)]
+
 ghost use Rattle.std.specs.Prelude.{◌≡◌};
 ghost use Rattle.desk_rules.specs.Lanes.{blank_status, blank_line, idle_lane, waiting_lane, running_lane, reported_lane};
 ghost use Rattle.desk_rules.specs.Memory.{empty_book, fresh_desk, Valid};
@@ -7,7 +10,7 @@ ghost use Rattle.desk_rules.specs.Numbers.{amount_ok, receipt_ok, password_ok};
 
 use zvt_rules::{Refusal, Status, ToldAmount, ToldCode, ToldReceipt};
 
-#[derive(Drop)]
+#[derive(Clone, Copy)]
 pub enum Kind {
     Sale,
     Refund,
@@ -16,14 +19,14 @@ pub enum Kind {
 
 // Unclear comes first: an element past the end of a list is read as the first variant with zeros, and so is a blank line. The same
 // holds of a phase and an idle lane.
-#[derive(Drop)]
+#[derive(Clone, Copy)]
 pub enum Outcome {
     Unclear,
     Declined,
     Approved,
 }
 
-#[derive(Drop)]
+#[derive(Clone, Copy)]
 pub enum Phase {
     Idle,
     Waiting,
@@ -31,7 +34,7 @@ pub enum Phase {
 }
 
 // What a till asks a terminal for.
-#[derive(Drop)]
+#[derive(Clone, Copy)]
 pub enum Opening {
     Sale { amount: u64 },
     Refund { password: u32, amount: u64 },
@@ -39,21 +42,21 @@ pub enum Opening {
 }
 
 // The opening that the bytes of a command are, with password 0, or none.
-#[derive(Drop)]
+#[derive(Clone, Copy)]
 pub enum OpeningAnswer {
     Nothing,
     Opening(Opening),
 }
 
 // The line that an opening refers to: none, or the sale with that receipt.
-#[derive(Drop)]
+#[derive(Clone, Copy)]
 pub enum Reference {
     Nothing,
     Sold(u16),
 }
 
 // A lane: its phase, what was asked, the receipt that a reversal names (else 0), and the remembered status.
-#[derive(Drop)]
+#[derive(Clone, Copy)]
 pub struct Lane {
     pub phase: Phase,
     pub kind: Kind,
@@ -63,7 +66,7 @@ pub struct Lane {
 }
 
 // A line of the day book.
-#[derive(Drop)]
+#[derive(Clone, Copy)]
 pub struct Line {
     pub lane: u8,
     pub kind: Kind,
@@ -75,7 +78,7 @@ pub struct Line {
 }
 
 // What a call does to its lane: nothing, refused or not; another state; or the payment's end, with outcome, settled amount, code.
-#[derive(Drop)]
+#[derive(Clone, Copy)]
 pub enum Moved {
     Refused(Refusal),
     Stays,
@@ -84,38 +87,38 @@ pub enum Moved {
 }
 
 // The day book: its lines so far are the first count.
-#[derive(Drop)]
+#[derive(Clone, Copy)]
 pub struct Book {
     pub lines: [Line; Book::LINES],
     pub count: usize,
 }
 
-#[derive(Drop)]
+#[derive(Clone, Copy)]
 pub struct Desk {
     pub lanes: [Lane; Lane::COUNT as usize],
     pub book: Book,
 }
 
 // How many bytes were written, or the refusal.
-#[derive(Drop)]
+#[derive(Clone, Copy)]
 pub enum Reply {
     Written(usize),
     Refused(Refusal),
 }
 
-#[derive(Drop)]
+#[derive(Clone, Copy)]
 pub struct Answer {
     pub reply: Reply,
     pub desk: Desk,
 }
 
-#[derive(Drop)]
+#[derive(Clone, Copy)]
 pub enum LineAnswer {
     End,
     Line(Line),
 }
 
-#[derive(Drop)]
+#[derive(Clone, Copy)]
 pub enum LaneAnswer {
     Refused(Refusal),
     Lane(Lane),

@@ -1,4 +1,7 @@
 // Lists the messages on standard input, one line each.
+
+#![tactic(auto)]
+
 use libc::{STDIN_FILENO, STDOUT_FILENO};
 
 fn main() {

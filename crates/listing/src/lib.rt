@@ -1,4 +1,7 @@
 // The text of a listing: a line for each message of an input, and a last line.
+
+#![tactic(auto)]
+
 ghost use Rattle.std.specs.Prelude.{◌≡◌, ◌*◌, ◌≤◌, length};
 ghost use Rattle.io.specs.Counts.{IsPrefixLen};
 ghost use Rattle.zvt_rules.specs.Message.{first_of};
@@ -17,7 +20,7 @@ pub const LIMIT: usize = 65536;
 pub const TEXT: usize = LIMIT * 7;
 
 // Where the text of a line ends, and, where it is a message's, where the next message begins.
-#[derive(Drop)]
+#[derive(Clone, Copy)]
 enum LineWritten {
     Message(usize, usize),
     Last(usize),

@@ -7,3 +7,5 @@
 // one that does nothing at an end         desk_rules/must-fail/nothing_at_an_end
 // one that books only the first payment   desk_rules/must-fail/first_payment_only
 // a reader with an invented object count  zvt_rules/must-fail/count_constant, count_without_inner
+
+#![tactic(auto)]

@@ -1,4 +1,7 @@
 // Prints the day book that the tape on standard input leaves, one line a book line, and how its replay ended.
+
+#![tactic(auto)]
+
 use libc::{STDIN_FILENO, STDOUT_FILENO};
 use printing::desks;
 

@@ -11,14 +11,14 @@ use std::num::wrapping_add_u64;
 use words::Script;
 
 // How many answers a file of cases has, and how many of them differ.
-#[derive(Drop)]
+#[derive(Clone, Copy)]
 pub struct Tally {
     pub answers: u64,
     pub differ: u64,
 }
 
 // Where an answer stands in its file, how long it is, and how long it should be.
-#[derive(Drop)]
+#[derive(Clone, Copy)]
 struct Spot {
     number: u64,
     size: usize,

@@ -12,7 +12,7 @@ const CHANGES: usize = 15360;
 const OF_BYTE: usize = 30;
 
 // What reading bytes comes to.
-#[derive(Drop)]
+#[derive(Clone, Copy)]
 enum Verdict {
     Accepted,
     Refused(u8),

@@ -8,7 +8,7 @@ use check::same;
 use std::num::wrapping_add_u64;
 
 // The answer that a file has for a line: where it ends in the file, on how many lines it stands, and how long its text is.
-#[derive(Drop)]
+#[derive(Clone, Copy)]
 struct Wanted {
     end: usize,
     lines: u64,
@@ -17,7 +17,7 @@ struct Wanted {
 
 // The next line of a file: where it ends, how long the text of the answer is that the file has for it, where the line behind that answer
 // begins, and on how many lines of the file both stand.
-#[derive(Drop)]
+#[derive(Clone, Copy)]
 pub(crate) struct Entry {
     pub(crate) end: usize,
     pub(crate) due: usize,

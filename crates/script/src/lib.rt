@@ -1,4 +1,7 @@
 // Scripts of calls that drive a desk with its tape: played, one answer for each line, or checked against the answers beside them.
+
+#![tactic(auto)]
+
 mod calls;
 pub mod cases;
 mod changes;

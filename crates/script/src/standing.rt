@@ -4,7 +4,7 @@ use printing::answers;
 use words::Script;
 
 // Where a script then stands, and how long the text of its answer is.
-#[derive(Drop)]
+#[derive(Clone, Copy)]
 pub(crate) struct Spoken {
     pub(crate) at: Script,
     pub(crate) size: usize,

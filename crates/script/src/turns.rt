@@ -21,7 +21,7 @@ pub(crate) const BYTES: usize = listing::LIMIT + 1;
 pub(crate) const TEXT: usize = listing::TEXT;
 
 // What a line leaves: the desk with its tape, where the script stands, and how long the text of the answer is.
-#[derive(Drop)]
+#[derive(Clone, Copy)]
 pub(crate) struct Turn {
     pub(crate) taped: Taped,
     pub(crate) at: Script,

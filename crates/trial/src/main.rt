@@ -1,4 +1,7 @@
 // Plays the script on standard input.
+
+#![tactic(auto)]
+
 use libc::STDIN_FILENO;
 
 fn main() {

@@ -1,4 +1,7 @@
 // Plays the files of cases that the arguments name, and scripts of as many bytes as are taken and of one more.
+
+#![tactic(auto)]
+
 use libc::STDOUT_FILENO;
 use script::cases::Tally;
 use std::num::wrapping_add_u64;

@@ -1,4 +1,7 @@
 // The words of a line: what a line asks for, in a script or with the further words of a file of cases.
+
+#![tactic(auto)]
+
 mod notation;
 mod shapes;
 mod split;
@@ -13,7 +16,7 @@ use crate::split::{following, word};
 
 // Where a script stands, but for its desk: whether the further words are understood, whether it goes on, how many bytes are lent to a
 // call that writes, how many lines were played, and how many bytes were added.
-#[derive(Drop)]
+#[derive(Clone, Copy)]
 pub struct Script {
     pub further: bool,
     pub more: bool,
@@ -40,7 +43,7 @@ impl Script {
 }
 
 // The first word of a line. Bad: the line is not understood. Pass: it is blank or begins with #, or the script has ended.
-#[derive(Drop)]
+#[derive(Clone, Copy)]
 pub enum What {
     Bad,
     Pass,
@@ -82,7 +85,7 @@ pub enum What {
 
 // A line: its word, its numbers, as far as it has any, and its bytes: a message up to size, and from there the till's own name up to end.
 // The id that a message is asked for is the first number.
-#[derive(Drop)]
+#[derive(Clone, Copy)]
 pub struct Order {
     pub what: What,
     pub first: u64,
@@ -93,14 +96,14 @@ pub struct Order {
 }
 
 // The numbers of a line.
-#[derive(Drop)]
+#[derive(Clone, Copy)]
 enum Numbers {
     Bad,
     Given(u64, u64, u64),
 }
 
 // Where the message of a line ends, and where the till's own name does behind it.
-#[derive(Drop)]
+#[derive(Clone, Copy)]
 enum Sizes {
     Bad,
     Ends(usize, usize),

@@ -6,14 +6,14 @@ ghost use Rattle.words.specs.Steps.{number_or_bad, as_size, Fits, put};
 use buffers::hex_value;
 use check::same;
 
-#[derive(Drop)]
+#[derive(Clone, Copy)]
 pub(crate) enum Number {
     Bad,
     Value(u64),
 }
 
 // How many bytes a word stands for.
-#[derive(Drop)]
+#[derive(Clone, Copy)]
 pub(crate) enum Size {
     Bad,
     Bytes(usize),

@@ -7,7 +7,7 @@ use crate::What;
 use crate::split::nth;
 
 // Behind the word of a line stand so many numbers, behind them so many runs of bytes, and behind those so many ids.
-#[derive(Drop)]
+#[derive(Clone, Copy)]
 pub(crate) struct Shaped(pub(crate) What, pub(crate) u8, pub(crate) u8, pub(crate) u8);
 
 const SCRIPT: [Shaped; 16] = [

@@ -8,7 +8,7 @@ use crate::objects::PartRead;
 use zvt_rules::{FieldAnswer, Places, ReadAnswer, Refusal, Span};
 
 // A message that was read, and where its password and the values of the four fields asked for lie.
-#[derive(Drop)]
+#[derive(Clone, Copy)]
 pub(crate) struct MessageFound {
     pub(crate) answer: ReadAnswer,
     pub(crate) places: Places,

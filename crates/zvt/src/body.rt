@@ -10,7 +10,7 @@ use crate::objects::{PartRead, Tally};
 use zvt_rules::{Header, Layout, Outline, Place, Places, Refusal, Span};
 
 // A body that was read, and where its password and the values of the four fields asked for lie.
-#[derive(Drop)]
+#[derive(Clone, Copy)]
 pub(crate) struct BodyFound {
     pub(crate) part: PartRead,
     pub(crate) places: Places,

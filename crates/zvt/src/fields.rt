@@ -12,28 +12,28 @@ use crate::objects::{
 use zvt_rules::{Format, Listed, Outline, Place, Refusal, Span};
 
 // A length in digits.
-#[derive(Drop)]
+#[derive(Clone, Copy)]
 pub(crate) enum DigitsRead {
     Number(usize),
     Refused(Refusal),
 }
 
 // Whether bytes are decimal digits throughout.
-#[derive(Drop)]
+#[derive(Clone, Copy)]
 pub(crate) enum Decimals {
     All,
     Refused(Refusal),
 }
 
 // A field that was read, and where its value begins.
-#[derive(Drop)]
+#[derive(Clone, Copy)]
 pub(crate) struct FieldFound {
     pub(crate) part: PartRead,
     pub(crate) from: usize,
 }
 
 // A list that was read, and where the values of the four fields asked for lie; nothing lies from 0 to 0.
-#[derive(Drop)]
+#[derive(Clone, Copy)]
 pub(crate) struct ListFound {
     pub(crate) part: PartRead,
     pub(crate) fields: [Span; 4],

@@ -4,7 +4,7 @@ ghost use Rattle.zvt.specs.HeaderSteps.{fitting, first_header, whole_answer};
 
 use zvt_rules::{Header, Outline, Place, Refusal};
 
-#[derive(Drop)]
+#[derive(Clone, Copy)]
 pub(crate) enum HeaderRead {
     Header(Header),
     Refused(Refusal),

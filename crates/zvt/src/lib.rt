@@ -1,5 +1,8 @@
 // The reader of ZVT messages: what the bytes of a terminal say, the same message with every length shortest, and the digits that
 // a till writes. Each function says in its contract which definition gives its answer.
+
+#![tactic(auto)]
+
 mod asking;
 mod body;
 mod digits;

@@ -11,7 +11,7 @@ use crate::objects::BoundsRead;
 use zvt_rules::{FirstAnswer, FirstRead, Layout, Listed, Outline, Refusal, Span};
 
 // What stands at a place of a list.
-#[derive(Drop)]
+#[derive(Clone, Copy)]
 pub(crate) enum Step {
     End,
     Field(Listed),

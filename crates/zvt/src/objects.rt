@@ -8,14 +8,14 @@ ghost use Rattle.zvt.specs.ObjectSteps.{tag_answer, len_answer, within, head_ans
 use zvt_rules::{Outline, Place, Refusal};
 
 // How many bytes a tag takes.
-#[derive(Drop)]
+#[derive(Clone, Copy)]
 pub(crate) enum TagRead {
     Size(usize),
     Refused(Refusal),
 }
 
 // How many bytes a length takes, and the length.
-#[derive(Drop)]
+#[derive(Clone, Copy)]
 pub(crate) enum LenRead {
     Len(usize, usize),
     Refused(Refusal),
@@ -23,7 +23,7 @@ pub(crate) enum LenRead {
 
 // Where the parts of an object or a field lie: the tag or id ends at tag, the value goes from from up to to. A nested value is a
 // run of objects.
-#[derive(Drop)]
+#[derive(Clone, Copy)]
 pub(crate) struct Bounds {
     pub(crate) tag: usize,
     pub(crate) from: usize,
@@ -31,7 +31,7 @@ pub(crate) struct Bounds {
     pub(crate) nested: bool,
 }
 
-#[derive(Drop)]
+#[derive(Clone, Copy)]
 pub(crate) enum BoundsRead {
     Bounds(Bounds),
     Refused(Refusal),
@@ -39,14 +39,14 @@ pub(crate) enum BoundsRead {
 
 // What is known of bytes that were read: how many, the objects begun by their end, and how many bytes fewer they take when
 // every length is shortest.
-#[derive(Drop)]
+#[derive(Clone, Copy)]
 pub(crate) struct Tally {
     pub(crate) size: usize,
     pub(crate) objects: u8,
     pub(crate) spare: usize,
 }
 
-#[derive(Drop)]
+#[derive(Clone, Copy)]
 pub(crate) enum PartRead {
     Part(Tally),
     Refused(Refusal),

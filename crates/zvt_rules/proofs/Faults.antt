@@ -35,7 +35,7 @@ ends : {at : ℕ} (s : List ℕ) → Within at s (fault_at 1 (at + length s))
 ends s = edge (length s) (omega arith)
 
 -- also where other bytes stand before them, or behind
-after : {at : ℕ} {s : List ℕ} {r : Refusal} (front : List ℕ) → Within (at + length front) s r → Within at (front ++ s) r
+after : {at : ℕ} {s : List ℕ} (front : List ℕ) {r : Refusal} → Within (at + length front) s r → Within at (front ++ s) r
 after {at} {s} front (byte {n = n} i l w) =
     let z : at + (length front + i) ≡ at + length front + i = omega arith in
     placed (Within at (front ++ s)) n z (byte (length front + i) (omega (arith, length-append front s)) (rw (get_or-append-add front s i 0) w))

@@ -1,18 +1,20 @@
 // The types that the definitions of a message and the code that reads one both name. The definitions stand in specs/, their laws
 // in proofs/; the code stands in crate zvt.
 
+#![tactic(auto)]
+
 ghost use Rattle.std.specs.Prelude.{◌≡◌};
 ghost use Rattle.zvt_rules.specs.Reading.{unplaced};
 
 // A place in a message, counted from 0 at its start, or none: place 0 is a place.
-#[derive(Drop)]
+#[derive(Clone, Copy)]
 pub enum Place {
     Nowhere,
     At(usize),
 }
 
 // R31: "A refusal answers its number and, where it names one (R46), its place, and nothing else."
-#[derive(Drop)]
+#[derive(Clone, Copy)]
 pub struct Refusal {
     pub number: u8,
     pub place: Place,
@@ -100,7 +102,7 @@ impl Refusal {
 }
 
 // F2: how a field's value follows its id: so many bytes, that many length digits, a container's length, or no such field.
-#[derive(Drop)]
+#[derive(Clone, Copy)]
 pub enum Format {
     Unknown,
     Fixed(usize),
@@ -109,7 +111,7 @@ pub enum Format {
 }
 
 // What a body is: plain bytes (M7), a field list (M5), or a field list after a password (M6).
-#[derive(Drop)]
+#[derive(Clone, Copy)]
 pub enum Layout {
     Plain,
     List,
@@ -117,25 +119,25 @@ pub enum Layout {
 }
 
 // What a status information tells. P20: "code (27), amount (04) and receipt (87)"
-#[derive(Drop)]
+#[derive(Clone, Copy)]
 pub enum ToldCode {
     Missing,
     Code(u8),
 }
 
-#[derive(Drop)]
+#[derive(Clone, Copy)]
 pub enum ToldAmount {
     Missing,
     Amount(u64),
 }
 
-#[derive(Drop)]
+#[derive(Clone, Copy)]
 pub enum ToldReceipt {
     Missing,
     Receipt(u16),
 }
 
-#[derive(Drop)]
+#[derive(Clone, Copy)]
 pub struct Status {
     pub code: ToldCode,
     pub amount: ToldAmount,
@@ -143,7 +145,7 @@ pub struct Status {
 }
 
 // The pair of class and instruction, where the body starts and how long it is.
-#[derive(Drop)]
+#[derive(Clone, Copy)]
 pub struct Header {
     pub class: u8,
     pub instruction: u8,
@@ -152,7 +154,7 @@ pub struct Header {
 }
 
 // An accepted message in outline: beside its header the number of its data objects, and whether every length in it was shortest.
-#[derive(Drop)]
+#[derive(Clone, Copy)]
 pub struct Outline {
     pub class: u8,
     pub instruction: u8,
@@ -173,48 +175,48 @@ impl Outline {
     pub const LEVELS: u8 = 4;
 }
 
-#[derive(Drop)]
+#[derive(Clone, Copy)]
 pub enum HeaderAnswer {
     Header(Header),
     Refused(Refusal),
 }
 
-#[derive(Drop)]
+#[derive(Clone, Copy)]
 pub enum ReadAnswer {
     Accepted(Outline),
     Refused(Refusal),
 }
 
 // The first message, and where the next begins.
-#[derive(Drop)]
+#[derive(Clone, Copy)]
 pub enum FirstAnswer {
     Accepted(Outline, usize),
     Refused(Refusal),
 }
 
 // The same with the number of its fields, whose ids were written down.
-#[derive(Drop)]
+#[derive(Clone, Copy)]
 pub struct FirstRead {
     pub answer: FirstAnswer,
     pub count: usize,
 }
 
 // How many bytes were written.
-#[derive(Drop)]
+#[derive(Clone, Copy)]
 pub enum ShortenAnswer {
     Written(usize),
     Refused(Refusal),
 }
 
 // Where a value lies in a message, from and to.
-#[derive(Drop)]
+#[derive(Clone, Copy)]
 pub struct Span {
     pub from: usize,
     pub to: usize,
 }
 
 // A field of a list: its id, and where its value lies in the message, from and to.
-#[derive(Drop)]
+#[derive(Clone, Copy)]
 pub struct Listed {
     pub id: u8,
     pub from: usize,
@@ -222,7 +224,7 @@ pub struct Listed {
 }
 
 // What a message answers that is asked for a field: where its value lies (F6), that its list has no such field (F9), or its refusal (F10).
-#[derive(Drop)]
+#[derive(Clone, Copy)]
 pub enum FieldAnswer {
     Absent,
     Value(Span),
@@ -230,27 +232,27 @@ pub enum FieldAnswer {
 }
 
 // Where a message's password lies, and the values of the fields with four ids; what is not there lies from 0 to 0.
-#[derive(Drop)]
+#[derive(Clone, Copy)]
 pub struct Places {
     pub password: Span,
     pub fields: [Span; 4],
 }
 
 // What a message tells a desk: the first byte of a plain body, and what a status information tells.
-#[derive(Drop)]
+#[derive(Clone, Copy)]
 pub struct ToldBody {
     pub first: ToldCode,
     pub status: Status,
 }
 
-#[derive(Drop)]
+#[derive(Clone, Copy)]
 pub enum ToldAnswer {
     Told(ToldBody),
     Refused(Refusal),
 }
 
 // A header, and what the body behind it tells.
-#[derive(Drop)]
+#[derive(Clone, Copy)]
 pub struct Heard {
     pub class: u8,
     pub instruction: u8,
@@ -259,7 +261,7 @@ pub struct Heard {
     pub told: ToldAnswer,
 }
 
-#[derive(Drop)]
+#[derive(Clone, Copy)]
 pub enum HearAnswer {
     Heard(Heard),
     Refused(Refusal),
