@@ -3,11 +3,13 @@ use mathlib.Core.Path.{◌≡◌, sym, ap, ◌∙◌}
 use mathlib.Core.Bool.{true, false≢true}
 use mathlib.Core.Logic.{◌↔◌, ◌⊎◌, inl, inr, ⊎_elim}
 use mathlib.Core.List.{List, [], ◌∷◌, ◌++◌, append_assoc}
-use Prim.Native.Nat.{ℕ}
+use Prim.Native.Nat.{ℕ, suc, ◌+◌, ◌≤◌, ◌<◌}
+use native.Mathlib.Numerals.{add-one}
 use native.Mathlib.Omega.{arith}
-use lib.ListN.{length}
-use borrow.Author.Tests.{eqb-true, eq-eqb}
-use Rattle.basics.specs.Lists.{among}
+use lib.ListN.{length, get_or, drop, drop_of_length-le}
+use lib.Seq.{drop-cons}
+use borrow.Author.Tests.{eqb-true, eq-eqb, ne_eqb}
+use Rattle.basics.specs.Lists.{among, index_of}
 use Rattle.basics.specs.believed.Lists.{In}
 use Rattle.basics.proofs.Tests.{or-test}
 
@@ -48,3 +50,16 @@ pub in-each : {A : Type 0} (P : A → Type 0) {x : A} (xs : List A) → Each P x
 unfolding Each
 in-each P [] h k = in-none k
 in-each P (y ∷ xs) h k = ⊎_elim (λ e. rw e h.0) (in-each P xs h.1) (in-first k)
+
+-- ---- where a byte stands first
+pub index-none : (b : ℕ) (s : List ℕ) (i : ℕ) → length s ≤ i → index_of b (drop i s) ≡ 0
+unfolding index_of
+index-none b s i h = rw (drop_of_length-le s h)
+
+pub index-here : (b : ℕ) (s : List ℕ) (i : ℕ) → i < length s → get_or s i 0 ≡ b → index_of b (drop i s) ≡ 0
+unfolding index_of
+index-here b s i h e = rw (drop-cons s i 0 h, eq-eqb (get_or s i 0) b e)
+
+pub index-later : (b : ℕ) (s : List ℕ) (i : ℕ) → i < length s → (get_or s i 0 ≡ b → ⊥) → index_of b (drop i s) ≡ suc (index_of b (drop (i + 1) s))
+unfolding index_of
+index-later b s i h n = rw (drop-cons s i 0 h, ne_eqb (get_or s i 0) b n, add-one i)

@@ -3,8 +3,9 @@
 
 #![tactic(auto)]
 
-ghost use Rattle.std.specs.Prelude.{◌≡◌, ◌<◌, min, [], ◌∷◌, length, replicate};
+ghost use Rattle.std.specs.Prelude.{◌≡◌, ◌+◌, ◌<◌, ◌≤◌, min, [], ◌∷◌, ◌++◌, length, replicate, take, drop};
 ghost use Rattle.io.specs.Counts.{IsPrefixLen};
+ghost use Rattle.basics.specs.Lists.{index_of};
 ghost use Rattle.basics.specs.Text.{text, add_all, hex_digit, hex_text, hexes, bytes_text, hex_value, decimal_text};
 
 // Every byte becomes that value.
@@ -115,4 +116,29 @@ pub fn hex_value(b: u8) -> u8
         return b - 87;
     }
     16
+}
+
+// Puts src at the start of out, and answers how many bytes that are.
+pub fn copy(src: &[u8], out: &mut [u8]) -> usize
+    requires { length src.now ≤ length out.old }
+    ensures { (result ≡ length src.now) × (out.new ≡ take (length src.now) src.now ++ drop (length src.now) out.old) }
+{
+    let n = src.len();
+    out[..n].copy_from_slice(src);
+    n
+}
+
+// The place of the first b in s from that place on, or the end of s where none follows.
+pub fn find(s: &[u8], from: usize, b: u8) -> usize
+    requires { from ≤ length s.now }
+    ensures { (result ≡ from + index_of b (drop from s.now)) × (from ≤ result) × (result ≤ length s.now) }
+{
+    let mut i = from;
+    while i < s.len() {
+        if s[i] == b {
+            return i;
+        }
+        i += 1;
+    }
+    i
 }

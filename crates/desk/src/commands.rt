@@ -23,8 +23,8 @@ fn refund_bytes(password: u32, amount: u64) -> [u8; Opening::MOST_COMMAND]
     let p = zvt::password_bytes(password);
     let sale = sale_bytes(amount);
     let mut b = [0u8; Opening::MOST_COMMAND];
-    bytes::copy(&[0x06, 0x31, 0x0D, p[0], p[1], p[2]], &mut b);
-    bytes::copy(&sale[3..], &mut b[6..]);
+    buffers::copy(&[0x06, 0x31, 0x0D, p[0], p[1], p[2]], &mut b);
+    buffers::copy(&sale[3..], &mut b[6..]);
     b
 }
 
@@ -44,13 +44,13 @@ pub(crate) fn put_command(opening: Opening, out: &mut [u8])
 {
     match opening {
         Opening::Sale { amount } => {
-            bytes::copy(&sale_bytes(amount), out);
+            buffers::copy(&sale_bytes(amount), out);
         }
         Opening::Refund { password, amount } => {
-            bytes::copy(&refund_bytes(password, amount), out);
+            buffers::copy(&refund_bytes(password, amount), out);
         }
         Opening::Reversal { password, receipt } => {
-            bytes::copy(&reversal_bytes(password, receipt), out);
+            buffers::copy(&reversal_bytes(password, receipt), out);
         }
     }
 }
@@ -88,7 +88,7 @@ pub(crate) fn would_open(s: &[u8]) -> Opening
     ensures { result ≡ supposed s.now }
 {
     let mut b = [0u8; Opening::MOST_COMMAND];
-    bytes::copy(s, &mut b);
+    buffers::copy(s, &mut b);
     supposed_in(b)
 }
 

@@ -240,6 +240,6 @@ pub(crate) fn put_reply(size: usize, out: &mut [u8])
     ensures { out.new ≡ replied size out.old }
 {
     if size == 3 {
-        bytes::copy(&[0x80, 0x00, 0x00], out);
+        buffers::copy(&[0x80, 0x00, 0x00], out);
     }
 }

@@ -49,7 +49,7 @@ fn add_expanded(s: &[u8], bytes: &[u8], at: usize, out: &mut [u8]) -> usize {
     let mut to = at;
     let mut from: usize = 0;
     while from < s.len() {
-        let end = bytes::scan::find(s, from, s.len(), b' ');
+        let end = buffers::find(s, from, b' ');
         to = add_word(&s[from..end], bytes, to, out);
         if end == s.len() {
             return to;
@@ -69,7 +69,7 @@ fn wants(at: usize, s: &[u8], bytes: &[u8], out: &mut [u8]) -> Wanted
     let mut lines: u64 = 0;
     let mut from = at;
     while from < s.len() {
-        let end = bytes::scan::find(s, from, s.len(), b'\n');
+        let end = buffers::find(s, from, b'\n');
         if end - from < 2 || s[from] != b'=' {
             return Wanted {
                 end: from,
@@ -96,7 +96,7 @@ pub(crate) fn next_of(from: usize, s: &[u8], count: usize, added: &[u8], want: &
     ensures { (from ≤ result.end) × (result.end ≤ length s.now) × (from < result.next) × (result.next ≤ length s.now) }
 {
     let n = upto(count, added);
-    let end = bytes::scan::find(s, from, s.len(), b'\n');
+    let end = buffers::find(s, from, b'\n');
     let w = wants(behind(end, s), s, &added[..n], want);
     Entry {
         end,

@@ -36,7 +36,7 @@ fn play_in(script: &[u8], file: &mut [u8], room: &mut [u8], added: &mut [u8], te
     let mut turn = turns::fresh(false);
     let mut from: usize = 0;
     while from < script.len() {
-        let to = bytes::scan::find(script, from, script.len(), b'\n');
+        let to = buffers::find(script, from, b'\n');
         turn = turns::line(turn, &script[from..to], file, room, added, text);
         let end = upto(turn.size, text);
         io::write_all(STDOUT_FILENO, &text[..end]);

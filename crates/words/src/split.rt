@@ -44,7 +44,7 @@ pub(crate) fn word<'a>(s: &'a [u8], k: usize) -> &'a [u8]
     ensures { result.now ≡ word_of k s.now }
 {
     let from = start(s, k);
-    let to = bytes::scan::find(s, from, s.len(), b' ');
+    let to = buffers::find(s, from, b' ');
     &s[from..to]
 }
 

@@ -18,7 +18,7 @@ pub(crate) fn put(v: &[u8], out: &mut [u8]) -> usize
     ensures { Put v.now out.old result out.new }
 {
     let at = out.len() - v.len();
-    bytes::copy(v, &mut out[at..]);
+    buffers::copy(v, &mut out[at..]);
     at
 }
 
