@@ -1,5 +1,5 @@
 -- `zvt::fields::read_list` meets its contract. Assumes nothing.
-use Rattle.std.proofs.Common.{◌≡◌, ℕ, ◌+◌, ◌<◌, ◌≤◌, List, [], ◌∷◌, length, get_or, sym, ◌∙◌, arith, rules}
+use Rattle.std.proofs.Common.{◌≡◌, [], ◌∷◌, length, sym, ◌∙◌, arith, rules}
 use Rattle.zvt.proofs.Slices.{bytes-known}
 use Rattle.zvt.proofs.FieldReads.{from-inside}
 use Rattle.zvt.proofs.ListLaws.{marks-none, marks-more, GoesOn, list-begins, list-ends, list-stops, list-goes-on, Listing, list-notes}

@@ -1,5 +1,5 @@
 -- `zvt::fields::read_value` meets its contract. Assumes nothing.
-use Rattle.std.proofs.Common.{◌≤◌, length, refl, sym, ap, ◌∙◌, arith, rules, false}
+use Rattle.std.proofs.Common.{refl, sym, ap, ◌∙◌, arith, rules, false}
 use Rattle.std.proofs.lemmas.Bool.{not-true, not-false}
 use Rattle.zvt.specs.declared.objects.PartRead.TheVariants.{Part}
 use Rattle.zvt.proofs.Slices.{bytes-known}

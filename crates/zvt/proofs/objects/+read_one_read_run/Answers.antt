@@ -1,12 +1,12 @@
 -- `zvt::objects::read_one` and `zvt::objects::read_run` meet their contracts: what the answer is at each return, and where the next
 -- object and the value of an object lie. Assumes nothing.
-use Rattle.std.proofs.Common.{◌+◌, ◌≤◌, ◌<◌, sym, ap, ◌∙◌, arith}
+use Rattle.std.proofs.Common.{◌+◌, sym, ap, ◌∙◌, arith}
 use Rattle.std.proofs.lemmas.Bool.{not-true, not-false}
 use Rattle.zvt.specs.declared.objects.PartRead.TheVariants.{Part}
 use Rattle.zvt.proofs.Slices.{bytes-known}
 use Rattle.zvt.proofs.RunLaws.{GoesOn, run-begins, run_ends, run-stops, run-goes-on, one-full, one-deep, value-in, Answered, one-no-head, one-leaf, one-no-inner, one-branch}
 use Rattle.zvt.proofs.objects.+read_one_read_run.Goals as goal
-use Rattle.zvt.proofs.objects.+read_one_read_run.Goals.{read_one-Then-not-b, read_one-Else-not-b, read_one-In-Part, read_run-In-Part}
+use Rattle.zvt.proofs.objects.+read_one_read_run.Goals.{read_one-Then-not-b, read_one-In-Part, read_run-In-Part}
 
 -- ---- an object
 is_leaf : (t : _) (c : read_one-Then-not-b t) → Answered c.args.left c.args.n c.args.at c.args.s.now c.in-Bounds.b (c.args.n + 1) 0
