@@ -11,4 +11,3 @@ returns-then-lane-ge-COUNT c = rw (c.unplaced.ensures, le-ltb _ _ c.if-lane-ge-C
 pub returns : goal.returns
 unfolding lane_answer
 returns c = rw (lt-ltb _ _ c.if-lane-ge-COUNT.false)
--- needs in order: unplaced-requires>unplaced-requires, returns>returns-then-lane-ge-COUNT, mul-t7>offset_bounds-desk-at, element_copy_out-t10>bounds-desk-at, returns-2>returns

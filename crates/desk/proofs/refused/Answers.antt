@@ -6,4 +6,3 @@ use Rattle.desk.proofs.refused.Goals as goal
 pub returns : goal.returns
 unfolding refused_answer
 returns c = rw c.unplaced.ensures
--- needs in order: unplaced-requires>unplaced-requires, returns>returns

@@ -10,4 +10,3 @@ returns-in-Missing c = rw c.in-Missing.is
 pub returns-in-Code : goal.returns-in-Code
 unfolding aborted_by
 returns-in-Code c = rw c.in-Code.is
--- needs in order: enum_told>enum_told-1, enum_known-first>enum_known-first, returns>returns-in-Missing, returns-2>returns-in-Code

@@ -6,4 +6,3 @@ use Rattle.desk.proofs.hear.ending_line.Goals as goal
 pub returns : goal.returns
 unfolding line_at
 returns c = rw c.receipt_by-receipt.ensures
--- needs in order: receipt_by-requires>receipt_by-receipt-requires, returns>returns

@@ -23,4 +23,3 @@ returns-in-Passing c = rw c.in-Passing.is
 pub returns-in-NotAllowed : goal.returns-in-NotAllowed
 unfolding moved_for
 returns-in-NotAllowed c = c.refused.ensures ∙ rw c.in-NotAllowed.is
--- needs in order: enum_told>enum_told-1, completed-requires>completed-requires, enum_told-2>enum_told-in-Abort, aborted-requires>aborted-requires, enum_told-3>enum_told-in-Report, reported-requires>reported-requires, enum_told-4>enum_told-in-Passing, enum_told-5>enum_told-in-NotAllowed, refused-requires>refused-requires, returns>returns-in-Completion, returns-2>returns-in-Abort, returns-3>returns-in-Report, returns-4>returns-in-Passing, returns-5>returns-in-NotAllowed

@@ -13,4 +13,3 @@ returns-in-Missing c = rw c.in-Missing.is
 
 pub returns-in-Code : goal.returns-in-Code
 returns-in-Code c = ap Becomes c.reported.ensures ∙ sym (reported-code _ _ _ c.in-Code.is)
--- needs in order: enum_told>enum_told-1, enum_told-2>enum_told-in-Code, reported-requires>reported-requires, returns>returns-in-Missing, returns-2>returns-in-Code
