@@ -52,5 +52,5 @@ returns c =
     let a = c.args in
     let o = sym c.is_idle.ensures ∙ c.if-is_idle.false in
     let r = taken_as a.desk c.requires (lost a.lane) tt [] (record { reply = Written 0; desk = c.moved-d.result }) [] (accepts a.desk a.lane c.if-lane-ge-COUNT.false o)
-            (rw (lost-open (lane_at a.desk.lanes a.lane) o, c.moved-d.ensures)) refl in
+    (rw (lost-open (lane_at a.desk.lanes a.lane) o, c.moved-d.ensures)) refl in
     record { answer = r.0; valid = r.1.1 }

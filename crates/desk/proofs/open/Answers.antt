@@ -84,7 +84,7 @@ returns-then-out-size c =
     let call = opening a.lane a.opening in
     let p = passes (goal.at.returns-then-out-size c).In_default in
     let e = no_room a.desk call _ c.if-lane-ge-COUNT.false p (sym c.no_line.ensures ∙ c.if-no_line.false)
-            (rw (command-size a.opening ∙ sym c.command_size-size.ensures) c.if-out-size.true) in
+    (rw (command-size a.opening ∙ sym c.command_size-size.ensures) c.if-out-size.true) in
     let r = refused_as a.desk c.requires call tt a.out.now _ (unplaced 11) e c.refused-then-out-size.ensures in
     record { answer = r.0; lent = r.1.0; valid = r.1.1 }
 
@@ -110,7 +110,7 @@ returns c =
     let few = sym c.no_line.ensures ∙ c.if-no_line.false in
     let fits = roomy a.opening _ _ c.command_size-size.ensures c.if-out-size.false in
     let r = taken_as a.desk c.requires (opening a.lane a.opening) tt a.out.now (record { reply = Written c.command_size-size.result; desk = c.moved-d.result }) _
-            (accepts asked few fits)
-            (written (c.command_size-size.ensures ∙ sym (command-size a.opening)) (c.moved-d.ensures ∙ ap (moved_desk a.desk a.lane) (sym (lane-moves asked))))
-            c.put_command.ensures in
+    (accepts asked few fits)
+    (written (c.command_size-size.ensures ∙ sym (command-size a.opening)) (c.moved-d.ensures ∙ ap (moved_desk a.desk a.lane) (sym (lane-moves asked))))
+    c.put_command.ensures in
     record { answer = r.0; lent = r.1.0; valid = r.1.1 }

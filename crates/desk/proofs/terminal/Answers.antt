@@ -64,7 +64,7 @@ unfolding lane_of moves writes NumbersFit
 returns c =
     let a = c.args in
     let r = taken_as a.desk c.requires (message a.lane a.s.now) (bytes-known _ c.type_inv.s) a.out.now (record { reply = Written c.reply_size-size.result; desk = c.moved-d.result }) _
-            (accepts (goal.at.returns c).In_default (rw c.reply_size-size.ensures at c.if-out-size.false))
-            (written c.reply_size-size.ensures (c.moved-d.ensures ∙ ap (moved_desk a.desk a.lane) c.heard-m.ensures))
-            (c.put_reply.ensures ∙ rw c.reply_size-size.ensures (replied-is _ a.out.now)) in
+    (accepts (goal.at.returns c).In_default (rw c.reply_size-size.ensures at c.if-out-size.false))
+    (written c.reply_size-size.ensures (c.moved-d.ensures ∙ ap (moved_desk a.desk a.lane) c.heard-m.ensures))
+    (c.put_reply.ensures ∙ rw c.reply_size-size.ensures (replied-is _ a.out.now)) in
     record { answer = r.0; lent = r.1.0; valid = r.1.1 }
