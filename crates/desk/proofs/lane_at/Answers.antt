@@ -1,7 +1,6 @@
 -- `desk::lane_at` meets its contract. Assumes nothing.
 use borrow.Author.Tests.{lt-ltb, le-ltb}
 use Rattle.desk_rules.specs.Memory.{lane_answer}
-use borrow.Author.Rules.{rules}
 use Rattle.desk.proofs.lane_at.Goals as goal
 
 pub returns-then-lane-ge-COUNT : goal.returns-then-lane-ge-COUNT

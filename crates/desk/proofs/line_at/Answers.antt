@@ -6,7 +6,6 @@ use lib.Seq.{length-take-le, get_or-take}
 use borrow.Author.Tests.{lt-ltb, le-ltb}
 use Rattle.desk_rules.specs.Lanes.{blank_line}
 use Rattle.desk_rules.specs.Memory.{lines_of_desk, line_answer}
-use borrow.Author.Rules.{rules}
 use Rattle.desk.proofs.line_at.Goals as goal
 
 pub returns-then-book-k : goal.returns-then-book-k

@@ -1,7 +1,7 @@
 -- `desk::net` meets its contract. The loop's invariant: `plus` and `minus` are the gains and the losses of the first `i` lines.
 -- Assumes nothing.
 use mathlib.Core.Path.{◌≡◌, ◌∙◌}
-use Prim.Native.Nat.{ℕ, ◌≤◌, ◌<◌, ◌-◌, ◌^◌}
+use Prim.Native.Nat.{ℕ, ◌≤◌, ◌<◌, ◌^◌}
 use native.Mathlib.Omega.{arith}
 use lib.ListN.{get_or, take}
 use mir.Facts.{to_z-of_z}

@@ -1,6 +1,5 @@
 -- `desk::refused` meets its contract. Assumes nothing.
 use Rattle.desk_rules.specs.Memory.{refused_answer}
-use borrow.Author.Rules.{rules}
 use Rattle.desk.proofs.refused.Goals as goal
 
 pub returns : goal.returns

@@ -1,6 +1,5 @@
 -- `desk::hear::aborted` meets its contract. Assumes nothing.
 use Rattle.desk_rules.specs.Course.{aborted_by}
-use borrow.Author.Rules.{rules}
 use Rattle.desk.proofs.hear.aborted.Goals as goal
 
 pub returns-in-Missing : goal.returns-in-Missing

@@ -1,7 +1,6 @@
 -- `desk::hear::completed` meets its contract. Assumes nothing.
 use borrow.Author.Tests.{ne_eqb}
 use Rattle.desk_rules.specs.Course.{completed_by}
-use borrow.Author.Rules.{rules}
 use Rattle.desk.proofs.hear.completed.Goals as goal
 
 pub returns-then-c-ne0 : goal.returns-then-c-ne0

@@ -1,6 +1,5 @@
 -- `desk::hear::ending_line` meets its contract. Assumes nothing.
 use Rattle.desk_rules.specs.Lanes.{line_at}
-use borrow.Author.Rules.{rules}
 use Rattle.desk.proofs.hear.ending_line.Goals as goal
 
 pub returns : goal.returns

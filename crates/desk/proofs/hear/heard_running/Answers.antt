@@ -1,5 +1,5 @@
 -- `desk::hear::heard_running` meets its contract. Assumes nothing.
-use Rattle.std.proofs.Common.{◌≡◌, ℕ, ◌+◌, ◌*◌, sym, ◌∙◌}
+use Rattle.std.proofs.Common.{◌≡◌, ◌+◌, ◌*◌, sym, ◌∙◌}
 use Rattle.zvt_rules.specs.declared.Heard.{Heard}
 use Rattle.desk_rules.specs.declared.Lane.{Lane}
 use Rattle.desk.specs.declared.hear.Said.{Said}

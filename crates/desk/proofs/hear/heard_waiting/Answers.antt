@@ -3,7 +3,6 @@ use borrow.Author.Tests.{ne_eqb}
 use Rattle.desk_rules.specs.Course.{heard_waiting}
 use Rattle.desk.specs.Hear.{header_by, waiting_moved}
 use mathlib.Core.Path.{◌∙◌}
-use borrow.Author.Rules.{rules}
 use Rattle.desk.proofs.hear.heard_waiting.Goals as goal
 
 pub returns-then-h-ne0 : goal.returns-then-h-ne0

@@ -1,7 +1,6 @@
 -- `desk::hear::moved_by` meets its contract. Assumes nothing.
 use mathlib.Core.Path.{◌∙◌}
 use Rattle.desk.specs.Hear.{moved_for}
-use borrow.Author.Rules.{rules}
 use Rattle.desk.proofs.hear.moved_by.Goals as goal
 
 pub returns-in-Completion : goal.returns-in-Completion

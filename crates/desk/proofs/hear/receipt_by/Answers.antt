@@ -1,7 +1,6 @@
 -- `desk::hear::receipt_by` meets its contract. Assumes nothing.
 use mathlib.Core.Path.{sym, ◌∙◌}
 use Rattle.desk.proofs.HearLaws.{receipt-kind}
-use borrow.Author.Rules.{rules}
 use Rattle.desk.proofs.hear.receipt_by.Goals as goal
 
 pub returns-then-is_reversal : goal.returns-then-is_reversal

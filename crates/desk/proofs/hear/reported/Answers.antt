@@ -4,7 +4,6 @@ use Rattle.desk_rules.specs.declared.Moved.TheVariants.{Becomes}
 use Rattle.desk_rules.specs.Course.{reported_by}
 use Rattle.desk.specs.Hear.{reported_as}
 use Rattle.desk.proofs.HearLaws.{reported-code}
-use borrow.Author.Rules.{rules}
 use Rattle.desk.proofs.hear.reported.Goals as goal
 
 pub returns-in-Missing : goal.returns-in-Missing

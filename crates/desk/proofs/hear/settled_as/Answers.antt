@@ -2,7 +2,6 @@
 use mathlib.Core.Path.{sym, ◌∙◌}
 use borrow.Author.Tests.{eq-eqb, ne_eqb}
 use Rattle.desk_rules.specs.Course.{settled_as}
-use borrow.Author.Rules.{rules}
 use Rattle.desk.proofs.hear.settled_as.Goals as goal
 
 pub returns-then-amount-asked : goal.returns-then-amount-asked
