@@ -3,7 +3,6 @@ use borrow.Author.Tests.{ne_eqb}
 use Rattle.desk_rules.specs.Course.{heard_waiting}
 use Rattle.desk.specs.Hear.{header_by, waiting_moved}
 use mathlib.Core.Path.{◌∙◌}
-use borrow.Author.Rules.{rules}
 use Rattle.desk.proofs.hear.heard_waiting.Goals as goal
 
 pub returns-then-h-ne0 : goal.returns-then-h-ne0
@@ -31,4 +30,3 @@ pub returns : goal.returns
 unfolding waiting_moved heard_waiting header_by
 returns c =
     rw (c.running.ensures, c.if-h-ne0.false, c.if-h-ne128.false, c.if-h-ne0-2.false)
--- needs in order: refused-requires>refused-requires, returns>returns-then-h-ne0, returns-2>returns-then-h-eq132, refused-requires-2>refused-requires-then-h-ne128, returns-3>returns-then-h-ne128, refused-requires-3>refused-requires-then-h-ne0-2, returns-4>returns-then-h-ne0-2, running-requires>running-requires, returns-5>returns

@@ -1,7 +1,6 @@
 -- `desk::hear::moved_by` meets its contract. Assumes nothing.
 use mathlib.Core.Path.{◌∙◌}
 use Rattle.desk.specs.Hear.{moved_for}
-use borrow.Author.Rules.{rules}
 use Rattle.desk.proofs.hear.moved_by.Goals as goal
 
 pub returns-in-Completion : goal.returns-in-Completion
@@ -23,4 +22,3 @@ returns-in-Passing c = rw c.in-Passing.is
 pub returns-in-NotAllowed : goal.returns-in-NotAllowed
 unfolding moved_for
 returns-in-NotAllowed c = c.refused.ensures ∙ rw c.in-NotAllowed.is
--- needs in order: enum_told>enum_told-1, completed-requires>completed-requires, enum_told-2>enum_told-in-Abort, aborted-requires>aborted-requires, enum_told-3>enum_told-in-Report, reported-requires>reported-requires, enum_told-4>enum_told-in-Passing, enum_told-5>enum_told-in-NotAllowed, refused-requires>refused-requires, returns>returns-in-Completion, returns-2>returns-in-Abort, returns-3>returns-in-Report, returns-4>returns-in-Passing, returns-5>returns-in-NotAllowed
