@@ -10,7 +10,7 @@ use Rattle.desk_rules.specs.declared.Line.{Line}
 use Rattle.desk_rules.specs.declared.Reference.TheVariants.{Sold}
 use Rattle.desk_rules.specs.Kinds.{is_approved}
 use Rattle.desk_rules.specs.Lanes.{blank_line}
-use Rattle.desk_rules.specs.Openings.{last_from, last_line, sold}
+use Rattle.desk_rules.specs.Openings.{concerns, last_from, last_line, sold}
 use Rattle.desk_rules.specs.believed.LastSale.{None, Last, Concerned, Named}
 use Rattle.desk_rules.proofs.LastSale.{is-sale, concerned-exactly}
 
@@ -37,7 +37,7 @@ module _ (i receipt : ℕ) where
   unfolding last_from
   last-from first line [] after c n =
       ap (λ (t : Bool). last_from i (Sold receipt) (pick t line first) after) ((concerned-exactly i receipt line).1 c) ∙ none_from line after n
-  last-from first line (l ∷ before) after c n = last-from _ line before after c n
+  last-from first line (l ∷ before) after c n = last-from (pick (concerns i (Sold receipt) l) l first) line before after c n
 
   module _ (ls : List Line) where
     last-is : (line : Line) → Last (Concerned i receipt) ls line → last_line i (Sold receipt) ls ≡ line

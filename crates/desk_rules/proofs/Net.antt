@@ -54,10 +54,10 @@ unfolding Blocks total
 takings-are [] none b = (refl, refl)
 takings-are (x ∷ xs) none b = absurd b
 takings-are [] (more d c t) b = absurd b
-takings-are (x ∷ xs) (more d c t) b =
+takings-are {before} (x ∷ xs) (more {l = l} d c t) b =
     let e = due-same b.0.due d in
     let k = counts-are c in
-    let r = takings-are xs t (rw e at b.1) in
+    let r = takings-are {before = before ++ (l ∷ [])} xs t (rw e at b.1) in
     rw e (ap₂ (λ (a b : ℕ). a + b) k.0 r.0, ap₂ (λ (a b : ℕ). a + b) k.1 r.1)
 
 takings-there : (before : List Line) (ps : List (List Call)) (xs : List Line) → Blocks before ps xs → (plus : ℕ) × (minus : ℕ) × Takings before ps plus minus

@@ -62,7 +62,7 @@ last-last : (i : ℕ) (r : Reference) (first : Line) (ls : List Line) (l : Line)
     → last_from i r first (ls ++ (l ∷ [])) ≡ pick (concerns i r l) l (last_from i r first ls)
 unfolding last_from
 last-last i r first [] l = refl
-last-last i r first (x ∷ ls) l = last-last i r _ ls l
+last-last i r first (x ∷ ls) l = last-last i r (pick (concerns i r x) x first) ls l
 
 pub last-take : (i : ℕ) (r : Reference) (ls : List Line) (k : ℕ) → k < length ls → let l = get_or ls k blank_line in
     last_line i r (take (k + 1) ls) ≡ pick (concerns i r l) l (last_line i r (take k ls))

@@ -1,0 +1,17 @@
+-- `zvt::digits::put_digits` meets its contract. The invariant: the digits of v in i bytes, and the bytes that stand from the
+-- i-th on, are the digits of n; the measure is i. Assumes nothing.
+use mathlib.Core.Path.{◌≡◌, refl, sym, ◌∙◌}
+use mathlib.Core.List.{◌++◌, append-nil}
+use Prim.Native.Nat.{suc, ◌-◌, ◌<◌, ◌≤◌}
+use native.Mathlib.Omega.{arith}
+use lib.ListN.{length, drop, length-set}
+use lib.Seq.{drop-length}
+use Rattle.zvt_rules.specs.Digits.{digit_bytes_of}
+use Rattle.zvt_rules.proofs.DigitLaws.{digits-put}
+use Rattle.zvt.proofs.digits.put_digits.Given as goal
+
+abbrev pub invariant-loop-i : goal.invariant-loop-i
+invariant-loop-i l = (l.i ≤ length l.out) × (length l.out ≡ length l.initial.out) × (digit_bytes_of l.i l.v ++ drop l.i l.out ≡ digit_bytes_of (length l.initial.out) l.n)
+
+abbrev pub decreases-loop-i : goal.decreases-loop-i
+decreases-loop-i l = l.i

@@ -1,0 +1,65 @@
+-- `zvt::fields::digits_of` meets its contract. The invariant: the digits from i on, behind those that gave v, answer as the
+-- whole does; the measure is the number of digits left. Assumes nothing.
+use mathlib.Core.Path.{◌≡◌, sym, ap, ◌∙◌}
+use mathlib.Core.Bool.{false}
+use mathlib.Core.Logic.{inl, inr, ⊎_elim}
+use Prim.Native.Nat.{ℕ, ◌+◌, ◌-◌, ◌^◌, ◌<◌, ◌≤◌}
+use native.Mathlib.Numerals.{add-one}
+use native.Mathlib.Nat.{add-zero, sub-zero, pow-succ', pow-le-pow_right}
+use native.Mathlib.Omega.{arith}
+use lib.ListN.{get_or, drop}
+use borrow.Author.Tests.{ltb-true, ltb-false}
+use Rattle.zvt_rules.specs.Fields.{length_digit, digits_of}
+use Rattle.zvt_rules.proofs.FieldReading.{digit-test, digit-fails, digits-end, digits-cut, digits-on, digits-stop}
+use Rattle.zvt.specs.FieldSteps.{as_digits, digits_answer}
+use Rattle.zvt.proofs.fields.digits_of.Goals as goal
+
+below : (i : ℕ) → i ≤ 2 → 10 ^ i ≤ 100
+below i h = pow-le-pow_right {n = 10} (omega arith) h
+
+pub loop-i-init : goal.loop-i-init
+unfolding digits_answer
+loop-i-init c = (omega arith, omega arith, rw (sub-zero, add-zero))
+
+pub returns-then-s-i : goal.returns-then-s-i
+unfolding as_digits
+returns-then-s-i c =
+    let l = c.loop-i in
+    sym (l.invariant.2 ∙ ap as_digits (digits-cut _ l.v _ _ l.i c.loop-i-test.true c.if-s-i.true))
+
+pub returns-then-b-lt240 : goal.returns-then-b-lt240
+unfolding as_digits
+returns-then-b-lt240 c =
+    let l = c.loop-i in
+    let no-digit : length_digit (get_or c.args.s.now l.i 0) ≡ false =
+    (digit-fails _).1 (⊎_elim (λ w. inl w.true) (λ w. inr (omega (arith, ltb-true))) c.then-b-lt240.branch) in
+    sym (l.invariant.2 ∙ ap as_digits (digits-stop _ l.v _ _ l.i c.loop-i-test.true c.if-s-i.false no-digit))
+
+pub overflow_mul-v : goal.overflow_mul-v
+overflow_mul-v c =
+    let l = c.loop-i in
+    omega (arith, ltb-false, below l.i (omega arith), l.invariant.1)
+
+pub overflow_add-v : goal.overflow_add-v
+overflow_add-v c =
+    let l = c.loop-i in
+    omega (arith, ltb-false, below l.i (omega arith), l.invariant.1)
+
+pub loop-i-preserved : goal.loop-i-preserved
+loop-i-preserved c =
+    let l = c.loop-i in
+    let high : get_or c.args.s.now l.i 0 ≤ 249 = omega (arith, ltb-false) in (
+      omega arith,
+      rw (add-one l.i, pow-succ' 10 l.i) (omega (arith, high, l.invariant.1)),
+      l.invariant.2
+          ∙ ap as_digits (digits-on _ l.v _ _ l.i (omega arith) (omega arith) ((digit-test _).1 (c.then-b-lt240.false, high))),
+    )
+
+pub returns : goal.returns
+unfolding as_digits
+returns c =
+    let l = c.loop-i in
+    sym (l.invariant.2 ∙ ap as_digits (digits-end _ l.v _ _ l.i c.loop-i-test.false))
+
+-- inline 7: λ c. omega (arith, ltb-false)
+-- needs in order: loop-init>loop-i-init, add-place>overflow_add-place, returns>returns-then-s-i, shared_slice_read-b>bounds-s-i, returns-2>returns-then-b-lt240, cast-digit>overflow_cast-digit, mul-v>overflow_mul-v, add-v>overflow_add-v, add-i>overflow_add-i, loop-smaller>loop-i-smaller, loop-preserved>loop-i-preserved, returns-3>returns

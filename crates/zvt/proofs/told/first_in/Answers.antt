@@ -1,0 +1,21 @@
+-- `zvt::told::first_in` meets its contract. Assumes nothing.
+use mathlib.Core.Path.{sym, ◌∙◌}
+use borrow.Author.Rules.{rules}
+use Rattle.zvt.proofs.ToldLaws.{first-none, first_plain, first-list, first-secured}
+use Rattle.zvt.proofs.told.first_in.Goals as goal
+
+pub returns-then-s-at : goal.returns-then-s-at
+returns-then-s-at c = first-none _ _ c.requires c.if-s-at.true
+
+pub returns-in-Plain : goal.returns-in-Plain
+returns-in-Plain c =
+    first_plain _ _ c.requires (sym c.layout_of.ensures ∙ c.in-Plain.is) c.if-s-at.false
+
+pub returns-in-List : goal.returns-in-List
+returns-in-List c =
+    first-list _ _ c.requires (sym c.layout_of.ensures ∙ c.in-List.is)
+
+pub returns-in-Secured : goal.returns-in-Secured
+returns-in-Secured c =
+    first-secured _ _ c.requires (sym c.layout_of.ensures ∙ c.in-Secured.is)
+-- needs in order: returns>returns-then-s-at, layout_of-requires>layout_of-requires, enum_told>enum_told-1, shared_slice_read-t9>bounds-s-at, enum_told-2>enum_told-in-List, enum_told-3>enum_told-in-Secured, returns-2>returns-in-Plain, returns-3>returns-in-List, returns-4>returns-in-Secured

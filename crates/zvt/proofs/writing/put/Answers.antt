@@ -1,0 +1,21 @@
+-- `put` meets its contract: a copy to the last part of the buffer. Assumes nothing.
+use mathlib.Core.Path.{refl, ap, ◌∙◌}
+use mathlib.Core.List.{List, ◌++◌}
+use Prim.Native.Nat.{ℕ, ◌-◌}
+use lib.ListN.{length, take, drop}
+use Rattle.zvt.proofs.Back.{put-copied}
+use borrow.Author.Rules.{rules}
+use Rattle.zvt.proofs.writing.put.Goals as goal
+
+pub returns : goal.returns
+returns c =
+    let v = c.args.v.now in
+    let d = c.args.out.now in
+    let at = length d - length v in
+    record {
+      rest = refl;
+      done =
+          ap (λ (y : List ℕ). take at d ++ (y ++ drop (length d - at) (drop at d))) c.copy.ensures.1
+          ∙ put-copied v d c.requires;
+    }
+-- needs in order: sub-at>overflow_sub-at, sub-copy>slice_bounds-copy-count, part-copy-start>slice_bounds-copy-start, part-copy-end>slice_bounds-copy-end, copy-requires>copy-requires, same_length>shape_of-out, returns>returns
