@@ -3,7 +3,7 @@
 
 #![tactic(auto)]
 
-ghost use Rattle.std.specs.Prelude.{◌≡◌, ◌+◌, ◌<◌, ◌≤◌, min, [], ◌∷◌, ◌++◌, length, replicate, take, drop};
+ghost use Rattle.std.specs.Prelude.{◌≡◌, ◌+◌, ◌<◌, ◌≤◌, min, max, [], ◌∷◌, ◌++◌, length, replicate, take, drop};
 ghost use Rattle.io.specs.Counts.{IsPrefixLen};
 ghost use Rattle.basics.specs.Lists.{index_of};
 ghost use Rattle.basics.specs.Text.{text, add_all, hex_digit, hex_text, hexes, bytes_text, hex_value, decimal_text};
@@ -118,20 +118,20 @@ pub fn hex_value(b: u8) -> u8
     16
 }
 
-// Puts src at the start of out, and answers how many bytes that are.
+// Puts src at the start of out, as much of it as there is room for, and answers how many bytes that are.
 pub fn copy(src: &[u8], out: &mut [u8]) -> usize
-    requires { length src.now ≤ length out.old }
-    ensures { (result ≡ length src.now) × (out.new ≡ take (length src.now) src.now ++ drop (length src.now) out.old) }
+    ensures size { result ≡ min (length src.now) (length out.old) }
+    ensures bytes { out.new ≡ take result src.now ++ drop result out.old }
 {
-    let n = src.len();
-    out[..n].copy_from_slice(src);
+    let n = upto(out.len(), src);
+    out[..n].copy_from_slice(&src[..n]);
     n
 }
 
-// The place of the first b in s from that place on, or the end of s where none follows.
+// The place of the first b in s from that place on; where none follows, the end of s, or that place where it lies behind the end.
 pub fn find(s: &[u8], from: usize, b: u8) -> usize
-    requires { from ≤ length s.now }
-    ensures { (result ≡ from + index_of b (drop from s.now)) × (from ≤ result) × (result ≤ length s.now) }
+    ensures place { result ≡ from + index_of b (drop from s.now) }
+    ensures within { (from ≤ result) × (result ≤ max from (length s.now)) }
 {
     let mut i = from;
     while i < s.len() {

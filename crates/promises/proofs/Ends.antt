@@ -209,6 +209,12 @@ buffers-add-decimal-ends = (λ M. buffers.add_decimal.Met.met, λ κs a. refl)
 pub buffers-hex-value-ends : Ends buffers.hex_value.Statement.statement × AsksNothing buffers.hex_value.Reads.Asked
 buffers-hex-value-ends = (λ M. buffers.hex_value.Met.met, λ κs a. refl)
 
+pub buffers-copy-ends : Ends buffers.copy.Statement.statement × AsksNothing buffers.copy.Reads.Asked
+buffers-copy-ends = (λ M. buffers.copy.Met.met, λ κs a. refl)
+
+pub buffers-find-ends : Ends buffers.find.Statement.statement × AsksNothing buffers.find.Reads.Asked
+buffers-find-ends = (λ M. buffers.find.Met.met, λ κs a. refl)
+
 -- ---- listing: the text of a listing
 pub listing-add-ids-ends : Ends listing.add_ids.Statement.statement × AsksNothing listing.add_ids.Reads.Asked
 listing-add-ids-ends = (λ M. listing.add_ids.Met.met, λ κs a. refl)

@@ -7,10 +7,10 @@ use Prim.Native.Nat.{ℕ, zero, suc, ◌+◌, ◌-◌, ◌≤◌, ◌<◌}
 use native.Mathlib.Numerals.{add-one}
 use native.Mathlib.Omega.{arith}
 use lib.ListN.{length, get_or, take, drop, drop_of_length-le}
-use lib.Seq.{drop-cons, take-length}
+use lib.Seq.{drop-cons}
 use lib.Dec.{eqb}
 use borrow.Author.Tests.{eq-eqb, ne_eqb, eqb-true, eqb-false}
-use Rattle.bytes.specs.Bytes.{index_of, slice}
+use Rattle.basics.specs.Lists.{index_of}
 use Rattle.basics.proofs.Tests.{by-test, no-for, and-test, eqb-test}
 use Rattle.words.specs.Split.{behind, words_of, following, word_of, alike}
 use Rattle.words.specs.Steps.{nth_in}
@@ -98,12 +98,10 @@ first_word (b ∷ s) =
     by-test (eqb b 32) (λ t. ap at (words-blank b s (eqb-true b 32 t)) ∙ rw t)
     (λ t. ap at (words-other b s (eqb-false b 32 t)) ∙ rw t (ap (λ (w : List ℕ). b ∷ w) (first_word s)))
 
-pub word-found : (s : List ℕ) (k from to : ℕ) → to ≡ from + index_of 32 (slice from (length s) s) → word_of 0 (drop from s) ≡ word_of k s
+pub word-found : (s : List ℕ) (k from to : ℕ) → to ≡ from + index_of 32 (drop from s) → word_of 0 (drop from s) ≡ word_of k s
     → take (to - from) (drop from s) ≡ word_of k s
-unfolding slice
 word-found s k from to e f =
-    let all : slice from (length s) s ≡ drop from s = rw (take-length s) in
-    let size : to - from ≡ index_of 32 (drop from s) = omega (arith, e, ap (λ (t : List ℕ). index_of 32 t) all) in
+    let size : to - from ≡ index_of 32 (drop from s) = omega (arith, e) in
     rw size (sym (first_word (drop from s)) ∙ f)
 
 -- ---- the number of a word among others

@@ -3,6 +3,7 @@ use mathlib.Core.Logic.{⊎_elim}
 use mathlib.Core.Path.{sym, ◌∙◌}
 use borrow.Author.Tests.{eq-eqb, ne_eqb}
 use Rattle.zvt.proofs.MessageLaws.{described-spare, described-full, described-start}
+use Rattle.zvt.proofs.body.outline_of.Goals.{then-h-eq3, else-h-eq3}
 use Rattle.zvt.proofs.body.outline_of.Goals as goal
 
 pub returns-then-h-ge255 : goal.returns-then-h-ge255
@@ -11,7 +12,10 @@ returns-then-h-ge255 c = described-full _ _ c.if-t-eq0.true c.if-h-ge255.true
 pub returns-else-h-ge255 : goal.returns-else-h-ge255
 returns-else-h-ge255 c =
     described-start _ _ _ c.if-t-eq0.true c.if-h-ge255.false
-    (⊎_elim (λ w. eq-eqb _ _ w.0.true ∙ sym w.1) (λ w. ne_eqb _ _ w.0.left ∙ sym w.1) c.if-h-eq3.branch)
+    (elim c.if-h-eq3.branch [
+      then-h-eq3 w ↦ eq-eqb _ _ w.if-h-eq3.true ∙ sym w.shortest-is |
+      else-h-eq3 w ↦ ne_eqb _ _ w.if-h-eq3.false ∙ sym w.shortest-is
+    ])
 
--- inline 2: λ c. described-spare _ _ c.if-t-eq0.false
--- needs in order: returns>returns-then-h-ge255, returns-2>returns-else-h-ge255, returns-3>returns-else-t-eq0
+pub returns-else-t-eq0 : goal.returns-else-t-eq0
+returns-else-t-eq0 c = described-spare _ _ c.if-t-eq0.false

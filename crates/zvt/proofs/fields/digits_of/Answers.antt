@@ -32,7 +32,7 @@ unfolding as_digits
 returns-then-b-lt240 c =
     let l = c.loop-i in
     let no-digit : length_digit (get_or c.args.s.now l.i 0) ≡ false =
-    (digit-fails _).1 (⊎_elim (λ w. inl w.true) (λ w. inr (omega (arith, ltb-true))) c.then-b-lt240.branch) in
+    (digit-fails _).1 (⊎_elim (λ w. inl w) (λ w. inr w.1) c.then-b-lt240.either) in
     sym (l.invariant.2 ∙ ap as_digits (digits-stop _ l.v _ _ l.i c.loop-i-test.true c.if-s-i.false no-digit))
 
 pub overflow_mul-v : goal.overflow_mul-v
@@ -48,11 +48,11 @@ overflow_add-v c =
 pub loop-i-preserved : goal.loop-i-preserved
 loop-i-preserved c =
     let l = c.loop-i in
-    let high : get_or c.args.s.now l.i 0 ≤ 249 = omega (arith, ltb-false) in (
+    let high = c.if-b-gt249.false in (
       omega arith,
       rw (add-one l.i, pow-succ' 10 l.i) (omega (arith, high, l.invariant.1)),
       l.invariant.2
-          ∙ ap as_digits (digits-on _ l.v _ _ l.i (omega arith) (omega arith) ((digit-test _).1 (c.then-b-lt240.false, high))),
+          ∙ ap as_digits (digits-on _ l.v _ _ l.i (omega arith) (omega arith) ((digit-test _).1 (c.if-b-lt240.false, high))),
     )
 
 pub returns : goal.returns
@@ -60,6 +60,3 @@ unfolding as_digits
 returns c =
     let l = c.loop-i in
     sym (l.invariant.2 ∙ ap as_digits (digits-end _ l.v _ _ l.i c.loop-i-test.false))
-
--- inline 7: λ c. omega (arith, ltb-false)
--- needs in order: loop-init>loop-i-init, add-place>overflow_add-place, returns>returns-then-s-i, shared_slice_read-b>bounds-s-i, returns-2>returns-then-b-lt240, cast-digit>overflow_cast-digit, mul-v>overflow_mul-v, add-v>overflow_add-v, add-i>overflow_add-i, loop-smaller>loop-i-smaller, loop-preserved>loop-i-preserved, returns-3>returns

@@ -6,6 +6,7 @@ use Prim.Native.Nat.{ℕ, ◌+◌, ◌*◌}
 use lib.Dec.{leb, ltb}
 use borrow.Author.Rules.{rules}
 use borrow.Author.Tests.{lt-leb, le-ltb, not-true, ne_eqb}
+use native.Mathlib.Omega.{arith}
 use types.Run.{OneOf}
 use Rattle.zvt_rules.specs.declared.Layout.TheVariants.{Plain, List as FieldList, Secured}
 use Rattle.basics.specs.Lists.{among}
@@ -57,9 +58,23 @@ module _ (class instruction : ℕ) where
       let p : (any_of singles pair || q pair) ≡ false = rw (not-any singles pair none) e in
       sym (pick-false _ _ (not-among _ lists pair s p) ∙ pick-false _ _ (not-among _ secureds pair t p))
 
--- inline 2: λ c. listed _ _ c.in_default-1.keys1
--- inline 3: λ c. plain _ _ (λ k. leb 0x0630 k) refl refl c.in_default-1.rest (lt-leb 0x0630 _ c.if-pair-lt1584.true)
--- inline 4: λ c. plain _ _ (λ k. ltb k 0x0632) refl refl c.in_default-1.rest (le-ltb _ 0x0632 c.if-pair-lt1586.false)
--- inline 5: λ c. secured _ _ (at_key (λ k. is_secured k) (0x0621 ∷ 0x0650 ∷ []) refl _ c.in_default-1.keys2)
--- inline 6: λ c. secured _ _ (at_from (λ k. is_secured k) 0x0630 2 refl _ c.if-pair-lt1584.false c.if-pair-lt1586.true)
--- needs in order: mul-pair>overflow_mul-pair, add-pair>overflow_add-pair, returns>returns-in-1537, returns-2>returns-in_default, returns-3>returns-in_default-2, returns-4>returns-in-1569, returns-5>returns-in-1569-2
+pub returns-in-1537 : goal.returns-in-1537
+unfolding among all_in all_from any_of
+returns-in-1537 c = listed _ _ c.in-1537.is
+
+pub returns-in_default : goal.returns-in_default
+unfolding among all_in all_from any_of
+returns-in_default c = plain c.args.class c.args.instruction (λ k. leb 0x0630 k) refl refl (search rules) (lt-leb 0x0630 _ (omega arith))
+
+pub returns-in_default-2 : goal.returns-in_default-2
+unfolding among all_in all_from any_of
+returns-in_default-2 c = plain c.args.class c.args.instruction (λ k. ltb k 0x0632) refl refl (search rules) (le-ltb _ 0x0632 (omega arith))
+
+pub returns-in-1569 : goal.returns-in-1569
+unfolding among all_in all_from any_of
+returns-in-1569 c = secured _ _ (at_key (λ k. is_secured k) (0x0621 ∷ 0x0650 ∷ []) refl _ c.in-1569.is)
+
+pub returns-in-1569-2 : goal.returns-in-1569-2
+unfolding among all_in all_from any_of
+returns-in-1569-2 c = secured c.args.class c.args.instruction (at_from (λ k. is_secured k) 0x0630 2 refl (c.args.class * 256 + c.args.instruction) (omega arith) (omega arith))
+

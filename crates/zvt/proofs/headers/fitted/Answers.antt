@@ -5,6 +5,7 @@ use native.Mathlib.Omega.{arith}
 use borrow.Author.Rules.{rules}
 use borrow.Author.Tests.{ltb-true, ltb-false}
 use Rattle.zvt.proofs.HeaderLaws.{fit-over, fit_cut, fit-in}
+use Rattle.zvt.proofs.headers.fitted.Goals.{then-s-h-via-then-s-h, then-s-h-via-else-s-h+then-s-h-2}
 use Rattle.zvt.proofs.headers.fitted.Goals as goal
 
 pub returns-then-h-gt-MOST_BODY : goal.returns-then-h-gt-MOST_BODY
@@ -13,9 +14,8 @@ returns-then-h-gt-MOST_BODY c = sym (fit-over c.args.h c.args.s.now c.if-h-gt-MO
 pub returns-then-s-h : goal.returns-then-s-h
 returns-then-s-h c =
     sym (fit_cut c.args.h c.args.s.now c.if-h-gt-MOST_BODY.false
-    (⊎_elim (λ w. omega arith) (λ w. omega (arith, ltb-true)) c.then-s-h.branch))
+    (elim c.then-s-h.branch [ then-s-h-via-then-s-h w ↦ omega arith | then-s-h-via-else-s-h+then-s-h-2 w ↦ omega arith ]))
 
 pub returns : goal.returns
 returns c =
-    sym (fit-in c.args.h c.args.s.now c.if-h-gt-MOST_BODY.false (omega (arith, ltb-false)))
--- needs in order: returns>returns-then-h-gt-MOST_BODY, sub-if3>overflow_sub-s, returns-2>returns-then-s-h, returns-3>returns
+    sym (fit-in c.args.h c.args.s.now c.if-h-gt-MOST_BODY.false (omega arith))

@@ -6,6 +6,8 @@ use Rattle.zvt.proofs.objects.form_size.Goals as goal
 pub returns-then-v-lt256 : goal.returns-then-v-lt256
 returns-then-v-lt256 c = sym (form-one _ c.if-v-lt128.false c.if-v-lt256.true)
 
--- inline 0: λ c. sym (form-bare _ c.if-v-lt128.true)
--- inline 2: λ c. sym (form-two _ c.if-v-lt256.false)
--- needs in order: returns>returns-then-v-lt128, returns-2>returns-then-v-lt256, returns-3>returns
+pub returns-then-v-lt128 : goal.returns-then-v-lt128
+returns-then-v-lt128 c = sym (form-bare _ c.if-v-lt128.true)
+
+pub returns : goal.returns
+returns c = sym (form-two _ c.if-v-lt256.false)
