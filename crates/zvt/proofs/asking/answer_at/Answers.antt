@@ -1,6 +1,6 @@
 -- `zvt::asking::answer_at` meets its contract. Assumes nothing.
-use mathlib.Core.Path.{sym}
-use borrow.Author.Tests.{eq-eqb, ne_eqb}
+use Rattle.std.proofs.Common.{sym, eq-eqb}
+use Rattle.std.proofs.lemmas.Bool.{ne_eqb}
 use Rattle.basics.proofs.Tests.{pick_true, pick-false}
 use Rattle.zvt.specs.AskingSteps.{answer_at}
 use Rattle.zvt.proofs.asking.answer_at.Goals as goal
@@ -12,4 +12,3 @@ returns-then-place-eq0 c = sym (pick_true _ _ (eq-eqb _ _ c.if-place-eq0.true))
 pub returns : goal.returns
 unfolding answer_at
 returns c = sym (pick-false _ _ (ne_eqb _ _ c.if-place-eq0.false))
--- needs in order: returns>returns-then-place-eq0, returns-2>returns

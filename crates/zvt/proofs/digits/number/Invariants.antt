@@ -1,11 +1,10 @@
--- `zvt::digits::number` meets its contract. The invariant: what is left, read behind v, gives the number, and v is small
--- enough; the measure is what is left. Assumes nothing.
-use mathlib.Core.Path.{◌≡◌, refl, sym, ◌∙◌}
+-- The invariant of `zvt::digits::number`: what is left, read behind v, gives the number, and v is small enough; the measure is
+-- what is left.
+use mathlib.Core.Path.{◌≡◌}
 use Prim.Native.Nat.{◌-◌, ◌≤◌}
-use native.Mathlib.Omega.{arith}
-use lib.ListN.{length, drop, get_or}
+use lib.ListN.{length, drop}
 use Rattle.zvt_rules.specs.Digits.{decimal_from, number_of}
-use Rattle.zvt_rules.proofs.DigitLaws.{number_step, number-end, Small, small-step, small-six}
+use Rattle.zvt_rules.proofs.DigitLaws.{Small}
 use Rattle.zvt.proofs.digits.number.Given as goal
 
 abbrev pub invariant-loop-i : goal.invariant-loop-i

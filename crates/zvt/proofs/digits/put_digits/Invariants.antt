@@ -1,13 +1,10 @@
--- `zvt::digits::put_digits` meets its contract. The invariant: the digits of v in i bytes, and the bytes that stand from the
--- i-th on, are the digits of n; the measure is i. Assumes nothing.
-use mathlib.Core.Path.{◌≡◌, refl, sym, ◌∙◌}
-use mathlib.Core.List.{◌++◌, append-nil}
-use Prim.Native.Nat.{suc, ◌-◌, ◌<◌, ◌≤◌}
-use native.Mathlib.Omega.{arith}
-use lib.ListN.{length, drop, length-set}
-use lib.Seq.{drop-length}
+-- The invariant of `zvt::digits::put_digits`: the digits of v in i bytes, and the bytes that stand from the i-th on, are the
+-- digits of n; the measure is i.
+use mathlib.Core.Path.{◌≡◌}
+use mathlib.Core.List.{◌++◌}
+use Prim.Native.Nat.{◌≤◌}
+use lib.ListN.{length, drop}
 use Rattle.zvt_rules.specs.Digits.{digit_bytes_of}
-use Rattle.zvt_rules.proofs.DigitLaws.{digits-put}
 use Rattle.zvt.proofs.digits.put_digits.Given as goal
 
 abbrev pub invariant-loop-i : goal.invariant-loop-i

@@ -3,7 +3,6 @@ use mathlib.Core.List.{List, [], ◌∷◌}
 use Prim.Native.Nat.{ℕ, ◌≤◌}
 use native.Mathlib.Omega.{arith}
 use lib.ListN.{length}
-use borrow.Author.Rules.{rules}
 use Rattle.zvt_rules.specs.Digits.{decimal_from, number_of}
 use Rattle.basics.specs.believed.Lists.{Bytes}
 use Rattle.zvt.proofs.Slices.{bytes-known}
@@ -19,5 +18,4 @@ two-small (a ∷ (b ∷ (c ∷ s))) h l = absurd (omega arith)
 pub overflow_cast-result : goal.overflow_cast-result
 overflow_cast-result c =
     let s = c.args.s.now in
-    omega (arith, c.number-n.ensures, two-small s (bytes-known s c.shared_slice_known-1.given) c.requires)
--- needs in order: number-requires>number-n-requires, cast-result>overflow_cast-result, returns>returns
+    omega (arith, c.number-n.ensures, two-small s (bytes-known s c.type_inv.s) c.requires)

@@ -7,9 +7,6 @@ use Rattle.zvt.proofs.ListedLaws.{part-first}
 use Rattle.zvt.proofs.ValueLaws.{value_none, value-some}
 use Rattle.zvt.proofs.values.code_at.Goals as goal
 
-pub bounds-s-at : goal.bounds-s-at
-bounds-s-at c = let h = c.requires in omega (arith, h.size c.if-place-eq0.false)
-
 pub returns-then-place-eq0 : goal.returns-then-place-eq0
 unfolding code_of
 returns-then-place-eq0 c = sym (ap code_of (value_none _ _ c.if-place-eq0.true))
@@ -20,4 +17,3 @@ returns c =
     let some = c.if-place-eq0.false in
     let h = c.requires in
     sym (ap code_of (value-some _ _ some) ∙ ap Code (part-first _ _ _ h.order h.inside (omega (arith, h.size some))))
--- needs in order: returns>returns-then-place-eq0, shared_slice_read-t6>bounds-s-at, returns-2>returns

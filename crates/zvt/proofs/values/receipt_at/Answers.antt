@@ -1,15 +1,11 @@
 -- `zvt::values::receipt_at` meets its contract: two bytes of decimal digits are a number below 10000. Assumes nothing.
 use mathlib.Core.Path.{sym, ap, ◌∙◌}
 use native.Mathlib.Omega.{arith}
-use borrow.Author.Rules.{rules}
 use Rattle.zvt_rules.specs.declared.ToldReceipt.TheVariants.{Receipt}
 use Rattle.zvt_rules.specs.Values.{receipt_of}
 use Rattle.zvt_rules.proofs.DigitLaws.{number_fits}
 use Rattle.zvt.proofs.ValueLaws.{value_none, value-some, sized-length}
 use Rattle.zvt.proofs.values.receipt_at.Goals as goal
-
-pub number-short-requires : goal.number-short-requires
-number-short-requires c = omega (arith, sized-length _ _ c.requires.0 c.if-to-eq0.false)
 
 pub overflow_cast-short : goal.overflow_cast-short
 overflow_cast-short c =
@@ -23,4 +19,3 @@ returns-then-to-eq0 c = sym (ap receipt_of (value_none _ _ c.if-to-eq0.true))
 pub returns : goal.returns
 unfolding receipt_of
 returns c = ap Receipt c.number-short.ensures ∙ sym (ap receipt_of (value-some _ _ c.if-to-eq0.false))
--- needs in order: returns>returns-then-to-eq0, sub-number>slice_bounds-number-count, part-number-start>slice_bounds-number-start, part-number-end>slice_bounds-number-end, number-requires>number-short-requires, cast-short>overflow_cast-short, returns-2>returns

@@ -6,7 +6,6 @@ use lib.ListN.{length, take, drop, length-take, length-drop}
 use native.Mathlib.Omega.{arith}
 use Rattle.buffers.proofs.Copies.{copied-all}
 use Rattle.zvt.proofs.Back.{put-copied}
-use borrow.Author.Rules.{rules}
 use Rattle.zvt.proofs.writing.put.Goals as goal
 
 pub returns : goal.returns
@@ -20,4 +19,3 @@ returns c =
           ap (λ (y : List ℕ). take at d ++ (y ++ drop (length d - at) (drop at d))) (copied-all v (take (length d - at) (drop at d)) _ _ (omega (arith, length-take (length d - at) (drop at d), length-drop at d)) c.copy.ensures.size c.copy.ensures.bytes).1
           ∙ put-copied v d c.requires;
     }
--- needs in order: sub-at>overflow_sub-at, sub-copy>slice_bounds-copy-count, part-copy-start>slice_bounds-copy-start, part-copy-end>slice_bounds-copy-end, copy-requires>copy-requires, same_length>shape_of-out, returns>returns

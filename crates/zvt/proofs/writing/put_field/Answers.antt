@@ -1,17 +1,15 @@
 -- `put_field` meets its contract: a container is put as a branch is, any other field as it stands. Assumes nothing.
-use mathlib.Core.Path.{◌≡◌, sym}
+use mathlib.Core.Path.{◌≡◌}
 use mathlib.Core.Bool.{true, false}
 use mathlib.Core.List.{List}
 use Prim.Native.Nat.{ℕ}
 use native.Mathlib.Omega.{arith}
 use lib.ListN.{take}
-use lib.Seq.{length-take-le}
 use Rattle.basics.specs.Lists.{part}
 use Rattle.zvt_rules.proofs.ObjectReading.{part_length}
 use Rattle.zvt.specs.declared.objects.Bounds.{Bounds}
 use Rattle.zvt.specs.WritingSteps.{value_bytes, short_run_of, short_field_of}
 use Rattle.zvt.proofs.Back.{fits-as, put_as}
-use borrow.Author.Rules.{rules}
 use Rattle.zvt.proofs.writing.put_field.Goals as goal
 
 as-branch : (s : List ℕ) (b : Bounds) → b.nested ≡ true → value_bytes (take 1 s) (short_run_of (part b.from b.to s)) ≡ short_field_of b s
@@ -22,10 +20,6 @@ as-it-stands : (s : List ℕ) (b : Bounds) → b.nested ≡ false → take b.to 
 unfolding short_field_of
 as-it-stands s b e = rw e
 
-pub slice_bounds-put_branch-end : goal.slice_bounds-put_branch-end
-slice_bounds-put_branch-end c =
-    sym (length-take-le 1 c.args.s.now (omega (arith, c.requires.1, c.requires.2, c.requires.3)))
-
 pub put_branch-requires : goal.put_branch-requires
 put_branch-requires c =
     let s = c.args.s.now in
@@ -33,10 +27,6 @@ put_branch-requires c =
     let run = c.if-b.true in
     let l = part_length s b.from b.to c.requires.2 c.requires.3 in
     (omega (arith, c.requires.0, c.requires.3), c.requires.4 run, fits-as (as-branch s b run) c.requires.5)
-
-pub slice_bounds-put-end : goal.slice_bounds-put-end
-slice_bounds-put-end c =
-    sym (length-take-le c.args.b.to c.args.s.now c.requires.3)
 
 pub put-requires : goal.put-requires
 put-requires c =
@@ -49,4 +39,3 @@ returns-then-b c =
 pub returns-else-b : goal.returns-else-b
 returns-else-b c =
     put_as (as-it-stands c.args.s.now c.args.b c.if-b.false) c.put.ensures
--- needs in order: slice_aggregate-put_branch>slice_bounds-put_branch-end, sub-put_branch>slice_bounds-put_branch-count, part-put_branch-start>slice_bounds-put_branch-start, part-put_branch-end>slice_bounds-put_branch-end-then-b, put_branch-requires>put_branch-requires, slice_aggregate-put>slice_bounds-put-end, put-requires>put-requires, same_length>shape_of-out-then-b, returns>returns-then-b, same_length-2>shape_of-out-else-b, returns-2>returns-else-b

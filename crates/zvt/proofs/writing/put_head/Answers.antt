@@ -4,8 +4,7 @@ use lib.ListN.{length-append}
 use Rattle.zvt_rules.specs.believed.Writing.{len_bytes}
 use Rattle.zvt_rules.specs.Shortest.{form_for}
 use Rattle.zvt.specs.WritingSteps.{head_bytes}
-use Rattle.zvt.proofs.Back.{lent-all, room, then-put}
-use borrow.Author.Rules.{rules}
+use Rattle.zvt.proofs.Back.{room, then-put}
 use Rattle.zvt.proofs.writing.put_head.Goals as goal
 
 pub put_len-left-requires : goal.put_len-left-requires
@@ -13,11 +12,6 @@ unfolding head_bytes
 put_len-left-requires c =
     let v = c.args.v in
     (c.requires.0, omega (arith, c.requires.1, length-append c.args.tag.now (len_bytes (form_for v) v)))
-
-pub slice_bounds-put-end-2 : goal.slice_bounds-put-end-2
-unfolding head_bytes
-slice_bounds-put-end-2 c =
-    lent-all c.args.tag.now c.put_len-left.ensures c.requires.1
 
 pub put-requires : goal.put-requires
 unfolding head_bytes
@@ -28,4 +22,3 @@ pub returns : goal.returns
 unfolding head_bytes
 returns c =
     then-put c.args.tag.now c.put_len-left.ensures c.requires.1 c.put.ensures
--- needs in order: put_len-requires>put_len-left-requires, slice_relend_prefix-put>slice_bounds-put-end, slice_aggregate-put>slice_bounds-put-end-2, put-requires>put-requires, same_length>shape_of-out, returns>returns

@@ -8,7 +8,6 @@ use borrow.Author.Tests.{lt-leb, le-leb}
 use Rattle.zvt_rules.specs.believed.Writing.{length_bytes}
 use Rattle.zvt.specs.WritingSteps.{header_bytes}
 use Rattle.zvt.proofs.Back.{fits-as, put_as}
-use borrow.Author.Rules.{rules}
 use Rattle.zvt.proofs.writing.put_header.Goals as goal
 
 short-is : (class instruction v : ℕ) → v < 255 → class ∷ (instruction ∷ ((v % 256) ∷ [])) ≡ header_bytes class instruction v
@@ -39,4 +38,3 @@ pub returns : goal.returns
 returns c =
     let a = c.args in
     put_as (long-is a.class a.instruction a.v c.if-v-lt255.false c.requires.0) c.put-2.ensures
--- needs in order: cast-low>overflow_cast-low, slice_aggregate-put>slice_bounds-put-end, put-requires>put-requires, same_length>shape_of-out-then-v-lt255, returns>returns-then-v-lt255, cast-high>overflow_cast-high, slice_aggregate-put-2>slice_bounds-put-end-2, put-requires-2>put-requires-2, same_length-2>shape_of-out, returns-2>returns

@@ -8,7 +8,6 @@ use borrow.Author.Tests.{lt-ltb, le-ltb}
 use Rattle.zvt_rules.specs.believed.Writing.{len_bytes}
 use Rattle.zvt_rules.specs.Shortest.{form_for}
 use Rattle.zvt.proofs.Back.{fits-as, put_as}
-use borrow.Author.Rules.{rules}
 use Rattle.zvt.proofs.writing.put_len.Goals as goal
 
 bare-is : (v : ℕ) → v < 128 → (v % 256) ∷ [] ≡ len_bytes (form_for v) v
@@ -49,4 +48,3 @@ put-requires-2 c =
 pub returns : goal.returns
 returns c =
     put_as (two_is c.args.v c.if-v-lt256.false c.requires.0) c.put-2.ensures
--- needs in order: cast-low>overflow_cast-low, slice_aggregate-put>slice_bounds-put-end, put-requires>put-requires, same_length>shape_of-out-then-v-lt128, returns>returns-then-v-lt128, slice_aggregate-put-2>slice_bounds-put-end-then-v-lt256, put-requires-2>put-requires-then-v-lt256, same_length-2>shape_of-out-then-v-lt256, returns-2>returns-then-v-lt256, cast-high>overflow_cast-high, slice_aggregate-put-3>slice_bounds-put-end-2, put-requires-3>put-requires-2, same_length-3>shape_of-out, returns-3>returns
