@@ -1,6 +1,5 @@
 -- `zvt::read_header` meets its contract. Assumes nothing.
 use mathlib.Core.Path.{sym, ◌∙◌}
-use borrow.Author.Rules.{rules}
 use Rattle.zvt.proofs.HeaderLaws.{answer-refused, answer-header}
 use Rattle.zvt.proofs.read_header.Goals as goal
 
@@ -9,4 +8,3 @@ returns-in-Refused c = sym (answer-refused _ _ (sym c.whole_header.ensures ∙ c
 
 pub returns-in-Header : goal.returns-in-Header
 returns-in-Header c = sym (answer-header _ _ (sym c.whole_header.ensures ∙ c.in-Header.is))
--- needs in order: whole_header-requires>whole_header-requires, enum_known-f>enum_known-f, enum_known-h>enum_known-h, returns>returns-in-Refused, returns-2>returns-in-Header

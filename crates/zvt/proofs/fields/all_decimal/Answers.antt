@@ -2,19 +2,16 @@
 -- what is left of them. Assumes nothing.
 use mathlib.Core.Path.{◌≡◌, sym, ap, ◌∙◌}
 use mathlib.Core.Bool.{false}
-use mathlib.Core.Logic.{⊎_elim}
-use Prim.Native.Nat.{◌+◌, ◌-◌, ◌<◌, ◌≤◌}
+use Prim.Native.Nat.{◌<◌}
 use native.Mathlib.Nat.{add-zero}
 use native.Mathlib.Omega.{arith}
-use lib.ListN.{length, get_or, drop}
-use lib.Bits.{bit_and}
-use borrow.Author.Tests.{ltb-true, ltb-false}
-use Rattle.zvt_rules.specs.Reading.{got}
-use Rattle.zvt_rules.specs.Fields.{decimal, unless_undecimal}
+use lib.ListN.{get_or}
+use Rattle.zvt_rules.specs.Fields.{decimal}
 use Rattle.zvt_rules.proofs.FieldReading.{undecimal-end, undecimal-on, undecimal-stop}
 use Rattle.zvt.specs.FieldSteps.{as_decimals, decimals_answer}
 use Rattle.zvt.proofs.Masks.{undecimal-high, undecimal-low, both-decimal}
-use Rattle.zvt.proofs.fields.all_decimal.Goals.{then-s-i-gt144-via-then-s-i-gt144, then-s-i-gt144-via-else-s-i-gt144+then-s-i-gt9}
+use Rattle.zvt.proofs.fields.all_decimal.Goals.{then-s-i-gt144-via-then-s-i-gt144}
+use Rattle.zvt.proofs.fields.all_decimal.Goals.{then-s-i-gt144-via-else-s-i-gt144+then-s-i-gt9}
 use Rattle.zvt.proofs.fields.all_decimal.Goals as goal
 
 pub loop-i-init : goal.loop-i-init
@@ -29,8 +26,8 @@ returns-then-s-i-gt144 c =
     let byte : b < 256 = omega (arith, c.type_inv.s l.i) in
     let bad : decimal b ≡ false =
     elim c.then-s-i-gt144.branch [
-      then-s-i-gt144-via-then-s-i-gt144 w ↦ undecimal-high b byte w.if-s-i-gt144.true |
-      then-s-i-gt144-via-else-s-i-gt144+then-s-i-gt9 w ↦ undecimal-low b byte w.if-s-i-gt144.false w.if-s-i-gt9.true
+      | then-s-i-gt144-via-then-s-i-gt144 w ↦ undecimal-high b byte w.if-s-i-gt144.true
+      | then-s-i-gt144-via-else-s-i-gt144+then-s-i-gt9 w ↦ undecimal-low b byte w.if-s-i-gt144.false w.if-s-i-gt9.true
     ] in
     sym (l.invariant.1 ∙ ap as_decimals (undecimal-stop _ _ _ l.i c.loop-i-test.true bad))
 

@@ -3,19 +3,14 @@
 use mathlib.Core.Path.{◌≡◌, sym, ap, ◌∙◌}
 use mathlib.Core.Bool.{false}
 use mathlib.Core.Logic.{inl, inr, ⊎_elim}
-use Prim.Native.Nat.{ℕ, ◌+◌, ◌-◌, ◌^◌, ◌<◌, ◌≤◌}
 use native.Mathlib.Numerals.{add-one}
-use native.Mathlib.Nat.{add-zero, sub-zero, pow-succ', pow-le-pow_right}
+use native.Mathlib.Nat.{add-zero, sub-zero, pow-succ'}
 use native.Mathlib.Omega.{arith}
-use lib.ListN.{get_or, drop}
-use borrow.Author.Tests.{ltb-true, ltb-false}
-use Rattle.zvt_rules.specs.Fields.{length_digit, digits_of}
+use lib.ListN.{get_or}
+use Rattle.zvt_rules.specs.Fields.{length_digit}
 use Rattle.zvt_rules.proofs.FieldReading.{digit-test, digit-fails, digits-end, digits-cut, digits-on, digits-stop}
 use Rattle.zvt.specs.FieldSteps.{as_digits, digits_answer}
 use Rattle.zvt.proofs.fields.digits_of.Goals as goal
-
-below : (i : ℕ) → i ≤ 2 → 10 ^ i ≤ 100
-below i h = pow-le-pow_right {n = 10} (omega arith) h
 
 pub loop-i-init : goal.loop-i-init
 unfolding digits_answer
@@ -34,16 +29,6 @@ returns-then-b-lt240 c =
     let no-digit : length_digit (get_or c.args.s.now l.i 0) ≡ false =
     (digit-fails _).1 (⊎_elim (λ w. inl w) (λ w. inr w.1) c.then-b-lt240.either) in
     sym (l.invariant.2 ∙ ap as_digits (digits-stop _ l.v _ _ l.i c.loop-i-test.true c.if-s-i.false no-digit))
-
-pub overflow_mul-v : goal.overflow_mul-v
-overflow_mul-v c =
-    let l = c.loop-i in
-    omega (arith, ltb-false, below l.i (omega arith), l.invariant.1)
-
-pub overflow_add-v : goal.overflow_add-v
-overflow_add-v c =
-    let l = c.loop-i in
-    omega (arith, ltb-false, below l.i (omega arith), l.invariant.1)
 
 pub loop-i-preserved : goal.loop-i-preserved
 loop-i-preserved c =

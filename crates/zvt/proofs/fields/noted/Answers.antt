@@ -13,4 +13,3 @@ returns-then-f-id c = sym (pick_true _ _ (eq-eqb _ _ c.if-f-id.true))
 pub returns : goal.returns
 unfolding noted
 returns c = sym (pick-false _ _ (ne_eqb _ _ c.if-f-id.false))
--- needs in order: returns>returns-then-f-id, returns-2>returns

@@ -37,8 +37,8 @@ formats = record { at = λ id. format_of id; code = λ f. code f; back = λ n. b
 
 -- at the numbers from a on that are none of ks
 module _ (ks : List ℕ) (f : Format) (a n x : ℕ) where
-  beside : all_from (λ k. any_of (ks ∷ []) k || eqb (code f) (code (format_of k))) a n ≡ true → (OneOf ks x → ⊥) → (a ≤ x) × (x < a + n)
-      → f ≡ format_of x
+  beside : all_from (λ k. any_of (ks ∷ []) k || eqb (code f) (code (format_of k))) a n ≡ true → (OneOf ks x → ⊥)
+      → (a ≤ x) × (x < a + n) → f ≡ format_of x
   beside e none h = ranged formats (ks ∷ []) f a n x e (tt, none) h
 
 pub returns-in-186 : goal.returns-in-186
@@ -83,7 +83,8 @@ returns-in-11 c = keyed formats (Fixed 3) (0x37 ∷ 0x3D ∷ 0x88 ∷ 0xAA ∷ [
 
 pub returns-in-1 : goal.returns-in-1
 unfolding all_in all_from any_of among format_of code
-returns-in-1 c = keyed formats (Fixed 1) (0x05 ∷ 0x19 ∷ 0x27 ∷ 0x8A ∷ 0x8C ∷ 0xA0 ∷ 0xD0 ∷ 0xE0 ∷ 0xF0 ∷ []) c.args.id refl (search rules)
+returns-in-1 c =
+    keyed formats (Fixed 1) (0x05 ∷ 0x19 ∷ 0x27 ∷ 0x8A ∷ 0x8C ∷ 0xA0 ∷ 0xD0 ∷ 0xE0 ∷ 0xF0 ∷ []) c.args.id refl (search rules)
 
 pub returns-in_default : goal.returns-in_default
 unfolding all_in all_from any_of among format_of code
@@ -99,11 +100,15 @@ returns-in_default-3 c = beside (0x17 ∷ 0x19 ∷ []) Unknown 0x0F 19 c.args.id
 
 pub returns-in_default-4 : goal.returns-in_default-4
 unfolding all_in all_from any_of among format_of code
-returns-in_default-4 c = beside (0x24 ∷ 0x27 ∷ 0x29 ∷ 0x2A ∷ 0x2D ∷ 0x2E ∷ 0x37 ∷ 0x3A ∷ 0x3B ∷ 0x3C ∷ 0x3D ∷ 0x49 ∷ 0x4C ∷ 0x60 ∷ []) Unknown 0x24 76 c.args.id refl (λ h. grind arith) (omega arith)
+returns-in_default-4 c =
+    beside (0x24 ∷ 0x27 ∷ 0x29 ∷ 0x2A ∷ 0x2D ∷ 0x2E ∷ 0x37 ∷ 0x3A ∷ 0x3B ∷ 0x3C ∷ 0x3D ∷ 0x49 ∷ 0x4C ∷ 0x60 ∷ [])
+    Unknown 0x24 76 c.args.id refl (λ h. grind arith) (omega arith)
 
 pub returns-in_default-5 : goal.returns-in_default-5
 unfolding all_in all_from any_of among format_of code
-returns-in_default-5 c = beside (0x87 ∷ 0x88 ∷ 0x8A ∷ 0x8B ∷ 0x8C ∷ 0x92 ∷ 0x9A ∷ 0xA0 ∷ 0xA7 ∷ 0xAA ∷ 0xAF ∷ 0xBA ∷ []) Unknown 0x76 90 c.args.id refl (λ h. grind arith) (omega arith)
+returns-in_default-5 c =
+    beside (0x87 ∷ 0x88 ∷ 0x8A ∷ 0x8B ∷ 0x8C ∷ 0x92 ∷ 0x9A ∷ 0xA0 ∷ 0xA7 ∷ 0xAA ∷ 0xAF ∷ 0xBA ∷ [])
+    Unknown 0x76 90 c.args.id refl (λ h. grind arith) (omega arith)
 
 pub returns-in_default-6 : goal.returns-in_default-6
 unfolding all_in all_from any_of among format_of code
@@ -160,4 +165,3 @@ returns-in-1-5 c = beside [] (Fixed 1) 0xE9 2 c.args.id refl (λ h. h) (omega ar
 pub returns-in-1-6 : goal.returns-in-1-6
 unfolding all_in all_from any_of among format_of code
 returns-in-1-6 c = beside [] (Fixed 1) 0xF9 5 c.args.id refl (λ h. h) (omega arith)
-

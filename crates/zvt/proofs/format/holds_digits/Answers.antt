@@ -10,7 +10,6 @@ use Rattle.basics.specs.Lists.{among}
 use Rattle.zvt_rules.specs.Fields.{holds_digits}
 use Rattle.basics.proofs.Tests.{all_from}
 use Rattle.zvt.proofs.Tables.{all_in, any_of, Table, keyed, ranged}
-use types.Run.{OneOf}
 use Rattle.zvt.proofs.format.holds_digits.Goals as goal
 
 back : (b : Bool) → eqb (pick b 1 0) 1 ≡ b
@@ -29,7 +28,8 @@ returns-in_default c = ranged digits (singles ∷ []) false 0 135 c.args.id refl
 
 pub returns-in_default-2 : goal.returns-in_default-2
 unfolding all_in all_from any_of among
-returns-in_default-2 c = ranged digits (singles ∷ []) false 137 119 c.args.id refl (tt, λ h. omega arith) (omega arith)
+returns-in_default-2 c =
+    ranged digits (singles ∷ []) false 137 119 c.args.id refl (tt, λ h. omega arith) (omega arith)
 
 pub returns-in-4 : goal.returns-in-4
 unfolding all_in all_from any_of among

@@ -64,11 +64,13 @@ returns-in-1537 c = listed _ _ c.in-1537.is
 
 pub returns-in_default : goal.returns-in_default
 unfolding among all_in all_from any_of
-returns-in_default c = plain c.args.class c.args.instruction (λ k. leb 0x0630 k) refl refl (search rules) (lt-leb 0x0630 _ (omega arith))
+returns-in_default c =
+    plain c.args.class c.args.instruction (λ k. leb 0x0630 k) refl refl (search rules) (lt-leb 0x0630 _ (omega arith))
 
 pub returns-in_default-2 : goal.returns-in_default-2
 unfolding among all_in all_from any_of
-returns-in_default-2 c = plain c.args.class c.args.instruction (λ k. ltb k 0x0632) refl refl (search rules) (le-ltb _ 0x0632 (omega arith))
+returns-in_default-2 c =
+    plain c.args.class c.args.instruction (λ k. ltb k 0x0632) refl refl (search rules) (le-ltb _ 0x0632 (omega arith))
 
 pub returns-in-1569 : goal.returns-in-1569
 unfolding among all_in all_from any_of
@@ -76,5 +78,6 @@ returns-in-1569 c = secured _ _ (at_key (λ k. is_secured k) (0x0621 ∷ 0x0650 
 
 pub returns-in-1569-2 : goal.returns-in-1569-2
 unfolding among all_in all_from any_of
-returns-in-1569-2 c = secured c.args.class c.args.instruction (at_from (λ k. is_secured k) 0x0630 2 refl (c.args.class * 256 + c.args.instruction) (omega arith) (omega arith))
-
+returns-in-1569-2 c =
+    secured c.args.class c.args.instruction
+    (at_from (λ k. is_secured k) 0x0630 2 refl (c.args.class * 256 + c.args.instruction) (omega arith) (omega arith))

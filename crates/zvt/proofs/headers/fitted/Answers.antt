@@ -1,9 +1,6 @@
 -- `zvt::headers::fitted` meets its contract. Assumes nothing.
 use mathlib.Core.Path.{sym}
-use mathlib.Core.Logic.{⊎_elim}
 use native.Mathlib.Omega.{arith}
-use borrow.Author.Rules.{rules}
-use borrow.Author.Tests.{ltb-true, ltb-false}
 use Rattle.zvt.proofs.HeaderLaws.{fit-over, fit_cut, fit-in}
 use Rattle.zvt.proofs.headers.fitted.Goals.{then-s-h-via-then-s-h, then-s-h-via-else-s-h+then-s-h-2}
 use Rattle.zvt.proofs.headers.fitted.Goals as goal

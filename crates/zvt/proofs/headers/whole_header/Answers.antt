@@ -1,7 +1,6 @@
 -- `zvt::headers::whole_header` meets its contract. Assumes nothing.
 use mathlib.Core.Path.{sym, ◌∙◌}
 use native.Mathlib.Omega.{arith}
-use borrow.Author.Rules.{rules}
 use Rattle.zvt.proofs.HeaderLaws.{first-within, whole-none, whole-over, whole_in}
 use Rattle.zvt.proofs.headers.whole_header.Goals as goal
 
@@ -20,4 +19,3 @@ returns-in-Refused c = sym (whole-none _ _ (sym c.header_of.ensures ∙ c.in-Ref
 pub returns-else-h-s : goal.returns-else-h-s
 returns-else-h-s c =
     sym (whole_in _ _ (sym c.header_of.ensures ∙ c.in-Header.is) c.if-h-s.false)
--- needs in order: header_of-requires>header_of-requires, enum_known-f>enum_known-f, enum_known-h>enum_known-h, sub-if1>overflow_sub-s, returns>returns-then-h-s, returns-2>returns-in-Refused, returns-3>returns-else-h-s

@@ -1,7 +1,6 @@
 -- `zvt::list::list_in` meets its contract: the layout of an accepted message says where its list starts. Assumes nothing.
 use mathlib.Core.Path.{sym, ◌∙◌}
 use native.Mathlib.Omega.{arith}
-use borrow.Author.Rules.{rules}
 use Rattle.zvt.proofs.PlaceLaws.{start_small, list_by, list-is}
 use Rattle.zvt.proofs.list.list_in.Goals as goal
 
@@ -22,4 +21,3 @@ pub returns-in-Secured : goal.returns-in-Secured
 unfolding list_by
 returns-in-Secured c =
     list-is _ _ c.requires _ (sym c.layout_of.ensures ∙ c.in-Secured.is)
--- needs in order: layout_of-requires>layout_of-requires, enum_told>enum_told-1, enum_told-2>enum_told-in-List, enum_told-3>enum_told-in-Secured, add-from>overflow_add-from, returns>returns-in-Plain, returns-2>returns-in-List, returns-3>returns-in-Secured

@@ -9,13 +9,6 @@ use Rattle.zvt.proofs.list.put_own_ids.Goals as goal
 
 pub put_ids-requires : goal.put_ids-requires
 put_ids-requires c =
-    let known = c in
-    let size : length known.args.out.now ≡ 256 = search rules in
-    let few = ids-few known.args.s.now (bytes-known _ known.shared_slice_known-1.given) in
+    let size : length c.args.out.now ≡ 256 = search rules in
+    let few = ids-few c.args.s.now (bytes-known _ c.type_inv.s) in
     (c.list_in-place.ensures.within, omega (arith, rw c.list_in-place.ensures.fields at few, size))
-
-pub returns : goal.returns
-returns c = rw c.list_in-place.ensures.fields c.put_ids.ensures
-
--- inline 0: λ c κs. c.requires
--- needs in order: list_in-requires>list_in-place-requires, put_ids-requires>put_ids-requires, returns>returns

@@ -2,10 +2,8 @@
 -- the measure is what is left of the bytes. Assumes nothing.
 use mathlib.Core.Path.{◌≡◌}
 use Prim.Native.Nat.{◌+◌, ◌-◌, ◌≤◌}
-use native.Mathlib.Omega.{arith}
 use lib.ListN.{length, drop}
 use Rattle.zvt_rules.specs.Name.{up_to_zero}
-use Rattle.zvt.proofs.NameLaws.{name-stops, name-goes, name-ends}
 use Rattle.zvt.proofs.name.name_size.Given as goal
 
 abbrev pub invariant-loop-i : goal.invariant-loop-i

@@ -1,7 +1,6 @@
 -- `zvt::objects::bounds_in` meets its contract. Assumes nothing.
 use mathlib.Core.Path.{sym}
 use Rattle.zvt.proofs.ObjectLaws.{value-cut, value-fits}
-use borrow.Author.Rules.{rules}
 use Rattle.zvt.proofs.objects.bounds_in.Goals as goal
 
 pub returns-then-s-from : goal.returns-then-s-from
@@ -9,4 +8,3 @@ returns-then-s-from c = sym (value-cut _ _ _ _ _ c.args.s.now c.requires.1 c.if-
 
 pub returns : goal.returns
 returns c = sym (value-fits _ _ _ _ _ c.args.s.now c.requires.1 c.if-s-from.false)
--- needs in order: sub-if1>overflow_sub-s, add-end>overflow_add-end, returns>returns-then-s-from, add-to>overflow_add-to, returns-2>returns

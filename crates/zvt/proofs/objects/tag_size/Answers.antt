@@ -4,7 +4,6 @@ use native.Mathlib.Omega.{arith}
 use lib.ListN.{get_or}
 use Rattle.zvt.proofs.Masks.{long-tag, short-tag, top-bit, no-top-bit}
 use Rattle.zvt.proofs.ObjectLaws.{tag-none, tag_one, tag-cut, tag-high, tag-two}
-use borrow.Author.Rules.{rules}
 use Rattle.zvt.proofs.objects.tag_size.Goals as goal
 
 pub returns-then-s-eq0 : goal.returns-then-s-eq0
@@ -30,4 +29,3 @@ returns-else-s-ne0 c =
     let s = c.args.s.now in
     sym (tag-two _ s (omega arith) (long-tag (get_or s 0 0) c.if-s-ne31.false)
     (no-top-bit (get_or s 1 0) (omega (arith, c.shared_slice_known-2-1.given 1)) c.if-s-ne0.false))
--- needs in order: returns>returns-then-s-eq0, shared_slice_read-if2>bounds-s-0, returns-2>returns-then-s-ne31, add-second>overflow_add-second, returns-3>returns-then-s-eq1, shared_slice_read-if4>bounds-s-1, returns-4>returns-then-s-ne0, returns-5>returns-else-s-ne0

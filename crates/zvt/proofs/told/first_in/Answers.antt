@@ -1,6 +1,5 @@
 -- `zvt::told::first_in` meets its contract. Assumes nothing.
 use mathlib.Core.Path.{sym, ◌∙◌}
-use borrow.Author.Rules.{rules}
 use Rattle.zvt.proofs.ToldLaws.{first-none, first_plain, first-list, first-secured}
 use Rattle.zvt.proofs.told.first_in.Goals as goal
 
@@ -18,4 +17,3 @@ returns-in-List c =
 pub returns-in-Secured : goal.returns-in-Secured
 returns-in-Secured c =
     first-secured _ _ c.requires (sym c.layout_of.ensures ∙ c.in-Secured.is)
--- needs in order: returns>returns-then-s-at, layout_of-requires>layout_of-requires, enum_told>enum_told-1, shared_slice_read-t9>bounds-s-at, enum_told-2>enum_told-in-List, enum_told-3>enum_told-in-Secured, returns-2>returns-in-Plain, returns-3>returns-in-List, returns-4>returns-in-Secured

@@ -1,6 +1,5 @@
 -- `zvt::told::told_behind` meets its contract. Assumes nothing.
 use mathlib.Core.Path.{sym, ap, ◌∙◌}
-use borrow.Author.Rules.{rules}
 use Rattle.zvt_rules.specs.declared.Places.{Places}
 use Rattle.zvt_rules.specs.declared.ReadAnswer.TheVariants.{Accepted}
 use Rattle.zvt_rules.specs.Message.{whole_header, read_of}
@@ -16,16 +15,14 @@ use Rattle.zvt.proofs.told.told_behind.Goals as goal
 pub told_in-requires : goal.told_in-requires
 unfolding read_answer read_of as_read_answer places_answer
 told_in-requires c =
-    let body = c in
-    let start = body in
-    let bytes = bytes-known start.args.s.now start.shared_slice_known-1.given in
+    let bytes = bytes-known c.args.s.now c.type_inv.s in
     let (m, read, outline, size, lies) =
-    accepted _ (whole_header _) _ start.requires (whole-first _) bytes _ (sym body.body_in-body.ensures.answer ∙ c.in-Part.is) in (
+    accepted _ (whole_header _) _ c.requires (whole-first _) bytes _ (sym c.body_in-body.ensures.answer ∙ c.in-Part.is) in (
       (bytes, ap as_read_answer read ∙ ap Accepted (outline ∙ sym c.outline_of.ensures)),
       record {
         bytes = bytes;
         fields =
-            ap (λ (p : Places). p.fields) (lies _ _ body.body_in-body.ensures) ∙ ap (λ x. spans_of x status_ids) (sym read);
+            ap (λ (p : Places). p.fields) (lies _ _ c.body_in-body.ensures) ∙ ap (λ x. spans_of x status_ids) (sym read);
       },
     )
 
@@ -34,6 +31,5 @@ unfolding read_of told_answer
 returns-in-Refused c =
     sym (ap told_answer (no_body _ (whole_header _) _ c.requires _ (sym c.body_in-body.ensures.answer ∙ c.in-Refused.is)))
 
--- inline 0: λ c κs. whole-within _ _ c.requires
--- inline 6: λ c. sym c.told_in.ensures
--- needs in order: body_in-requires>body_in-body-requires, enum_known-part>enum_known-part, enum_known-part-2>enum_known-part-in-Part-1, outline_of-requires>outline_of-requires, told_in-requires>told_in-requires, returns>returns-in-Refused, returns-2>returns-in-Part
+pub body_in-body-requires : goal.body_in-body-requires
+body_in-body-requires c = whole-within _ _ c.requires
