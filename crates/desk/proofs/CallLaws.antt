@@ -7,6 +7,8 @@ use Prim.Native.Nat.{ℕ, ◌≤◌, ◌<◌}
 use native.Mathlib.Omega.{arith}
 use lib.ListN.{length, take, drop}
 use lib.Seq.{take-length}
+use Rattle.std.proofs.Common.{min}
+use Rattle.buffers.proofs.Copies.{copied-all}
 use lib.Dec.{leb}
 use borrow.Author.Tests.{le-leb, lt-leb, lt-ltb, le-ltb}
 use denote.Enum.Declared.{tag_of}
@@ -52,6 +54,12 @@ booked-fits d i outcome settled code h b = let k = rw b at h in omega arith
 -- what bytes::copy leaves of bytes that are w
 pub copied : (s w out : List ℕ) → s ≡ w → take (length s) s ++ drop (length s) out ≡ front w out
 copied s w out e = rw (take-length, e)
+
+-- what buffers::copy leaves of such bytes, where there is room for all of them
+pub copied-whole : (s w out left : List ℕ) (n : ℕ) → s ≡ w → length w ≤ length out → n ≡ min (length s) (length out)
+    → left ≡ take n s ++ drop n out
+    → left ≡ front w out
+copied-whole s w out left n e room size bytes = (copied-all s out left n (rw e room) size bytes).1 ∙ copied s w out e
 
 -- what a lost link does to an idle lane, and to one that is not
 pub lost-idle : (l : Lane) → is_idle l.phase ≡ true → lost_by l ≡ no_move 14

@@ -5,14 +5,13 @@ use mathlib.Core.List.{List}
 use Prim.Native.Nat.{ℕ, ◌≤◌}
 use native.Mathlib.Omega.{arith}
 use lib.ListN.{length, take, length-append}
-use lib.Seq.{take_at, length-take-le}
+use lib.Seq.{take_at}
 use Rattle.basics.specs.Buffers.{front}
 use Rattle.basics.proofs.Tests.{same_test}
 use Rattle.desk_rules.specs.declared.Opening.{Opening}
 use Rattle.desk_rules.specs.Openings.{command_bytes, command_size, same}
 use Rattle.desk_rules.proofs.Commands.{command-size, size-most}
 use Rattle.desk_rules.proofs.Recognised.{same-exactly}
-use borrow.Author.Rules.{rules}
 use Rattle.desk.proofs.commands.is_command.Goals as goal
 
 at-start : (o : Opening) (size : ℕ) (b out : List ℕ) → size ≡ command_size o → b ≡ front (command_bytes o) out
@@ -23,14 +22,7 @@ at-start o size b out n e =
 pub put_command-requires : goal.put_command-requires
 put_command-requires c = let o = c.args.opening in omega (arith, command-size o, size-most o)
 
-pub slice_bounds-b-end : goal.slice_bounds-b-end
-slice_bounds-b-end c = (at-start _ _ _ _ c.command_size-size.ensures c.put_command.ensures).0
-
-pub slice_bounds-same-end : goal.slice_bounds-same-end
-slice_bounds-same-end c = sym (length-take-le _ _ (slice_bounds-b-end c))
-
 pub returns : goal.returns
 returns c =
     same_test c.same.ensures (same-exactly _ _)
     ∙ ap (same _) (at-start _ _ _ _ c.command_size-size.ensures c.put_command.ensures).1
--- needs in order: slice_aggregate-put_command>slice_bounds-put_command-end, put_command-requires>put_command-requires, command_size-requires>command_size-size-requires, array_share_prefix-b>slice_bounds-b-end, slice_aggregate-same>slice_bounds-same-end, same-requires>same-requires, returns>returns

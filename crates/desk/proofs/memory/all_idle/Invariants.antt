@@ -1,13 +1,10 @@
 -- `desk::memory::all_idle` meets its contract. The loop's invariant: the lanes before `i` are idle, so that all are exactly where those
 -- from `i` on are. Assumes nothing.
-use mathlib.Core.Path.{◌≡◌, refl, sym, ◌∙◌}
+use mathlib.Core.Path.{◌≡◌}
 use Prim.Native.Nat.{◌≤◌, ◌-◌}
-use native.Mathlib.Omega.{arith}
-use lib.ListN.{drop, drop_of_length-le}
-use borrow.Author.Tests.{not-true, not-false}
+use lib.ListN.{drop}
 use Rattle.desk_rules.specs.Numbers.{lane_count}
 use Rattle.desk_rules.specs.Desk.{all_idle}
-use Rattle.desk_rules.proofs.Sums.{idle-from}
 use Rattle.desk.proofs.memory.all_idle.Given as goal
 
 abbrev pub invariant-loop-i : goal.invariant-loop-i

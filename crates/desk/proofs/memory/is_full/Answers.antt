@@ -1,8 +1,6 @@
 -- `desk::memory::is_full` meets its contract. Assumes nothing.
 use Rattle.desk_rules.proofs.Memory.{load_is}
-use borrow.Author.Rules.{rules}
 use Rattle.desk.proofs.memory.is_full.Goals as goal
 
 pub returns : goal.returns
 returns c = rw (load_is c.args.d c.requires, c.lines_taken-taken.ensures)
--- needs in order: lines_taken-requires>lines_taken-taken-requires, add-result>overflow_add-result, returns>returns

@@ -1,15 +1,10 @@
 -- `desk::memory::lines_taken` meets its contract. The loop's invariant: `n` is how many lines are kept for the first `i` lanes. Assumes
 -- nothing.
-use mathlib.Core.Path.{◌≡◌, ◌∙◌, ap}
+use mathlib.Core.Path.{◌≡◌}
 use Prim.Native.Nat.{◌≤◌, ◌-◌}
-use native.Mathlib.Omega.{arith}
 use lib.ListN.{take}
-use lib.Seq.{take_all}
-use Rattle.desk_rules.specs.Desk.{lane_at, lines_taken}
-use Rattle.desk_rules.specs.Lanes.{line_taken}
+use Rattle.desk_rules.specs.Desk.{lines_taken}
 use Rattle.desk_rules.specs.Numbers.{lane_count}
-use Rattle.desk_rules.proofs.Memory.{line-taken-most}
-use Rattle.desk_rules.proofs.Sums.{lines-taken-take, lines-taken-most}
 use Rattle.desk.proofs.memory.lines_taken.Given as goal
 
 abbrev pub invariant-loop-i : goal.invariant-loop-i

@@ -6,8 +6,11 @@ use Rattle.desk.proofs.memory.moved.Goals as goal
 
 pub ended-requires : goal.ended-requires
 ended-requires c =
-    let e = c.m-in-Ends-1.given.0 in
-    (c.requires.0, λ b. booked-fits c.args.t1 c.args.lane e.0 e.1.0 e.1.1.0 (rw c.in-Ends.is at c.requires.1) (rw c.ending_line.ensures at b))
+    let e = c.in-Ends in (
+      c.requires.0,
+      λ b. booked-fits c.args.d c.args.lane e.outcome e.settled e.code
+          (rw e.is at c.requires.1) (rw c.ending_line.ensures at b),
+    )
 
 pub returns-in-Refused : goal.returns-in-Refused
 unfolding moved_desk
@@ -24,4 +27,3 @@ returns-in-Becomes c = rw c.in-Becomes.is
 pub returns-in-Ends : goal.returns-in-Ends
 unfolding moved_desk
 returns-in-Ends c = rw (c.in-Ends.is, c.ended.ensures, c.ending_line.ensures)
--- needs in order: enum_told>enum_told-1, enum_told-2>enum_told-in-Stays, enum_known-m>enum_known-m, mul-l>offset_bounds-next-at, element_set_from-l>bounds-next-at, enum_known-m-2>enum_known-m-in-Ends-1, mul-l-2>offset_bounds-d-at, element_copy_out-l>bounds-d-at, ending_line-requires>ending_line-requires, ended-requires>ended-requires, returns>returns-in-Refused, returns-2>returns-in-Stays, returns-3>returns-in-Becomes, returns-4>returns-in-Ends

