@@ -9,6 +9,7 @@ pub mod Rows
 pub mod Heard
 pub mod Calls
 pub mod Lanes
+pub mod LineCount
 pub mod Runs
 pub mod Due
 pub mod Payment

@@ -29,7 +29,8 @@ use Rattle.desk_rules.specs.Runs.{one_opened}
 use Rattle.desk_rules.specs.Desk.{fresh, lane_at, lines_taken, all_idle, load, Decision, refuse, accept, decide, lane_after, line_if, lines_from, step}
 use Rattle.desk_rules.specs.Memory.{fresh_desk, lines_of_desk, view, lane_for, ToldSmall, Valid, with_line, ended_desk, moved_desk, refused_answer, answer_by, answer_of, leaves_by, leaves_of, close_answer}
 use Rattle.desk_rules.proofs.Calls.{Passes}
-use Rattle.desk_rules.proofs.Lanes.{total-set, lines-taken-total, kept, not-refused, passed}
+use Rattle.desk_rules.proofs.Lanes.{total-set, lines-taken-total, not-refused, passed}
+use Rattle.desk_rules.proofs.LineCount.{kept}
 use Rattle.desk_rules.proofs.Amounts.{Small, LaneFits, LinesFit, Fits, moves-fit}
 
 -- ---- lists

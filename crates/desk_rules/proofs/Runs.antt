@@ -13,7 +13,8 @@ use Rattle.desk_rules.specs.Course.{Call, lane_of, needs_line, moves, writes}
 use Rattle.desk_rules.specs.Desk.{State, fresh, lane_at, lines_taken, load, step, Accepted, run, wrote}
 use Rattle.desk_rules.specs.Runs.{having, calls_of, Own, own_of, total, one_opened, openings, Exchange, replies}
 use Rattle.desk_rules.proofs.Calls.{Passes}
-use Rattle.desk_rules.proofs.Lanes.{moves-local, after, by-lane, AcceptParts, accept-parts, parts-accept, opened_one, lanes_step, load_step}
+use Rattle.desk_rules.proofs.Lanes.{moves-local, after, by-lane, AcceptParts, accept-parts, parts-accept, opened_one, lanes_step}
+use Rattle.desk_rules.proofs.LineCount.{load_step}
 
 -- ---- runs
 

@@ -23,6 +23,7 @@ pub mod Listing
 pub mod Told
 pub mod RowReadings
 pub mod RowObjects
+pub mod FieldRefusals
 pub mod RowFields
 pub mod RowMessages
 pub mod Faults

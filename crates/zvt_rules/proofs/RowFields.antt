@@ -2,35 +2,35 @@
 use mathlib.Core.Path.{◌≡◌, refl, sym, ap, ◌∙◌, subst}
 use mathlib.Core.Bool.{true, false, not as inverse, false≢true}
 use mathlib.Core.List.{List, [], ◌∷◌, ◌++◌, append_assoc}
-use mathlib.Core.Logic.{◌↔◌, ⊎_elim, ◌⊎◌}
+use mathlib.Core.Logic.{◌↔◌, ◌⊎◌}
 use Prim.Native.Nat.{ℕ, zero, suc, ◌+◌, ◌-◌, ◌*◌, ◌/◌, ◌%◌, ◌^◌, ◌<◌, ◌≤◌}
 use native.Mathlib.Omega.{arith}
 use lib.ListN.{length, take, drop, replicate, length-replicate, length-append, length-drop, take-append-drop}
-use lib.Seq.{drop-append_seam, length-take-le, take-append-le, take-append_seam, take_at, take_all}
+use lib.Seq.{drop-append_seam, length-take-le, take_all}
 use lib.Dec.{ltb}
-use borrow.Author.Tests.{lt-ltb, ltb-true, ltb-false, not-true, not-false}
+use borrow.Author.Tests.{ltb-true, not-true, not-false}
 use Rattle.zvt_rules.specs.declared.Refusal.{Refusal}
 use Rattle.zvt_rules.specs.declared.Format.{Format}
 use Rattle.zvt_rules.specs.declared.Format.TheVariants.{Unknown, Fixed, Digits, Container}
 use Rattle.basics.specs.Lists.{among}
 use Rattle.zvt_rules.specs.Reading.{Reading, got, refused, fault_at, unless}
-use Rattle.zvt_rules.specs.Objects.{Form, form_size, len_of, run_of}
+use Rattle.zvt_rules.specs.Objects.{Form, form_size}
 use Rattle.zvt_rules.specs.Fields.{format_of, unknown, length_digit, digits_of, decimal, unless_undecimal, holds_digits, digits_in, Field, plain, field_id, count_field, value_of, plain_of, container_of, field_by, field_of, list_of}
 use Rattle.zvt_rules.specs.believed.Writing.{len_bytes, sized, digit_bytes, length_in, field_bytes}
 use Rattle.basics.specs.believed.Lists.{Bytes}
 use Rattle.zvt_rules.specs.believed.Grammar.{FormOk, Decimals, SizeOk, FieldOk}
-use Rattle.zvt_rules.specs.believed.Digits.{Number, Says}
 use Rattle.zvt_rules.specs.believed.Rows.{Cut, RunNo, New, Undecimal, ListNo, no_field, twice, short, no_digit, undecimal, sized_in, inside, behind}
-use Rattle.basics.proofs.Tests.{by-test, pick_true, leb-fails, nand-test, fails, never}
+use Rattle.basics.proofs.Tests.{pick_true, leb-fails, nand-test, fails, never}
 use Rattle.zvt_rules.proofs.Readings.{unless-on, then-on, then-stop}
 use Rattle.zvt_rules.proofs.ObjectReading.{part_length}
-use Rattle.zvt_rules.proofs.Lengths.{len_bytes-size, len-sound, len-written}
+use Rattle.zvt_rules.proofs.Lengths.{len_bytes-size, len-sound}
 use Rattle.zvt_rules.proofs.ObjectBytes.{bytes_drop, bytes-part}
 use Rattle.zvt_rules.proofs.FieldReading.{digit-test, digit-fails, digits-in, value-in, field_in, field-got, list-none, list-step}
-use Rattle.zvt_rules.proofs.FieldBytes.{digit_bytes-size, digits-written, digits-sound, field-parts, value-back, back-within, back, field-by, six, container-id, begins, field-sound, field-complete}
+use Rattle.zvt_rules.proofs.FieldBytes.{digit_bytes-size, digits-written, digits-sound, field-parts, field-by, six, container-id, begins, field-sound, field-complete}
 use Rattle.basics.proofs.Lists.{among-exactly}
 use Rattle.zvt_rules.proofs.RowReadings.{Covered, is, not, covered-unless, moved, placed, covered-pick, covered-then, covered-as, filled}
-use Rattle.zvt_rules.proofs.RowObjects.{SizedRead, sized-read, len-covered, value-short, run-refused, run-covered}
+use Rattle.zvt_rules.proofs.RowObjects.{sized-read, len-covered, value-short, run-refused, run-covered}
+use Rattle.zvt_rules.proofs.FieldRefusals.{LengthDigits, digits-said, said-digits, digits-stop, digits-join, by-short, plain-at, container-sized, container-inside}
 
 -- ---- the tests of single bytes and ids, as the rows say them
 decimal-fails : (b : ℕ) → (decimal b ≡ false) ↔ Undecimal b
@@ -56,98 +56,6 @@ undecimal-stops at (c ∷ front) b s x h e =
     let z : at + 1 + length front ≡ at + suc (length front) = omega arith in
     rw h.0 (undecimal-stops (at + 1) front b s x h.1 e ∙ moved 6 z)
 
--- length digits throughout: those that say some length
-unfoldable LengthDigits : List ℕ → Type 0
-LengthDigits [] = Unit {0}
-LengthDigits (b ∷ s) = ((0xF0 ≤ b) × (b ≤ 0xF9)) × LengthDigits s
-
-digits-said : (s : List ℕ) → LengthDigits s → (v : ℕ) × Says s v
-unfolding LengthDigits Number
-digits-said [] h = (0, refl)
-digits-said (b ∷ s) h =
-    let (m, k) = digits-said s h.1 in
-    ((b - 0xF0) * 10 ^ length s + m, (b - 0xF0, m, (omega arith, omega arith), refl, k))
-
-said-digits : (s : List ℕ) (v : ℕ) → Says s v → LengthDigits s
-unfolding LengthDigits Number
-said-digits [] v e = tt
-said-digits (b ∷ s) v (d, m, k, e, r) = ((omega arith, omega arith), said-digits s m r)
-
--- the first byte that is no length digit, and length digits that break off
-digits-stop : (d v at : ℕ) (front : List ℕ) (b : ℕ) (s : List ℕ) → LengthDigits front → length front < d → ((b < 0xF0) ⊎ (0xF9 < b))
-    → digits_of d v at (front ++ (b ∷ s)) ≡ refused (fault_at 4 (at + length front))
-unfolding digits_of LengthDigits unless
-digits-stop zero v at front b s h l e = absurd (omega arith)
-digits-stop (suc d) v at [] b s h l e = let z : at ≡ at + 0 = omega arith in rw ((digit-fails b).1 e) (moved 4 z)
-digits-stop (suc d) v at (c ∷ front) b s h l e =
-    let z : at + 1 + length front ≡ at + suc (length front) = omega arith in
-    rw ((digit-test c).1 h.0) (digits-stop d _ (at + 1) front b s h.1 (omega arith) e ∙ moved 4 z)
-
-digits-out : (d v at : ℕ) (s : List ℕ) → LengthDigits s → length s < d → digits_of d v at s ≡ refused (fault_at 1 (at + length s))
-unfolding digits_of LengthDigits unless
-digits-out zero v at s h l = absurd (omega arith)
-digits-out (suc d) v at [] h l = let z : at ≡ at + 0 = omega arith in moved 1 z
-digits-out (suc d) v at (c ∷ s) h l =
-    let z : at + 1 + length s ≡ at + suc (length s) = omega arith in
-    rw ((digit-test c).1 h.0) (digits-out d _ (at + 1) s h.1 (omega arith) ∙ moved 1 z)
-
--- what a length is written with are length digits, and so is each front of it
-digits-join : (s t : List ℕ) → LengthDigits s → LengthDigits t → LengthDigits (s ++ t)
-unfolding LengthDigits
-digits-join [] t h g = g
-digits-join (b ∷ s) t h g = (h.0, digits-join s t h.1 g)
-
-digits-take : (k : ℕ) (s : List ℕ) → LengthDigits s → LengthDigits (take k s)
-unfolding LengthDigits
-digits-take zero s h = tt
-digits-take (suc k) [] h = tt
-digits-take (suc k) (b ∷ s) h = (h.0, digits-take k s h.1)
-
-digit_bytes-are : (d v : ℕ) → LengthDigits (digit_bytes d v)
-unfolding LengthDigits digit_bytes
-digit_bytes-are zero v = tt
-digit_bytes-are (suc d) v = digits-join (digit_bytes d (v / 10)) _ (digit_bytes-are d (v / 10)) ((omega arith, omega arith), tt)
-
--- a value that is cut
-plain-short : (id n at a v : ℕ) (s : List ℕ) → length s < a + v → plain_of id n at a v s ≡ refused (fault_at 1 (at + length s))
-unfolding plain_of value_of unless
-plain-short id n at a v s l = then-stop _ _ (rw (lt-ltb (length s) (a + v) l))
-
--- length or value that are cut, by the format
-by-short : (id n at : ℕ) (s : List ℕ) (f : Format) (w m : List ℕ) → SizeOk f (length w) → 0 < length m → s ++ m ≡ length_in f (length w) ++ w
-    → field_by id n at (id ∷ s) f ≡ refused (fault_at 1 (at + length (id ∷ s)))
-unfolding SizeOk length_in field_by
-by-short id n at s Unknown w m ok l e = absurd ok
-by-short id n at s (Fixed k) w m ok l e = plain-short id n at 1 k (id ∷ s) (omega (arith, length-append s m, ap length e))
-by-short id n at s (Digits d) w m ok l e =
-    let ds = digit_bytes d (length w) in
-    let size = digit_bytes-size d (length w) in
-    let total : length s + length m ≡ d + length w = omega (arith, length-append s m, length-append ds w, ap length e) in
-    by-test (ltb (length s) d)
-    (λ t.
-    let h = ltb-true (length s) d t in
-    let front : s ≡ take (length s) ds
-    = sym (take-append_seam s m) ∙ ap (take (length s)) e ∙ take-append-le (length s) ds w (omega arith) in
-    let are : LengthDigits s = rw front (digits-take (length s) ds (digit_bytes-are d (length w))) in
-    let z : at + 1 + length s ≡ at + suc (length s) = omega arith in
-    then-stop _ _ (digits-out d 0 (at + 1) s are h ∙ moved 1 z))
-    (λ t.
-    let h = ltb-false (length s) d t in
-    let front : take d s ≡ ds = sym (take-append-le d s m h) ∙ ap (take d) e ∙ take_at ds w d size in
-    let whole : ds ++ drop d s ≡ s = rw (← front) (take-append-drop d s) in
-    let read : digits_of d 0 (at + 1) s ≡ got (length w) = rw whole at (digits-written d (at + 1) (length w) (drop d s) ok) in
-    then-on _ (length w) read ∙ plain-short id n at (1 + d) (length w) (id ∷ s) (omega arith))
-by-short id n at s Container w m ok l e = absurd ok
-
--- a value that is there, whether digits or not
-plain-at : (id n at : ℕ) (p value rest : List ℕ) (d : ℕ) → length p ≡ d
-    → plain_of id n at (1 + d) (length value) (id ∷ ((p ++ value) ++ rest))
-    ≡ digits_in id (at + (1 + d)) value (got (record { field = plain id value; size = 1 + d + length value; count = n }))
-unfolding plain_of
-plain-at id n at p value rest d size =
-    let s = id ∷ ((p ++ value) ++ rest) in
-    then-on _ value (value-back at s (1 + d) (length value) value (back-within id p value rest d size) (back id p value rest d size))
-
 -- a value that is there and not decimal, by the format
 by-undecimal : (id n at : ℕ) (f : Format) (front : List ℕ) (b : ℕ) (tail s : List ℕ) → SizeOk f (length (front ++ (b ∷ tail)))
     → holds_digits id ≡ true → Decimals front → Undecimal b
@@ -169,30 +77,6 @@ by-undecimal id n at (Digits d) front b tail s ok h ds e =
     ∙ plain-at id n at p value s d size ∙ pick_true _ _ h ∙ undecimal-stops (at + (1 + d)) front b tail _ ds e
     ∙ moved 6 z
 by-undecimal id n at Container front b tail s ok h ds e = absurd ok
-
--- a container, at its length or inside
-container-sized : (n at : ℕ) (s : List ℕ) (r : Refusal) → SizedRead (at + 1) s r → container_of n at (0x06 ∷ s) ≡ refused r
-unfolding container_of value_of unless
-container-sized n at s r h =
-    ⊎_elim (λ e. then-stop _ _ e)
-    (λ x.
-    let l = x.0 in
-    let less : length (0x06 ∷ s) < 1 + form_size l.form + l.value = omega (arith, x.2) in
-    let end : at + suc (length s) ≡ at + 1 + length s = omega arith in
-    then-on _ l x.1 ∙ then-stop _ _ (rw (lt-ltb _ _ less, end) (ap refused x.3))) h
-
-container-inside : (n at : ℕ) (form : Form) (w s : List ℕ) (r : Refusal) → FormOk form (length w)
-    → run_of 4 n (at + (1 + form_size form)) w ≡ refused r → container_of n at (0x06 ∷ (sized form w ++ s)) ≡ refused r
-unfolding container_of sized
-container-inside n at form w s r ok e =
-    let q = len_bytes form (length w) in
-    let all : List ℕ = 0x06 ∷ ((q ++ w) ++ s) in
-    let a = 1 + form_size form in
-    let size = len_bytes-size form (length w) in
-    then-on _ (record { form = form; value = length w })
-    (ap (len_of (at + 1)) (append_assoc q w s) ∙ len-written (at + 1) form (length w) (w ++ s) ok)
-    ∙ then-on _ w (value-back at all a (length w) w (back-within 0x06 q w s (form_size form) size) (back 0x06 q w s (form_size form) size))
-    ∙ then-stop _ _ e
 
 -- a list is refused where its first field is
 list-stop : (seen : List ℕ) (n at id : ℕ) (s : List ℕ) (r : Refusal) → field_of seen n at (id ∷ s) ≡ refused r
