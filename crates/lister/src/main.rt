@@ -2,7 +2,7 @@
 
 #![tactic(auto)]
 
-use libc::{STDIN_FILENO, STDOUT_FILENO};
+use system::{STDIN_FILENO, STDOUT_FILENO};
 
 fn main() {
     let mut input = [0u8; listing::LIMIT + 1];

@@ -2,8 +2,8 @@
 
 #![tactic(auto)]
 
-use libc::{STDIN_FILENO, STDOUT_FILENO};
 use printing::desks;
+use system::{STDIN_FILENO, STDOUT_FILENO};
 
 // The most bytes of a tape.
 const LIMIT: usize = 1_048_576;
@@ -23,8 +23,8 @@ fn print(input: &mut [u8]) {
 }
 
 // It takes no argument.
-fn main() {
-    if os::arg_count() != 1 {
+fn main(rt: HostRuntime) {
+    if system::arg_count(&rt) != 1 {
         io::write_all(STDOUT_FILENO, b"not understood\n");
         return;
     }

@@ -6,8 +6,8 @@ use crate::turns::{BYTES, TEXT, Turn};
 use crate::{files, turns};
 use buffers::upto;
 use check::same;
-use libc::STDOUT_FILENO;
 use std::num::wrapping_add_u64;
+use system::STDOUT_FILENO;
 use words::Script;
 
 // How many answers a file of cases has, and how many of them differ.

@@ -12,7 +12,7 @@ mod taping;
 mod turns;
 
 use buffers::upto;
-use libc::STDOUT_FILENO;
+use system::STDOUT_FILENO;
 use words::Script;
 
 // The most bytes of a script.

@@ -1,6 +1,6 @@
 // A refusal told in words: the first that docs/RULES.md has for its number (R1 to R23), without the other rules named there. What to do
 // next is said in docs/REFUSALS.md.
-use libc::STDERR_FILENO;
+use system::STDERR_FILENO;
 use zvt_rules::{Place, Refusal};
 
 fn say(text: &[u8]) {

@@ -2,7 +2,7 @@
 
 #![tactic(auto)]
 
-use libc::STDIN_FILENO;
+use system::STDIN_FILENO;
 
 fn main() {
     let mut input = [0u8; script::LIMIT + 1];

@@ -2,24 +2,29 @@
 
 #![tactic(auto)]
 
-use libc::STDOUT_FILENO;
 use script::cases::Tally;
+use std::fs::File;
 use std::num::wrapping_add_u64;
+use std::os::fd::AsRawFd;
+use std::rt::{Env, Files};
+use system::STDOUT_FILENO;
 
 // One file; where it cannot be read, or is longer than a script may be, that counts as an answer that differs.
-fn file(path: &[u8]) -> Tally {
+fn file(rt: &impl Files<File = File>, path: &[u8]) -> Tally {
     let bad = Tally {
         answers: 0,
         differ: 1,
     };
-    let fd = os::open_read(path);
-    if fd < 0 {
-        os::fail(path);
-        return bad;
-    }
+    let file = match system::open_read(rt, path) {
+        Ok(file) => file,
+        Err(e) => {
+            system::fail(path, e);
+            return bad;
+        }
+    };
     let mut text = [0u8; script::LIMIT + 1];
-    let n = io::read_full(fd, &mut text);
-    libc::close(fd);
+    let n = io::read_full(file.as_raw_fd(), &mut text);
+    drop(file);
     if script::LIMIT < n {
         io::write_all(STDOUT_FILENO, b"file too long\n");
         return bad;
@@ -28,14 +33,14 @@ fn file(path: &[u8]) -> Tally {
 }
 
 // The files of the arguments from number 1 on.
-fn files(count: usize) -> Tally {
+fn files(rt: &(impl Env + Files<File = File>), count: usize) -> Tally {
     let mut path = io::buffer();
     let mut answers: u64 = 0;
     let mut differ: u64 = 0;
     let mut k: usize = 1;
     while k < count {
-        let n = os::arg(k, &mut path);
-        let t = file(&path[..n]);
+        let n = rt.arg(k, &mut path).unwrap_or(0);
+        let t = file(rt, &path[..n]);
         answers = wrapping_add_u64(answers, t.answers);
         differ = wrapping_add_u64(differ, t.differ);
         k += 1;
@@ -43,12 +48,12 @@ fn files(count: usize) -> Tally {
     Tally { answers, differ }
 }
 
-fn main() {
+fn main(rt: HostRuntime) {
     let most = [b'#'; script::LIMIT];
     script::play(&most);
     let more = [b'#'; script::LIMIT + 1];
     script::play(&more);
-    let t = files(os::arg_count());
+    let t = files(&rt, system::arg_count(&rt));
     io::print_decimal(STDOUT_FILENO, t.answers);
     io::write_all(STDOUT_FILENO, b" answers, ");
     io::print_decimal(STDOUT_FILENO, t.differ);
