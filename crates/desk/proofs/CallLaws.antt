@@ -1,7 +1,8 @@
 -- What a call of the desk answers and leaves, by the tests that the code makes one after the other. Assumes nothing.
 use mathlib.Core.Path.{◌≡◌, refl, sym, ◌∙◌}
 use mathlib.Core.Bool.{true, false, ◌&&◌}
-use mathlib.Core.List.{List, ◌++◌}
+use mathlib.Core.Logic.{inl, inr}
+use mathlib.Core.List.{List, [], ◌∷◌, ◌++◌}
 use Prim.Native.Nat.{ℕ, ◌≤◌, ◌<◌}
 use native.Mathlib.Omega.{arith}
 use lib.ListN.{length, take, drop}
@@ -10,6 +11,8 @@ use Rattle.std.proofs.Common.{min}
 use Rattle.buffers.proofs.Copies.{copied-all}
 use lib.Dec.{leb}
 use borrow.Author.Tests.{le-leb, lt-leb, lt-ltb, le-ltb}
+use denote.Enum.Declared.{tag_of}
+use types.Run.{OneOf}
 use Rattle.zvt_rules.specs.declared.Refusal.{Refusal}
 use Rattle.zvt_rules.specs.Reading.{unplaced}
 use Rattle.basics.specs.Buffers.{front}
@@ -28,9 +31,19 @@ use Rattle.desk_rules.specs.Lanes.{line_at}
 use Rattle.desk_rules.specs.Desk.{lane_at, load, refuse, accept, unless_refused, decide, lines_from}
 use Rattle.desk_rules.specs.Memory.{view, lane_for, Valid, moved_desk, refused_answer, answer_of, leaves_of}
 use Rattle.desk.specs.Steps.{BookedFits, LineFits}
+use Rattle.desk_rules.specs.contracts.Moved.{the_type}
 use Rattle.desk_rules.proofs.Calls.{Passes}
 use Rattle.desk_rules.proofs.Lanes.{passing}
 use Rattle.desk_rules.proofs.Memory.{move_of, refused-same, accepted-answer, refused-leaves, accepted-leaves, answer-valid}
+
+-- by the variant, as code that has ruled out the first one knows it
+pub passes-tag : (m : Moved) → OneOf (1 ∷ 2 ∷ 3 ∷ []) (tag_of the_type m) → Passes m
+passes-tag (Refused r) (inl e) = absurd (omega arith)
+passes-tag (Refused r) (inr (inl e)) = absurd (omega arith)
+passes-tag (Refused r) (inr (inr e)) = absurd (omega arith)
+passes-tag Stays h = tt
+passes-tag (Becomes l) h = tt
+passes-tag (Ends outcome settled code) h = tt
 
 -- a move that is no refusal
 pub passes-other : (m : Moved) → ((r : Refusal) → m ≡ Refused r → ⊥) → Passes m

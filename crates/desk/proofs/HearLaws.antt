@@ -39,6 +39,7 @@ use Rattle.desk_rules.specs.Kinds.{is_reversal, is_idle}
 use Rattle.desk_rules.specs.Course.{no_move, running_pairs, pair_is, completed_by, aborted_by, reported_by, moved_by, after_body, heard_waiting, heard_running, heard_by, after_header, heard}
 use Rattle.desk_rules.proofs.Answers.{same-pair}
 use Rattle.desk_rules.specs.contracts.Phase as phase
+use Rattle.desk.specs.contracts.hear.Said as said
 use Rattle.desk.specs.Hear.{header_by, said_by, waiting_moved, reported_as, moved_for, after_told, running_for, running_moved}
 use Rattle.desk.specs.declared.hear.Said.{Said}
 use Rattle.desk.specs.declared.hear.Said.TheVariants.{Completion, Abort, Report, Passing, NotAllowed}
@@ -73,6 +74,10 @@ passing-said x (inr (inr e)) = rw e
 pub none_said : (x : ℕ) → (OneOf running_pairs x → ⊥) → said_by x ≡ NotAllowed
 unfolding said_by
 none_said x n = rw (none-among running_pairs x n)
+
+pub allowed-tag : (x : Said) → OneOf (0 ∷ 1 ∷ 2 ∷ 3 ∷ []) (tag_of said.the_type x) → x ≡ NotAllowed → ⊥
+unfolding all_in
+allowed-tag x k e = false≢true (rw e at (at_key (λ t. not (eqb t 4)) (0 ∷ 1 ∷ 2 ∷ 3 ∷ []) refl _ k))
 
 -- two pairs are the same exactly where their bytes are
 pub pair_same : (class i c k : ℕ) → i < 256 → k < 256 → eqb (class * 256 + i) (c * 256 + k) ≡ pair_is class i c k
