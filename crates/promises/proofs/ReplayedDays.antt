@@ -88,8 +88,8 @@ at_once d us = record { until = []; later = us; all = refl; then = d; played = o
 until-split : {d e : Day} {us : List TapeTurn} {cs : List Call} → Played d us e cs → (before after : List Call) → before ++ after ≡ cs → Until d us before
 until-split {d} {us = us} k [] after h = at_once d us
 until-split over (b ∷ before) after h = absurd (omega (arith, ap length h))
-until-split (refused_one {u = u} row more) (b ∷ before) after h =
-    let m = until-split more (b ∷ before) after h in
+until-split {cs = cs} (refused_one {d} {e = e} {u = u} {us} row more) (b ∷ before) after h =
+    let m = until-split {d = d} {e = e} {us = us} {cs = cs} more (b ∷ before) after h in
     record {
       until = u ∷ m.until;
       later = m.later;

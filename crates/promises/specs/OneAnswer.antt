@@ -1,7 +1,7 @@
 -- Every public function states one answer and one content of lent memory for each input, refusals too: what one answer and one content
 -- are. Definitions only.
 use Rattle.std.specs.Prelude.{◌≡◌, ℕ, List}
-use Rattle.std.specs.Borrow.{Bor}
+use Rattle.std.specs.Borrow.{Bor, MutBor}
 
 -- that it admits only one answer: a statement of the answer and of what was lent, at exit; any two answers that it admits are the
 -- same, and any two contents
@@ -20,5 +20,5 @@ abbrev pub nothing : {E : Type 0} → E → Unit {0}
 nothing e = tt
 
 -- where two buffers are lent, the one content is the pair of them
-abbrev pub contents : Bor (List ℕ) → Bor (List ℕ) → List ℕ × List ℕ
+abbrev pub contents : MutBor (List ℕ) → MutBor (List ℕ) → List ℕ × List ℕ
 contents out room = (out.now, room.now)
