@@ -55,6 +55,9 @@ module _ {A : Type 0} (line : ℕ → A → List ℕ) (first k : ℕ) (xs : List
   unfolding numbered
   numbered-none h = rw (drop_of_length-le xs h)
 
+pub blocks-all : (count : ℕ) (s : List ℕ) → blocks_text (count - 0) (drop (0 * 512) s) ≡ blocks_text count s
+blocks-all count s = let all : count - 0 ≡ count = omega arith in rw all
+
 module _ (count k : ℕ) (s : List ℕ) where
   pub blocks-next : k < count
       → blocks_text (count - k) (drop (k * 512) s)
