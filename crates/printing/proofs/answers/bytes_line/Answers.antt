@@ -3,13 +3,10 @@ use Rattle.buffers.proofs.TextLaws.{both}
 use Rattle.printing.specs.Answers.{bytes_line}
 use Rattle.printing.proofs.Prints.{printed}
 use Rattle.printing.proofs.Lengths.{bytes-line-long}
-use borrow.Author.Rules.{rules}
 use Rattle.printing.proofs.answers.bytes_line.Goals as goal
 
 pub returns : goal.returns
 unfolding bytes_line
 returns c =
-    let bytes = c in
-    let v = bytes.args.v.now in
-    printed _ (bytes_line v) _ (bytes-line-long v) (both _ _ _ bytes.add_bytes-to.ensures c.add.ensures)
--- needs in order: add_bytes-requires>add_bytes-to-requires, add-requires>add-requires, same_length>shape_of-out, returns>returns
+    let v = c.args.v.now in
+    printed _ (bytes_line v) _ (bytes-line-long v) (both _ _ _ c.add_bytes-to.ensures c.add.ensures)

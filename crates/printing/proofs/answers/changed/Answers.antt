@@ -1,11 +1,10 @@
 -- `printing::answers::changed`. The loop's invariant: the bytes from i on are untouched where those behind the first n are. Assumes nothing.
-use mathlib.Core.Path.{◌≡◌, refl, ◌∙◌}
-use Prim.Native.Nat.{◌-◌, ◌≤◌}
+use mathlib.Core.Path.{◌∙◌}
+use Prim.Native.Nat.{◌≤◌}
 use native.Mathlib.Omega.{arith}
-use lib.ListN.{length, get_or, drop}
-use borrow.Author.Rules.{rules}
+use lib.ListN.{length, get_or}
 use borrow.Author.Tests.{lt-ltb, le-ltb, eq-eqb, ne_eqb}
-use Rattle.printing.specs.Answers.{untouched, changed_behind}
+use Rattle.printing.specs.Answers.{changed_behind}
 use Rattle.printing.proofs.Prints.{untouched-next, untouched-none}
 use Rattle.printing.proofs.answers.changed.Goals as goal
 
@@ -16,11 +15,10 @@ returns-then-lent-n c = rw (lt-ltb (length c.args.lent.now) c.args.n c.if-lent-n
 pub returns-then-lent-i : goal.returns-then-lent-i
 unfolding changed_behind
 returns-then-lent-i c =
-    let start = c in
-    let lent = start.args.lent.now in
+    let lent = c.args.lent.now in
     let i = c.loop-i.i in
-    let there : start.args.n ≤ length lent = c.if-lent-n.false in
-    rw (le-ltb (length lent) start.args.n there, c.loop-i.invariant.2, untouched-next lent i (omega arith), ne_eqb (get_or lent i 0) 0xC3 c.if-lent-i.true)
+    let there : c.args.n ≤ length lent = c.if-lent-n.false in
+    rw (le-ltb (length lent) c.args.n there, c.loop-i.invariant.2, untouched-next lent i (omega arith), ne_eqb (get_or lent i 0) 0xC3 c.if-lent-i.true)
 
 pub loop-i-preserved : goal.loop-i-preserved
 loop-i-preserved c =
@@ -31,9 +29,5 @@ loop-i-preserved c =
 pub returns : goal.returns
 unfolding changed_behind
 returns c =
-    let start = c in
-    let lent = start.args.lent.now in
-    rw (le-ltb (length lent) start.args.n c.if-lent-n.false, c.loop-i.invariant.2, untouched-none lent c.loop-i.i (omega arith))
-
--- inline 3: λ c. (omega arith, omega arith, refl)
--- needs in order: returns>returns-then-lent-n, loop-init>loop-i-init, shared_slice_read-if2>bounds-lent-i, returns-2>returns-then-lent-i, add-i>overflow_add-i, loop-smaller>loop-i-smaller, loop-preserved>loop-i-preserved, returns-3>returns
+    let lent = c.args.lent.now in
+    rw (le-ltb (length lent) c.args.n c.if-lent-n.false, c.loop-i.invariant.2, untouched-none lent c.loop-i.i (omega arith))

@@ -1,12 +1,8 @@
 -- `printing::answers::changed`. The loop's invariant: the bytes from i on are untouched where those behind the first n are. Assumes nothing.
-use mathlib.Core.Path.{◌≡◌, refl, ◌∙◌}
+use mathlib.Core.Path.{◌≡◌}
 use Prim.Native.Nat.{◌-◌, ◌≤◌}
-use native.Mathlib.Omega.{arith}
-use lib.ListN.{length, get_or, drop}
-use borrow.Author.Rules.{rules}
-use borrow.Author.Tests.{lt-ltb, le-ltb, eq-eqb, ne_eqb}
-use Rattle.printing.specs.Answers.{untouched, changed_behind}
-use Rattle.printing.proofs.Prints.{untouched-next, untouched-none}
+use lib.ListN.{length, drop}
+use Rattle.printing.specs.Answers.{untouched}
 use Rattle.printing.proofs.answers.changed.Given as goal
 
 abbrev pub invariant-loop-i : goal.invariant-loop-i

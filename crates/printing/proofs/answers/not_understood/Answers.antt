@@ -4,7 +4,6 @@ use Rattle.buffers.proofs.TextLaws.{both}
 use Rattle.printing.specs.Answers.{not_understood}
 use Rattle.printing.proofs.Prints.{printed}
 use Rattle.printing.proofs.Lengths.{not-understood-long}
-use borrow.Author.Rules.{rules}
 use Rattle.printing.proofs.answers.not_understood.Goals as goal
 
 pub returns : goal.returns
@@ -13,4 +12,3 @@ returns c =
     let n = c.args.line in
     printed 64 (not_understood n) _ (not-understood-long n (omega arith))
     (both _ _ _ c.add_all-to.ensures (both _ _ _ c.add_number-to.ensures c.add_all.ensures))
--- needs in order: add_all-requires>add_all-to-requires, add_number-requires>add_number-to-requires, add_all-requires-2>add_all-requires, same_length>shape_of-out, returns>returns

@@ -1,15 +1,11 @@
 -- `printing::desks::add_lines`. The loop's invariant: the lines behind the first k, written behind the text so far, come to all of them, and
 -- k lines have at most 76 bytes each. Assumes nothing.
-use mathlib.Core.Path.{refl, sym, ◌∙◌}
 use Prim.Native.Nat.{◌+◌, ◌-◌, ◌*◌, ◌≤◌}
-use native.Mathlib.Omega.{arith}
-use lib.ListN.{length, drop}
-use lib.Seq.{length-take-le}
-use borrow.Author.Rules.{rules}
+use lib.ListN.{drop}
 use Rattle.basics.specs.Lists.{numbered}
 use Rattle.desk_rules.specs.Memory.{lines_of_desk}
 use Rattle.printing.specs.Desks.{line_text, lines_text}
-use Rattle.printing.proofs.Listed.{Telling, tells, told, line-next, line-none, numbered-none}
+use Rattle.printing.proofs.Listed.{Telling}
 use Rattle.printing.proofs.desks.add_lines.Given as goal
 
 abbrev pub invariant-loop-k : goal.invariant-loop-k

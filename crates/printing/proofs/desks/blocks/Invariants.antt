@@ -1,17 +1,9 @@
 -- `printing::desks::blocks`. The loop's invariant: the blocks behind the first k, written behind the text so far, come to all of them, and k
 -- blocks have at most 1,026 bytes of text each. Assumes nothing.
-use mathlib.Core.Path.{◌≡◌, refl, ap}
-use Prim.Native.Nat.{ℕ, ◌+◌, ◌-◌, ◌*◌, ◌/◌, ◌≤◌}
-use native.Mathlib.Omega.{arith}
-use lib.ListN.{length, take, drop}
-use borrow.Author.Rules.{rules}
-use Rattle.basics.specs.Text.{bytes_text}
-use Rattle.buffers.proofs.TextLaws.{both}
-use Rattle.printing.specs.Answers.{bytes_line}
-use Rattle.printing.specs.Desks.{blocks_text, tape_text}
-use Rattle.printing.proofs.Prints.{printed, alike}
-use Rattle.printing.proofs.Lengths.{block-long, tape-long}
-use Rattle.printing.proofs.Listed.{Telling, tells, told, blocks-all, blocks-next, blocks-none}
+use Prim.Native.Nat.{◌-◌, ◌*◌, ◌≤◌}
+use lib.ListN.{drop}
+use Rattle.printing.specs.Desks.{blocks_text}
+use Rattle.printing.proofs.Listed.{Telling}
 use Rattle.printing.proofs.desks.blocks.Given as goal
 
 abbrev pub invariant-loop-k : goal.invariant-loop-k

@@ -8,7 +8,6 @@ use Rattle.buffers.proofs.TextLaws.{both}
 use Rattle.printing.specs.Desks.{lines_text, book_text}
 use Rattle.printing.proofs.Prints.{printed}
 use Rattle.printing.proofs.Lengths.{book-long}
-use borrow.Author.Rules.{rules}
 use Rattle.printing.proofs.desks.book.Goals as goal
 
 pub returns : goal.returns
@@ -20,4 +19,3 @@ returns c =
     rw (length-take-le b.count b.lines within)
     (printed _ _ _ (book-long (lines_text (lines_of_desk d)) b.count c.add_lines-to.ensures.long (omega arith))
     (both _ _ _ c.add_lines-to.ensures.added c.counted.ensures))
--- needs in order: add_lines-requires>add_lines-to-requires, counted-requires>counted-requires, same_length>shape_of-out, returns>returns

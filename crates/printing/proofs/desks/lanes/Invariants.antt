@@ -1,14 +1,10 @@
 -- `printing::desks::lanes`. The loop's invariant: the lanes from this one on, written behind the text so far, come to all of them, and those
 -- before it have at most 76 bytes each. Assumes nothing.
-use mathlib.Core.Path.{refl, sym, ◌∙◌}
 use Prim.Native.Nat.{◌-◌, ◌*◌, ◌≤◌}
-use native.Mathlib.Omega.{arith}
 use lib.ListN.{drop}
-use borrow.Author.Rules.{rules}
 use Rattle.basics.specs.Lists.{numbered}
 use Rattle.printing.specs.Desks.{lane_text, lanes_text}
-use Rattle.printing.proofs.Prints.{printed}
-use Rattle.printing.proofs.Listed.{Telling, tells, told, lane-next, lane-there, numbered-none}
+use Rattle.printing.proofs.Listed.{Telling}
 use Rattle.printing.proofs.desks.lanes.Given as goal
 
 abbrev pub invariant-loop-lane : goal.invariant-loop-lane
