@@ -1,6 +1,7 @@
 -- The laws of the course, by subject: what opening writes, which opening bytes are, and the table of refusals; then runs, what is due for a
 -- payment, the day book, order, grouping and turnover; then what every desk is, and the laws that the desk's functions are proved by.
 pub mod Commands
+pub mod Supposed
 pub mod Recognised
 pub mod Judge
 pub mod LastSale
