@@ -16,15 +16,12 @@ returns-then-h-eq132 c = rw (c.if-h-ne0.false, c.if-h-eq132.true)
 pub returns-then-h-ne128 : goal.returns-then-h-ne128
 unfolding waiting_moved heard_waiting header_by
 returns-then-h-ne128 c =
-    let no-reply = c in
-    c.refused-then-h-ne128.ensures ∙ rw (no-reply.if-h-ne0.false, ne_eqb _ _ c.if-h-ne128.true, ne_eqb _ _ no-reply.if-h-eq132.false)
+    c.refused-then-h-ne128.ensures ∙ rw (c.if-h-ne0.false, ne_eqb _ _ c.if-h-ne128.true, ne_eqb _ _ c.if-h-eq132.false)
 
 pub returns-then-h-ne0-2 : goal.returns-then-h-ne0-2
 unfolding waiting_moved heard_waiting header_by
 returns-then-h-ne0-2 c =
-    let class = c in
-    let plain = class in
-    c.refused-then-h-ne0-2.ensures ∙ rw (plain.if-h-ne0.false, class.if-h-ne128.false, ne_eqb _ _ c.if-h-ne0-2.true)
+    c.refused-then-h-ne0-2.ensures ∙ rw (c.if-h-ne0.false, c.if-h-ne128.false, ne_eqb _ _ c.if-h-ne0-2.true)
 
 pub returns : goal.returns
 unfolding waiting_moved heard_waiting header_by

@@ -14,13 +14,11 @@ put-left-requires c =
 pub put_head-requires : goal.put_head-requires
 unfolding value_bytes
 put_head-requires c =
-    let start = c in
-    let h = head_bytes start.args.tag.now (length start.args.value.now) in
-    (start.requires.0, room h c.put-left.ensures start.requires.1)
+    let h = head_bytes c.args.tag.now (length c.args.value.now) in
+    (c.requires.0, room h c.put-left.ensures c.requires.1)
 
 pub returns : goal.returns
 unfolding value_bytes
 returns c =
-    let start = c in
-    let h = head_bytes start.args.tag.now (length start.args.value.now) in
-    then-put h c.put-left.ensures start.requires.1 c.put_head.ensures
+    let h = head_bytes c.args.tag.now (length c.args.value.now) in
+    then-put h c.put-left.ensures c.requires.1 c.put_head.ensures
