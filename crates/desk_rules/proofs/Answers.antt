@@ -108,9 +108,9 @@ Fits : State → Call → ℕ → Moved → Type 0
 Fits s c i m = Passes m → Makes s c i (lane_after (lane_at s.lanes i) m) (lines_from i (lane_at s.lanes i) m)
 
 module _ (s : State) (c : Call) (i : ℕ) where
-  Refuses : (r : Refusal) → Fits s c i (Refused r)
+  refuses : (r : Refusal) → Fits s c i (Refused r)
   unfolding Fits
-  Refuses r h = absurd h
+  refuses r h = absurd h
 
   stays : Makes s c i (lane_in s i) [] → Fits s c i Stays
   unfolding Fits lane_after lines_from
@@ -140,8 +140,8 @@ module _ (s : State) (i : ℕ) (b : List ℕ) where
       (λ e.
       let p = eqb-true h.class 0x84 e in
       ends _ _ _ (λ _. ended (by_84 (reads b _ 0x84 h.instruction (plain-read b h w (omega arith)) p refl))) (Ends Declined 0 h.instruction) tt)
-      (λ _. Refuses _ _ _ _)))
-      (λ _. Refuses _ _ _ _)
+      (λ _. refuses _ _ _ _)))
+      (λ _. refuses _ _ _ _)
 
   by_report : (m : Message) → Reads b 0x04 0x0F m.body → (lane_at s.lanes i).phase ≡ Running
       → let st = status_in (body_fields m.body) in Fits s (message i b) i (reported_by (lane_at s.lanes i) st st.code)
@@ -199,11 +199,11 @@ module _ (s : State) (i : ℕ) (b : List ℕ) where
   unfolding heard_running after_body
   by-running n h w e =
       pick-test (Fits s (message i b) i) (among running_pairs (h.class * 256 + h.instruction))
-      (λ t. body (read_of b) refl ((pairs-test _).0 t) e) (λ _. Refuses _ _ _ _)
+      (λ t. body (read_of b) refl ((pairs-test _).0 t) e) (λ _. refuses _ _ _ _)
     where
       body : (x : Reading Message) → read_of b ≡ x → In (h.class * 256 + h.instruction) while_running
           → (lane_at s.lanes i).phase ≡ Running → Fits s (message i b) i (after_body (lane_at s.lanes i) x)
-      body (refused f) r o on = Refuses _ _ _ _
+      body (refused f) r o on = refuses _ _ _ _
       body (got m) r o on = let p = same-pair b h m w r in by-moved m n r (rw (p.0, p.1) o) on
 
 -- ---- what a call makes of its lane
@@ -214,12 +214,12 @@ makes s (opening i o) n =
     let P = Fits s (opening i o) i in
     pick-test P (is_idle (lane_at s.lanes i).phase)
     (λ _. pick-test P (within_limits o)
-    (λ _. pick-test P (stands (refers_to o) (last_line i (refers_to o) s.lines)) (λ e. becomes _ _ _ _ (opened (ask i s.lines o e))) (λ _. Refuses _ _ _ _)) (λ _. Refuses _ _ _ _))
-    (λ _. Refuses _ _ _ _)
+    (λ _. pick-test P (stands (refers_to o) (last_line i (refers_to o) s.lines)) (λ e. becomes _ _ _ _ (opened (ask i s.lines o e))) (λ _. refuses _ _ _ _)) (λ _. refuses _ _ _ _))
+    (λ _. refuses _ _ _ _)
 makes s (message i b) n =
-    heard-cases (Fits s (message i b) i) (lane_at s.lanes i) b (Refuses _ _ _) (λ h w _. by-waiting s i b h w) (λ h w e. by-running s i b n h w e)
+    heard-cases (Fits s (message i b) i) (lane_at s.lanes i) b (refuses _ _ _) (λ h w _. by-waiting s i b h w) (λ h w e. by-running s i b n h w e)
 makes s (lost i) n =
-    pick-test (Fits s (lost i) i) (is_idle (lane_at s.lanes i).phase) (λ _. Refuses _ _ _ _) (λ _. ends _ _ _ (λ _. broken by_loss) (Ends Unclear 0 0) tt)
+    pick-test (Fits s (lost i) i) (is_idle (lane_at s.lanes i).phase) (λ _. refuses _ _ _ _) (λ _. ends _ _ _ (λ _. broken by_loss) (Ends Unclear 0 0) tt)
 
 -- ---- and nothing else
 

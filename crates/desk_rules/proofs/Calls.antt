@@ -145,9 +145,9 @@ module _ (l : Lane) (i : ℕ) (s : List ℕ) where
   Goes : Moved → Type 0
   Goes m = Passes m → Later l (message i s) m
 
-  Refuses : (r : Refusal) → Goes (Refused r)
+  refuses : (r : Refusal) → Goes (Refused r)
   unfolding Goes
-  Refuses r h = absurd h
+  refuses r h = absurd h
 
   stays : l ≡ retold l s → Goes Stays
   unfolding Goes
@@ -181,8 +181,8 @@ module _ (l : Lane) (i : ℕ) (s : List ℕ) where
       (λ e. becomes (running_lane l) (same λ m f. rw (of-header s h m (sym (then-on _ h w) ∙ f), (both h.class h.instruction 0x80 0x00 e).0)))
       (λ _. pick-test Goes (eqb h.class 0x84)
       (λ e. closes (Ends Declined 0 h.instruction) tt (rw (plain-read s h w (omega (arith, eqb-true h.class 0x84 e)), e)))
-      (λ _. Refuses _)))
-      (λ _. Refuses _)
+      (λ _. refuses _)))
+      (λ _. refuses _)
 
   reported : (st : Status) → remembered l.status s ≡ or_else st.code st l.status
       → l.phase ≡ Running → Goes (reported_by l st st.code)
@@ -209,10 +209,10 @@ module _ (l : Lane) (i : ℕ) (s : List ℕ) where
   unfolding heard_running after_body
   running h on =
       pick-test Goes (among running_pairs (h.class * 256 + h.instruction))
-      (λ _. go (read_of s) refl) (λ _. Refuses _)
+      (λ _. go (read_of s) refl) (λ _. refuses _)
     where
       go : (r : Reading Message) → read_of s ≡ r → Goes (after_body l r)
-      go (refused f) e = Refuses _
+      go (refused f) e = refuses _
       go (got m) e = moved m e on
 
 not-idle : {p q : Phase} → p ≡ q → is_idle q ≡ false → is_idle p ≡ false

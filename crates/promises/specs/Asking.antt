@@ -28,7 +28,7 @@ pub data CaseAnswer : Type 0 where
   -- pair, length of the body, whether every length was shortest, number of objects
   accepted : ℕ → ℕ → Bool → ℕ → CaseAnswer
   fields : List Field → CaseAnswer
-  GivesNumber : List ℕ → CaseAnswer
+  gives : List ℕ → CaseAnswer
   -- the lines, and net turnover
   book : List Line → ℤ → CaseAnswer
   -- the number of refusal
@@ -70,9 +70,9 @@ after_day d (c ∷ cs) ask =
 unfoldable pub answer_to : Question → CaseAnswer
 answer_to (read s) = shown (read_says (read_answer s)) message_shown
 answer_to (list s) = list_shown (read_of (status s))
-answer_to (name s) = GivesNumber (card_name (status s) [])
-answer_to (short s) = shown (short_says (shorten_answer (length s) s)) λ k. GivesNumber (take k (shorten_leaves s (output s)))
-answer_to (call cs c) = after_day fresh_desk cs λ d. shown (answer_says (answer_of d c (length buffer))) λ k. GivesNumber (take k (leaves_of d c buffer))
+answer_to (name s) = gives (card_name (status s) [])
+answer_to (short s) = shown (short_says (shorten_answer (length s) s)) λ k. gives (take k (shorten_leaves s (output s)))
+answer_to (call cs c) = after_day fresh_desk cs λ d. shown (answer_says (answer_of d c (length buffer))) λ k. gives (take k (leaves_of d c buffer))
 answer_to (day cs) = after_day fresh_desk cs λ d. book (lines_of_desk d) (net_of (lines_of_desk d))
 
 -- the answers that the definitions give to a table's rows, and those that stand in them

@@ -8,7 +8,7 @@ use Rattle.desk_rules.specs.declared.Outcome.TheVariants.{Declined, Approved}
 use Rattle.desk_rules.specs.declared.Line.{Line}
 use Rattle.desk_rules.specs.declared.Opening.TheVariants.{Sale as sale, Reversal as reversal}
 use Rattle.desk_rules.specs.Course.{Call, opening, message}
-use Rattle.promises.specs.Asking.{CaseRow, ◌⟶◌, read, list, name, short, call, day, accepted, fields, GivesNumber, book, refusal, status}
+use Rattle.promises.specs.Asking.{CaseRow, ◌⟶◌, read, list, name, short, call, day, accepted, fields, gives, book, refusal, status}
 
 -- so many bytes, written as one number
 unfoldable pub hex : ℕ → ℕ → List ℕ
@@ -56,11 +56,11 @@ table =
     ∷ read (hex 2 0x80_00) ⟶ refusal 1
     -- M4: "can be read, but is not shortest"; M10
     ∷ read (hex 5 0x80_00_FF_00_00) ⟶ accepted 0x8000 0 false 0
-    ∷ short (hex 5 0x80_00_FF_00_00) ⟶ GivesNumber (hex 3 0x80_00_00)
+    ∷ short (hex 5 0x80_00_FF_00_00) ⟶ gives (hex 3 0x80_00_00)
     -- M2: "00 to FE is itself the length. After FF the next two bytes are the length, low byte first."; M10
-    ∷ short (plain_body (hex 5 0x06_D1_FF_FE_00) 254) ⟶ GivesNumber (plain_body (hex 3 0x06_D1_FE) 254)
-    ∷ short (plain_body (hex 5 0x06_D1_FF_FF_00) 255) ⟶ GivesNumber (plain_body (hex 5 0x06_D1_FF_FF_00) 255)
-    ∷ short (plain_body (hex 5 0x06_D1_FF_00_01) 256) ⟶ GivesNumber (plain_body (hex 5 0x06_D1_FF_00_01) 256)
+    ∷ short (plain_body (hex 5 0x06_D1_FF_FE_00) 254) ⟶ gives (plain_body (hex 3 0x06_D1_FE) 254)
+    ∷ short (plain_body (hex 5 0x06_D1_FF_FF_00) 255) ⟶ gives (plain_body (hex 5 0x06_D1_FF_FF_00) 255)
+    ∷ short (plain_body (hex 5 0x06_D1_FF_00_01) 256) ⟶ gives (plain_body (hex 5 0x06_D1_FF_00_01) 256)
     ∷ read (plain_body (hex 3 0x06_D1_FE) 254) ⟶ accepted 0x06D1 254 true 0
     ∷ read (plain_body (hex 5 0x06_D1_FF_FE_00) 254) ⟶ accepted 0x06D1 254 false 0
     ∷ read (plain_body (hex 5 0x06_D1_FF_FF_00) 255) ⟶ accepted 0x06D1 255 true 0
@@ -69,20 +69,20 @@ table =
     ∷ read (hex 5 0x04_0F_FF_01_10) ⟶ refusal 2
     ∷ read (hex 5 0x04_0F_FF_00_10) ⟶ refusal 1
     -- P9, P7, P14; P4, R16
-    ∷ call [] (opening 0 (sale 1250)) ⟶ GivesNumber (hex 13 0x06_01_0A_04_00_00_00_00_12_50_49_09_78)
+    ∷ call [] (opening 0 (sale 1250)) ⟶ gives (hex 13 0x06_01_0A_04_00_00_00_00_12_50_49_09_78)
     ∷ call [] (opening 0 (sale 0)) ⟶ refusal 16
     -- P11, P12, P14
-    ∷ call sold_once (opening 0 (reversal 0 17)) ⟶ GivesNumber (hex 9 0x06_30_06_00_00_00_87_00_17)
+    ∷ call sold_once (opening 0 (reversal 0 17)) ⟶ gives (hex 9 0x06_30_06_00_00_00_87_00_17)
     -- F2, F3; M13; R4: "no length digit stands where one is due"
     ∷ list (hex 6 0x8B_F0_F3_41_42_43) ⟶ fields (plain 0x8B (hex 3 0x41_42_43) ∷ [])
-    ∷ name (hex 6 0x8B_F0_F3_41_42_43) ⟶ GivesNumber (hex 3 0x41_42_43)
+    ∷ name (hex 6 0x8B_F0_F3_41_42_43) ⟶ gives (hex 3 0x41_42_43)
     ∷ list (hex 3 0x8B_F0_FA) ⟶ refusal 4
     -- O3: "1F 07 is such a tag, though one byte could say it."; O11; O4, R8
     ∷ list (hex 6 0x06_04_1F_07_01_01) ⟶ fields (container bare (more (leaf (hex 2 0x1F_07) bare (hex 1 0x01)) none) ∷ [])
     ∷ read (status (hex 6 0x06_04_1F_07_01_01)) ⟶ accepted 0x040F 6 true 1
     ∷ list (hex 6 0x06_04_1F_81_01_00) ⟶ refusal 8
     -- O7, M10: "inner lengths first"
-    ∷ short (hex 9 0x04_0F_06_06_81_03_0B_01_41) ⟶ GivesNumber (hex 8 0x04_0F_05_06_03_0B_01_41)
+    ∷ short (hex 9 0x04_0F_06_06_81_03_0B_01_41) ⟶ gives (hex 8 0x04_0F_05_06_03_0B_01_41)
     -- P28: "A sale counts at its 06 0F and never at its status information."; P21, P23, P32; P34
     ∷ day two_sales ⟶ book two_lines (pos 400)
     ∷ []
