@@ -1,5 +1,5 @@
-// A lent buffer: filled with one value, counted, or written with text. Each function of text adds behind the first at bytes and answers
-// where the text then ends. What does not fit is left out.
+// A lent buffer: filled with one value, counted, copied to, searched, or written with text. Each function of text adds behind the first at
+// bytes and answers where the text then ends. What does not fit is left out.
 
 #![tactic(auto)]
 
@@ -25,6 +25,31 @@ pub fn upto(n: usize, s: &[u8]) -> usize
     ensures counts { IsPrefixLen result s.now }
 {
     if s.len() < n { s.len() } else { n }
+}
+
+// Puts src at the start of out, as much of it as there is room for, and answers how many bytes that are.
+pub fn copy(src: &[u8], out: &mut [u8]) -> usize
+    ensures size { result ≡ min (length src.now) (length out.old) }
+    ensures bytes { out.new ≡ take result src.now ++ drop result out.old }
+{
+    let n = upto(out.len(), src);
+    out[..n].copy_from_slice(&src[..n]);
+    n
+}
+
+// The place of the first b in s from that place on; where none follows, the end of s, or that place where it lies behind the end.
+pub fn find(s: &[u8], from: usize, b: u8) -> usize
+    ensures place { result ≡ from + index_of b (drop from s.now) }
+    ensures within { (from ≤ result) × (result ≤ max from (length s.now)) }
+{
+    let mut i = from;
+    while i < s.len() {
+        if s[i] == b {
+            return i;
+        }
+        i += 1;
+    }
+    i
 }
 
 pub fn add(b: u8, at: usize, out: &mut [u8]) -> usize
@@ -116,29 +141,4 @@ pub fn hex_value(b: u8) -> u8
         return b - 87;
     }
     16
-}
-
-// Puts src at the start of out, as much of it as there is room for, and answers how many bytes that are.
-pub fn copy(src: &[u8], out: &mut [u8]) -> usize
-    ensures size { result ≡ min (length src.now) (length out.old) }
-    ensures bytes { out.new ≡ take result src.now ++ drop result out.old }
-{
-    let n = upto(out.len(), src);
-    out[..n].copy_from_slice(&src[..n]);
-    n
-}
-
-// The place of the first b in s from that place on; where none follows, the end of s, or that place where it lies behind the end.
-pub fn find(s: &[u8], from: usize, b: u8) -> usize
-    ensures place { result ≡ from + index_of b (drop from s.now) }
-    ensures within { (from ≤ result) × (result ≤ max from (length s.now)) }
-{
-    let mut i = from;
-    while i < s.len() {
-        if s[i] == b {
-            return i;
-        }
-        i += 1;
-    }
-    i
 }

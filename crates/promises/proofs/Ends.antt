@@ -191,6 +191,12 @@ buffers-fill-ends = (λ M. buffers.fill.Met.met, λ κs a. refl)
 pub buffers-upto-ends : Ends buffers.upto.Statement.statement × AsksNothing buffers.upto.Reads.Asked
 buffers-upto-ends = (λ M. buffers.upto.Met.met, λ κs a. refl)
 
+pub buffers-copy-ends : Ends buffers.copy.Statement.statement × AsksNothing buffers.copy.Reads.Asked
+buffers-copy-ends = (λ M. buffers.copy.Met.met, λ κs a. refl)
+
+pub buffers-find-ends : Ends buffers.find.Statement.statement × AsksNothing buffers.find.Reads.Asked
+buffers-find-ends = (λ M. buffers.find.Met.met, λ κs a. refl)
+
 pub buffers-add-ends : Ends buffers.add.Statement.statement × AsksNothing buffers.add.Reads.Asked
 buffers-add-ends = (λ M. buffers.add.Met.met, λ κs a. refl)
 
@@ -208,12 +214,6 @@ buffers-add-decimal-ends = (λ M. buffers.add_decimal.Met.met, λ κs a. refl)
 
 pub buffers-hex-value-ends : Ends buffers.hex_value.Statement.statement × AsksNothing buffers.hex_value.Reads.Asked
 buffers-hex-value-ends = (λ M. buffers.hex_value.Met.met, λ κs a. refl)
-
-pub buffers-copy-ends : Ends buffers.copy.Statement.statement × AsksNothing buffers.copy.Reads.Asked
-buffers-copy-ends = (λ M. buffers.copy.Met.met, λ κs a. refl)
-
-pub buffers-find-ends : Ends buffers.find.Statement.statement × AsksNothing buffers.find.Reads.Asked
-buffers-find-ends = (λ M. buffers.find.Met.met, λ κs a. refl)
 
 -- ---- listing: the text of a listing
 pub listing-add-ids-ends : Ends listing.add_ids.Statement.statement × AsksNothing listing.add_ids.Reads.Asked

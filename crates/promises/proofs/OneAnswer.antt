@@ -209,6 +209,12 @@ buffers-fill-one κs a = only _ _ (λ r e h. (refl, h))
 pub buffers-upto-one : (κs : _) (a : _) → Only itself nothing (buffers.upto.Reads.Learnt κs a)
 buffers-upto-one κs a = only _ _ (λ r e h. (h.0, refl))
 
+pub buffers-copy-one : (κs : _) (a : _) → Only itself (λ e. e.1.0.now) (buffers.copy.Reads.Learnt κs a)
+buffers-copy-one κs a = only _ _ (λ r e h. (h.0, h.1 ∙ ap (λ (n : ℕ). take n a.0.now ++ drop n a.1.0.now) h.0))
+
+pub buffers-find-one : (κs : _) (a : _) → Only itself nothing (buffers.find.Reads.Learnt κs a)
+buffers-find-one κs a = only _ _ (λ r e h. (h.0, refl))
+
 pub buffers-add-one : (κs : _) (a : _) → Only itself (λ e. e.1.1.0.now) (buffers.add.Reads.Learnt κs a)
 buffers-add-one κs a = only _ _ (λ r e h. text h)
 
@@ -226,12 +232,6 @@ buffers-add-decimal-one κs a = only _ _ (λ r e h. text h)
 
 pub buffers-hex-value-one : (κs : _) (a : _) → Only itself nothing (buffers.hex_value.Reads.Learnt κs a)
 buffers-hex-value-one κs a = only _ _ (λ r e h. (h, refl))
-
-pub buffers-copy-one : (κs : _) (a : _) → Only itself (λ e. e.1.0.now) (buffers.copy.Reads.Learnt κs a)
-buffers-copy-one κs a = only _ _ (λ r e h. (h.0, h.1 ∙ ap (λ (n : ℕ). take n a.0.now ++ drop n a.1.0.now) h.0))
-
-pub buffers-find-one : (κs : _) (a : _) → Only itself nothing (buffers.find.Reads.Learnt κs a)
-buffers-find-one κs a = only _ _ (λ r e h. (h.0, refl))
 
 -- ---- listing: the text of a listing
 pub listing-add-ids-one : (κs : _) (a : _) → Only itself (λ e. e.1.1.0.now) (listing.add_ids.Reads.Learnt κs a)

@@ -25,6 +25,7 @@ const EILSEQ: i32 = 84;
 // What std says of an error is shorter.
 const MOST_SAID: usize = 128;
 
+// Whether there is an argument of that number; one that does not fit is there, too.
 fn is_there(rt: &impl Env, k: usize) -> bool {
     let mut first = [0u8; 1];
     match rt.arg(k, &mut first) {
@@ -40,6 +41,7 @@ pub fn arg_count(rt: &impl Env) -> usize {
             return k;
         }
     }
+    // No program has so many.
     usize::MAX
 }
 

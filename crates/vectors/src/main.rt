@@ -23,6 +23,7 @@ fn file(rt: &impl Files<File = File>, path: &[u8]) -> Tally {
         }
     };
     let mut text = [0u8; script::LIMIT + 1];
+    // A read that fails counts as the end.
     let n = io::read_full(file.as_raw_fd(), &mut text);
     drop(file);
     if script::LIMIT < n {

@@ -1,4 +1,4 @@
--- `buffers::add_hexes`. The invariant: the buffer keeps its length, and what is left to add comes to the same. Assumes nothing.
+-- `add_hexes` meets its contract. Assumes nothing.
 use mathlib.Core.Path.{sym, ◌∙◌}
 use native.Mathlib.Omega.{arith}
 use Rattle.basics.specs.Text.{text}

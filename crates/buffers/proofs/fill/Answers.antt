@@ -1,4 +1,4 @@
--- `fill` meets its contract. The loop's invariant: the first i bytes have the value, and the others are as they were. Assumes nothing.
+-- `fill` meets its contract. Assumes nothing.
 use mathlib.Core.Path.{◌≡◌, ◌∙◌}
 use mathlib.Core.List.{append-nil}
 use native.Mathlib.Omega.{arith}

@@ -1,5 +1,4 @@
--- `desk::net` meets its contract. The loop's invariant: `plus` and `minus` are the gains and the losses of the first `i` lines.
--- Assumes nothing.
+-- `desk::net` meets its contract. Assumes nothing.
 use mathlib.Core.Path.{◌≡◌, ◌∙◌}
 use Prim.Native.Nat.{ℕ, ◌≤◌, ◌<◌, ◌^◌}
 use native.Mathlib.Omega.{arith}

@@ -1,4 +1,4 @@
--- `listing::add_each`. The invariant: the buffer keeps its length, and what is left to add comes to the same. Assumes nothing.
+-- `add_each` meets its contract. Assumes nothing.
 use Prim.Native.Nat.{ℕ}
 use mathlib.Core.Path.{sym, ap, ◌∙◌}
 use lib.ListN.{length}

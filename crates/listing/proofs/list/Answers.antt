@@ -1,5 +1,4 @@
--- `listing::list`. The loop's invariant: the lines of what is left, written behind the text so far, come to the whole listing; no more
--- messages were listed than bytes are passed, and none of an input that is too long. Assumes nothing.
+-- `list` meets its contract. Assumes nothing.
 use Prim.Native.Nat.{ℕ}
 use mathlib.Core.Logic.{inl, inr, ⊎_elim}
 use mathlib.Core.Path.{refl, ap, ◌∙◌}

@@ -1,5 +1,5 @@
 -- `desk::memory::lines_taken` meets its contract. The loop's invariant: `n` is how many lines are kept for the first `i` lanes. Assumes
--- nothing.
+-- nothing. Assumes nothing.
 use mathlib.Core.Path.{◌≡◌}
 use Prim.Native.Nat.{◌≤◌, ◌-◌}
 use lib.ListN.{take}

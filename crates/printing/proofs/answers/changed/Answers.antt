@@ -1,4 +1,4 @@
--- `printing::answers::changed`. The loop's invariant: the bytes from i on are untouched where those behind the first n are. Assumes nothing.
+-- `answers::changed` meets its contract. Assumes nothing.
 use mathlib.Core.Path.{◌∙◌}
 use Prim.Native.Nat.{◌≤◌}
 use native.Mathlib.Omega.{arith}

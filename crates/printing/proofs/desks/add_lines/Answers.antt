@@ -1,5 +1,4 @@
--- `printing::desks::add_lines`. The loop's invariant: the lines behind the first k, written behind the text so far, come to all of them, and
--- k lines have at most 76 bytes each. Assumes nothing.
+-- `desks::add_lines` meets its contract. Assumes nothing.
 use mathlib.Core.Path.{refl, sym}
 use Prim.Native.Nat.{◌≤◌}
 use native.Mathlib.Omega.{arith}

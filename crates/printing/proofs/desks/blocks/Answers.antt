@@ -1,5 +1,4 @@
--- `printing::desks::blocks`. The loop's invariant: the blocks behind the first k, written behind the text so far, come to all of them, and k
--- blocks have at most 1,026 bytes of text each. Assumes nothing.
+-- `desks::blocks` meets its contract. Assumes nothing.
 use mathlib.Core.Path.{◌≡◌, ap}
 use Prim.Native.Nat.{ℕ, ◌+◌, ◌-◌, ◌*◌}
 use native.Mathlib.Omega.{arith}

@@ -1,5 +1,4 @@
--- `printing::desks::lanes`. The loop's invariant: the lanes from this one on, written behind the text so far, come to all of them, and those
--- before it have at most 76 bytes each. Assumes nothing.
+-- `desks::lanes` meets its contract. Assumes nothing.
 use mathlib.Core.Path.{sym, ◌∙◌}
 use native.Mathlib.Omega.{arith}
 use Rattle.printing.specs.Desks.{lane_text}

@@ -1,4 +1,4 @@
--- `notation::in_pairs`. The invariant: all are hex digits just where those from i on are. Assumes nothing.
+-- `notation::in_pairs` meets its contract. Assumes nothing.
 use mathlib.Core.Path.{sym, ◌∙◌}
 use native.Mathlib.Omega.{arith}
 use Rattle.words.specs.Notation.{in_pairs}

@@ -1,4 +1,4 @@
--- `notation::put_bytes`. The invariant: the first k bytes are written, and the others are as they were. Assumes nothing.
+-- `notation::put_bytes` meets its contract. Assumes nothing.
 use mathlib.Core.Path.{◌∙◌}
 use native.Mathlib.Omega.{arith}
 use lib.ListN.{length-set}

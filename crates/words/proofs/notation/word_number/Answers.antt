@@ -1,4 +1,4 @@
--- `notation::word_number`. The invariant: the digits from i on, behind those that say n, say what all do. Assumes nothing.
+-- `notation::word_number` meets its contract. Assumes nothing.
 use Prim.Native.Nat.{◌+◌}
 use mathlib.Core.Path.{sym, ap, ◌∙◌}
 use native.Mathlib.Omega.{arith}

@@ -1,4 +1,4 @@
--- `split::following`: the blanks are counted. The invariant: those counted and those from i on are all. Assumes nothing.
+-- `split::following` meets its contract. Assumes nothing.
 use native.Mathlib.Omega.{arith}
 use Rattle.words.proofs.SplitLaws.{following-none, following-blank, following-other}
 use Rattle.words.proofs.split.following.Goals as goal

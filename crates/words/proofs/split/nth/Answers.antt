@@ -1,4 +1,4 @@
--- `split::nth`: the words of a table one by one. The invariant: its number from k on is k less than its number among all. Assumes nothing.
+-- `split::nth` meets its contract. Assumes nothing.
 use Prim.Native.Nat.{ℕ, ◌≤◌, ◌<◌}
 use mathlib.Core.Path.{◌≡◌, sym, ◌∙◌}
 use mathlib.Core.List.{List}

@@ -1,4 +1,4 @@
--- `split::start`. The invariant: the word is number left from i on. Assumes nothing.
+-- `split::start` meets its contract. Assumes nothing.
 use Prim.Native.Nat.{ℕ}
 use mathlib.Core.Path.{◌≡◌, sym, ◌∙◌}
 use mathlib.Core.List.{[]}

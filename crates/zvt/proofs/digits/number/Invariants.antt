@@ -1,5 +1,5 @@
 -- The invariant of `zvt::digits::number`: what is left, read behind v, gives the number, and v is small enough; the measure is
--- what is left.
+-- what is left. Assumes nothing.
 use mathlib.Core.Path.{◌≡◌}
 use Prim.Native.Nat.{◌-◌, ◌≤◌}
 use lib.ListN.{length, drop}

@@ -1,5 +1,5 @@
 -- The invariant of `zvt::digits::put_digits`: the digits of v in i bytes, and the bytes that stand from the i-th on, are the
--- digits of n; the measure is i.
+-- digits of n; the measure is i. Assumes nothing.
 use mathlib.Core.Path.{◌≡◌}
 use mathlib.Core.List.{◌++◌}
 use Prim.Native.Nat.{◌≤◌}

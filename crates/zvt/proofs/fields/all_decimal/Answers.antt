@@ -1,5 +1,4 @@
--- `zvt::fields::all_decimal` meets its contract. The invariant: the bytes from i on answer as the whole does; the measure is
--- what is left of them. Assumes nothing.
+-- `zvt::fields::all_decimal` meets its contract. Assumes nothing.
 use mathlib.Core.Path.{◌≡◌, sym, ap, ◌∙◌}
 use mathlib.Core.Bool.{false}
 use Prim.Native.Nat.{◌<◌}

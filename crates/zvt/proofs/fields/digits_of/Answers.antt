@@ -1,5 +1,4 @@
--- `zvt::fields::digits_of` meets its contract. The invariant: the digits from i on, behind those that gave v, answer as the
--- whole does; the measure is the number of digits left. Assumes nothing.
+-- `zvt::fields::digits_of` meets its contract. Assumes nothing.
 use mathlib.Core.Path.{◌≡◌, sym, ap, ◌∙◌}
 use mathlib.Core.Bool.{false}
 use mathlib.Core.Logic.{inl, inr, ⊎_elim}

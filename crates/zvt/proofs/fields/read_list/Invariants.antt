@@ -1,5 +1,5 @@
 -- The invariant of `zvt::fields::read_list`: the array marks the ids that came, and the bytes from i on, with what is spared and
--- noted before, answer as the whole list does; the measure is what is left of the bytes.
+-- noted before, answer as the whole list does; the measure is what is left of the bytes. Assumes nothing.
 use Rattle.std.proofs.Common.{◌≡◌, ℕ, ◌-◌, ◌≤◌, List, length}
 use Rattle.zvt.specs.FieldSteps.{list_answer}
 use Rattle.zvt.proofs.ListLaws.{Marks, list_from}

@@ -1,5 +1,4 @@
--- `zvt::list::put_ids` meets its contract. The invariant: from `at` on stands a list; writing its ids behind the first `n` comes to writing
--- all of them; the measure is what is left of the list. Assumes nothing.
+-- `zvt::list::put_ids` meets its contract. Assumes nothing.
 use mathlib.Core.Path.{sym, ap, ◌∙◌}
 use Prim.Native.Nat.{◌<◌}
 use native.Mathlib.Omega.{arith}

@@ -1,5 +1,4 @@
--- `zvt::name::name_size` meets its contract. The invariant: no byte before the i-th is zero, so the count goes on from there;
--- the measure is what is left of the bytes. Assumes nothing.
+-- `zvt::name::name_size` meets its contract. Assumes nothing.
 use native.Mathlib.Omega.{arith}
 use Rattle.zvt.proofs.NameLaws.{name-stops, name-goes, name-ends}
 use Rattle.zvt.proofs.name.name_size.Goals as goal

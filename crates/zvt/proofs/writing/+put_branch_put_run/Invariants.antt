@@ -1,4 +1,4 @@
--- The measure of `put_branch` and `put_run` is the length, twice, and one more for a branch.
+-- The measure of `put_branch` and `put_run` is the length, twice, and one more for a branch. Assumes nothing.
 use Rattle.std.proofs.Common.{◌+◌, ◌*◌, length}
 use Rattle.zvt.proofs.writing.+put_branch_put_run.Given as goal
 

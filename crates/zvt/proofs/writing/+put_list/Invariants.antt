@@ -1,4 +1,4 @@
--- The measure of `put_list` is the length.
+-- The measure of `put_list` is the length. Assumes nothing.
 use Rattle.std.proofs.Common.{length}
 use Rattle.zvt.proofs.writing.+put_list.Given as goal
 
