@@ -63,10 +63,10 @@ pub copied : (s w out : List ℕ) → s ≡ w → take (length s) s ++ drop (len
 copied s w out e = rw (take-length, e)
 
 -- what buffers::copy leaves of such bytes, where there is room for all of them
-pub copied-whole : (s w out left : List ℕ) (n : ℕ) → s ≡ w → length w ≤ length out → n ≡ min (length s) (length out)
+pub copied-front : (s w out left : List ℕ) (n : ℕ) → s ≡ w → length w ≤ length out → n ≡ min (length s) (length out)
     → left ≡ take n s ++ drop n out
     → left ≡ front w out
-copied-whole s w out left n e room size bytes = (copied-all s out left n (rw e room) size bytes).1 ∙ copied s w out e
+copied-front s w out left n e room size bytes = (copied-all s out left n (rw e room) size bytes).1 ∙ copied s w out e
 
 -- what a lost link does to an idle lane, and to one that is not
 pub lost-idle : (l : Lane) → is_idle l.phase ≡ true → lost_by l ≡ no_move 14

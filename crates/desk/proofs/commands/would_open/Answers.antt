@@ -2,11 +2,11 @@
 use mathlib.Core.Path.{refl, ap, ◌∙◌}
 use Rattle.desk_rules.specs.Openings.{most_command, supposed}
 use Rattle.desk_rules.proofs.Recognised.{supposed-padded}
-use Rattle.desk.proofs.CallLaws.{copied-whole}
+use Rattle.desk.proofs.CallLaws.{copied-front}
 use Rattle.desk.proofs.commands.would_open.Goals as goal
 
 pub returns : goal.returns
 returns c =
     let s = c.args.s.now in
     let k = c.copy.ensures in
-    c.supposed_in.ensures ∙ (ap supposed (copied-whole s s _ _ _ refl c.requires k.size k.bytes) ∙ supposed-padded most_command s)
+    c.supposed_in.ensures ∙ (ap supposed (copied-front s s _ _ _ refl c.requires k.size k.bytes) ∙ supposed-padded most_command s)
