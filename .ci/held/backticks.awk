@@ -1,8 +1,9 @@
 # Every word in backticks on a page is something that there is: a file or folder, or the end of its path; a crate or a must-fail edit; what
 # the sources define; a parameter of a public function; a word of a case, which lines and answers of scripts are made of; or one of the
-# words of the language and the system that the variable others has. In `./run NAME` NAME is a program. Passed over are words without a
-# letter, what has a blank in it, names that stand for any (NAME, HEX, *), and what is built (target/). Inputs, by the variable of: the
-# files there are, what they define (facts.awk), the public names (public.awk), the cases, and the pages.
+# words of the language and the system that the variable others has. In `./run NAME` NAME is a program; in a type with others in it, as
+# `Result<usize, Refusal>`, each name is one of these. Passed over are words without a letter, what else has a blank in it, names that stand
+# for any (NAME, HEX, *), and what is built (target/). Inputs, by the variable of: the files there are, what they define (facts.awk), the
+# public names (public.awk), the cases, and the pages.
 NR == 1 { count = split(others, part, " "); for (k = 1; k <= count; k++) known[part[k]] }
 
 # A path is known by each of its ends.
@@ -45,8 +46,16 @@ of == "public" {
 }
 of == "cases" { for (k = 1; k <= NF; k++) known[$k]; next }
 
+# Whether each name in a type is known, but for those of a parameter, as T.
+function type_holds(words,    part, count, k) {
+    count = split(words, part, /[^A-Za-z0-9_:]+/)
+    for (k = 1; k <= count; k++) if (part[k] !~ /^[A-Z]?$/ && !(part[k] in known)) return 0
+    return 1
+}
+
 function holds(word) {
     if (word ~ /^\.\/run [a-z]/) { split(word, at, " "); return at[2] in program }
+    if (word ~ /^[A-Za-z_:]+<.*>$/) return type_holds(word)
     if (word ~ /[ *&]/ || word !~ /[A-Za-z]/ || word ~ /^[A-Z]+$/ || word ~ /NAME|CRATE|LABEL|FUNCTION|^target\//) return 1
     sub(/\(.*\)$/, "", word)
     gsub(/^\.\/|\/$/, "", word)

@@ -23,8 +23,8 @@ rules { next }
 }
 
 code && /^}/ { type = owner = "" }
-code && owner != "" && match($0, /^    (pub |pub\(crate\) )?[A-Za-z]/) { fact(owner "::" first_word(substr($0, RSTART + RLENGTH - 1))) }
-code && /^impl / { type = first_word($2) }
+code && owner != "" && match($0, /^    (pub |pub\(crate\) |ghost )?[A-Za-z]/) { fact(owner "::" first_word(substr($0, RSTART + RLENGTH - 1))) }
+code && sub(/^impl(<[^>]*>)? /, "") { sub(/^.* for /, ""); type = first_word($0) }
 code && /^(pub |pub\(crate\) )?(struct|enum) .*\{$/ { owner = $0; sub(/^.*(struct|enum) /, "", owner); owner = first_word(owner) }
 code && sub(/^ *(pub |pub\(crate\) )?(fn|struct|enum|const) /, "") {
     fact(first_word($0))

@@ -10,14 +10,20 @@ function item(what, name, more) {
 
 function value(line) { sub(/^[^=]*= */, "", line); sub(/;.*$/, "", line); return line }
 
-# The names of the parameters of a function's head, up to the bracket that closes them.
-function parameters(head,    part, count, k, list) {
+# The names of the parameters of a function's head, up to the bracket that closes them. What stands in brackets of a type names none.
+function parameters(head,    part, count, k, sign, depth, names, list) {
+    gsub(/->/, "", head)
+    while (gsub(/<[^<>]*>/, "", head)) continue
     sub(/^[^(]*\(/, "", head)
-    sub(/\)( ->.*| *)$/, "", head)
-    gsub(/\[[^]]*\]/, "", head)
-    count = split(head, part, /, */)
+    for (k = 1; depth >= 0 && k <= length(head); k++) {
+        sign = substr(head, k, 1)
+        if (sign ~ /[[(]/) depth++
+        else if (sign ~ /[])]/) depth--
+        else if (depth == 0) names = names sign
+    }
+    count = split(names, part, ",")
     for (k = 1; k <= count; k++) {
-        gsub(/:.*| /, "", part[k])
+        gsub(/:.*|^ *mut | /, "", part[k])
         if (part[k] != "") list = list (list == "" ? "" : ", ") part[k]
     }
     return "(" list ")"
@@ -35,7 +41,7 @@ FNR == 1 {
     type = ""
 }
 /^pub mod / { public[crate, word($3)] }
-/^impl / { type = word($2) }
+sub(/^impl(<[^>]*>)? /, "") { sub(/^.* for /, ""); type = word($0) }
 /^}/ { type = "" }
 shown && /^ *pub fn / { head = ""; begun = FNR; name = word($3); reading = 1 }
 reading { head = head " " $0 }

@@ -1,6 +1,6 @@
 # Where API names theorems beside a function, one of them at least speaks of what the function's contract says: its statement has a
-# definition that the contract cites. That a desk is valid counts for nothing, since nearly all of them say that. Inputs, by the variable
-# of: the code of the libraries, the promises, API.
+# definition that the contract cites. That a desk is valid counts for nothing, since nearly all of them say that, and neither does what std
+# defines, such as a list's length or Ok. Inputs, by the variable of: the code of the libraries, the promises, API.
 
 function said(what) { print FILENAME ":" FNR ": " what; wrong++ }
 
@@ -14,13 +14,13 @@ function words_in(text, from,    word, count, k, list) {
 FNR == 1 { type = name = ""; split(FILENAME, path, "/"); file = path[4]; sub(/\.(rt|antt)$/, "", file) }
 
 # ---- contracts: what is imported from definitions and stands behind the first ensures, up to the function's body
-of == "code" && /^ghost use .*specs\..*\.\{/ {
+of == "code" && /^ghost use .*specs\..*\.\{/ && !/^ghost use Rattle\.std\./ {
     sub(/^[^{]*\{/, "")
     count = split($0, part, /[^A-Za-z0-9_-]+/)
     for (k = 1; k <= count; k++) if (part[k] !~ /^Valid/) cites[FILENAME, part[k]]
     next
 }
-of == "code" && /^impl / { type = $2 "::" }
+of == "code" && sub(/^impl(<[^>]*>)? /, "") { sub(/^.* for /, ""); sub(/[^A-Za-z0-9_].*/, ""); type = $0 "::" }
 of == "code" && /^}/ { type = "" }
 of == "code" && /^ *pub fn / {
     name = $3

@@ -1,28 +1,41 @@
 -- Laws of text in a buffer and of numbers as text. Assumes nothing.
 use mathlib.Core.Path.{◌≡◌, refl, sym, ◌∙◌, ap, ap₂}
-use mathlib.Core.List.{List, [], ◌∷◌, ◌++◌}
-use Prim.Native.Nat.{ℕ, zero, suc, ◌+◌, ◌-◌, ◌*◌, ◌/◌, ◌%◌, ◌^◌, ◌≤◌, ◌<◌}
+use mathlib.Core.List.{List, [], ◌∷◌, ◌++◌, append-nil}
+use Prim.Native.Nat.{ℕ, zero, suc, ◌+◌, ◌-◌, ◌*◌, ◌/◌, ◌%◌, ◌^◌, ◌≤◌, ◌<◌, min}
 use native.Mathlib.Nat.{mod-eq_of_lt, div-lt_iff_lt-mul, le-div_iff_mul-le, pow-suc, one-le-pow, mod-lt}
 use native.Mathlib.Numerals.{add-one}
 use native.Mathlib.Omega.{arith}
 use borrow.Author.Tests.{lt-ltb, le-ltb}
-use lib.ListN.{length, drop, set, get_or, length-set, drop_of_length-le}
-use lib.Seq.{drop-cons, length-take-le}
+use lib.ListN.{length, take, drop, get_or, length-set, length-drop, drop_of_length-le}
+use lib.Seq.{drop-cons, drop-drop, take_all, length-take-le}
 use lib.Dec.{ltb}
 use Rattle.basics.proofs.Tests.{pick-test}
+use borrow.Rule.Slice.PartMut.{mid_of, post_of, put_mid}
 use Rattle.io.specs.Counts.{IsPrefixLen}
 use Rattle.io.specs.Digits.{last_digits, hex_digit_ascii, IsDigitCount}
+use Rattle.std.proofs.lemmas.List.{take_min, drop_min}
 use Rattle.basics.specs.Buffers.{front, Whole}
 use Rattle.basics.specs.Text.{Text, text, add_one, add_all, hex_text, hexes, bytes_text, decimal_text}
 use Rattle.basics.proofs.Text.{decimal-one, decimal-more, put-exactly, put_whole, put_end}
 
-pub add-full : (b at : ℕ) (out : List ℕ) → length out ≤ at → text at out ≡ add_all (b ∷ []) (text at out)
+-- behind the end of the buffer nothing is added
+pub full : (w : List ℕ) (at : ℕ) (out : List ℕ) → length out ≤ at → text at out ≡ add_all w (text at out)
 unfolding add_all add_one
-add-full b at out h = rw (le-ltb at (length out) h)
+full [] at out h = refl
+full (b ∷ w) at out h = rw (le-ltb at (length out) h) (full w at out h)
 
-pub add-room : (b at : ℕ) (out : List ℕ) → at < length out → text (at + 1) (set out at b) ≡ add_all (b ∷ []) (text at out)
-unfolding add_all add_one
-add-room b at out h = rw (lt-ltb at (length out) h)
+-- what is copied to the rest of the buffer is added
+pub copied : (w : List ℕ) (at : ℕ) (out : List ℕ) (n : ℕ) (rest : List ℕ) → at ≤ length out → n ≡ min (length w) (length (mid_of at (length out - at) out))
+    → rest ≡ take n w ++ drop n (mid_of at (length out - at) out) → text (at + n) (put_mid at (length out - at) out rest) ≡ add_all w (text at out)
+copied w at out n rest h size e =
+    let room : length (drop at out) ≡ length out - at = length-drop at out in
+    let whole : mid_of at (length out - at) out ≡ drop at out = take_all (length out - at) (drop at out) (omega arith) in
+    let least : n ≡ min (length w) (length (drop at out)) = rw whole at size in
+    let fits : n ≡ min (length out - at) (length w) = omega arith in
+    let first : take n w ≡ take (length out - at) w = rw fits (take_min (length out - at) w) in
+    let behind : drop n (drop at out) ≡ drop (at + length w) out = rw least (drop_min (length w) (drop at out) ∙ drop-drop (length w) at out) in
+    let nothing : post_of at (length out - at) out ≡ [] = drop_of_length-le (drop at out) (omega arith) in
+    sym (put-exactly w at out ∙ ap₂ text (omega arith) (rw (e, whole, nothing, append-nil, first, behind)))
 
 pub add_all-append : (v w : List ℕ) (t : Text) → add_all (v ++ w) t ≡ add_all w (add_all v t)
 unfolding add_all
@@ -37,9 +50,6 @@ both v w t e f = f ∙ ap (λ (y : Text). add_all w y) e ∙ sym (add_all-append
 pub add_all-first : (b : ℕ) (w : List ℕ) (t : Text) → add_all (b ∷ w) t ≡ add_all w (add_all (b ∷ []) t)
 unfolding add_all
 add_all-first b w t = refl
-
-pub add_all-step : (v : List ℕ) (i : ℕ) (t : Text) → i < length v → add_all (drop i v) t ≡ add_all (drop (i + 1) v) (add_all (get_or v i 0 ∷ []) t)
-add_all-step v i t h = rw (add-one, drop-cons v i 0) (add_all-first _ _ _)
 
 add_one-room : (b : ℕ) (t : Text) → length (add_one b t).bytes ≡ length t.bytes
 unfolding add_one
@@ -67,28 +77,24 @@ pub goes_on : (w l l' : List ℕ) (t : Text) {u s : Text} {room : ℕ} → u ≡
 goes_on w l l' t e step (room, same) =
     (ap (λ (x : Text). length x.bytes) e ∙ add_all-room w t ∙ room, ap (λ (x : Text). add_all l' x) e ∙ sym step ∙ same)
 
-pub add_all-none : (v : List ℕ) (i : ℕ) (t : Text) → length v ≤ i → add_all (drop i v) t ≡ t
-unfolding add_all
-add_all-none v i t h = rw (drop_of_length-le v h)
-
 -- bytes as hex, one after the other
-pub hex-step : (v : List ℕ) (i : ℕ) (t : Text) → i < length v → add_all (hexes (drop i v)) t ≡ add_all (hexes (drop (i + 1) v)) (add_all (hex_text (get_or v i 0)) t)
+pub hex_step : (v : List ℕ) (i : ℕ) (t : Text) → i < length v → add_all (hexes (drop i v)) t ≡ add_all (hexes (drop (i + 1) v)) (add_all (hex_text (get_or v i 0)) t)
 unfolding hexes
-hex-step v i t h = rw (add-one, drop-cons v i 0) (add_all-append (hex_text (get_or v i 0)) (hexes (drop (suc i) v)) t)
+hex_step v i t h = rw (add-one, drop-cons v i 0) (add_all-append (hex_text (get_or v i 0)) (hexes (drop (suc i) v)) t)
 
-pub hex-none : (v : List ℕ) (i : ℕ) (t : Text) → length v ≤ i → add_all (hexes (drop i v)) t ≡ t
+pub hex_none : (v : List ℕ) (i : ℕ) (t : Text) → length v ≤ i → add_all (hexes (drop i v)) t ≡ t
 unfolding hexes add_all
-hex-none v i t h = rw (drop_of_length-le v h)
+hex_none v i t h = rw (drop_of_length-le v h)
 
-pub bytes-none : (v : List ℕ) → length v ≡ 0 → bytes_text v ≡ 45 ∷ []
+pub bytes_none : (v : List ℕ) → length v ≡ 0 → bytes_text v ≡ 45 ∷ []
 unfolding bytes_text
-bytes-none [] h = refl
-bytes-none (b ∷ v) h = absurd (omega arith)
+bytes_none [] h = refl
+bytes_none (b ∷ v) h = absurd (omega arith)
 
-pub bytes-some : (v : List ℕ) → (length v ≡ 0 → ⊥) → bytes_text v ≡ hexes v
+pub bytes_some : (v : List ℕ) → (length v ≡ 0 → ⊥) → bytes_text v ≡ hexes v
 unfolding bytes_text
-bytes-some [] h = absurd (h refl)
-bytes-some (b ∷ v) h = refl
+bytes_some [] h = absurd (h refl)
+bytes_some (b ∷ v) h = refl
 
 -- ---- decimal numbers: the fewest digits that hold n
 glyph-digit : (d : ℕ) → d < 10 → hex_digit_ascii d ≡ 48 + d

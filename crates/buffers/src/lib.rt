@@ -1,5 +1,6 @@
 // A lent buffer: filled with one value, counted, copied to, searched, or written with text. Each function of text adds behind the first at
-// bytes and answers where the text then ends. What does not fit is left out.
+// bytes and answers where the text then ends. What does not fit is left out. Place and buffer are two parameters: so the texts
+// of all crates are promised.
 
 #![tactic(auto)]
 
@@ -12,11 +13,7 @@ ghost use Rattle.basics.specs.Text.{text, add_all, hex_digit, hex_text, hexes, b
 pub fn fill(out: &mut [u8], value: u8)
     ensures { out.new ≡ replicate (length out.old) value }
 {
-    let mut i: usize = 0;
-    while i < out.len() {
-        out[i] = value;
-        i += 1;
-    }
+    out.fill(value);
 }
 
 // n, or the length of s where that is less.
@@ -24,7 +21,7 @@ pub fn upto(n: usize, s: &[u8]) -> usize
     ensures least { result ≡ min n (length s.now) }
     ensures counts { IsPrefixLen result s.now }
 {
-    if s.len() < n { s.len() } else { n }
+    n.min(s.len())
 }
 
 // Puts src at the start of out, as much of it as there is room for, and answers how many bytes that are.
@@ -32,7 +29,7 @@ pub fn copy(src: &[u8], out: &mut [u8]) -> usize
     ensures size { result ≡ min (length src.now) (length out.old) }
     ensures bytes { out.new ≡ take result src.now ++ drop result out.old }
 {
-    let n = upto(out.len(), src);
+    let n = src.len().min(out.len());
     out[..n].copy_from_slice(&src[..n]);
     n
 }
@@ -42,74 +39,57 @@ pub fn find(s: &[u8], from: usize, b: u8) -> usize
     ensures place { result ≡ from + index_of b (drop from s.now) }
     ensures within { (from ≤ result) × (result ≤ max from (length s.now)) }
 {
-    let mut i = from;
-    while i < s.len() {
-        if s[i] == b {
-            return i;
-        }
-        i += 1;
-    }
-    i
+    let rest = &s[upto(from, s)..];
+    from + rest.iter().position(|x| *x == b).unwrap_or(rest.len())
 }
 
 pub fn add(b: u8, at: usize, out: &mut [u8]) -> usize
     ensures { text result out.new ≡ add_all (b ∷ []) (text at out.old) }
 {
-    if out.len() <= at {
-        return at;
-    }
-    out[at] = b;
-    at + 1
+    add_all(&[b], at, out)
 }
 
+#[tactic(auto, using(crate::proofs::TextLaws::full, crate::proofs::TextLaws::copied))]
 pub fn add_all(v: &[u8], at: usize, out: &mut [u8]) -> usize
     ensures { text result out.new ≡ add_all v.now (text at out.old) }
 {
-    let mut to = at;
-    let mut i: usize = 0;
-    while i < v.len() {
-        to = add(v[i], to, out);
-        i += 1;
+    if out.len() < at {
+        return at;
     }
-    to
+    at + copy(v, &mut out[at..])
 }
 
 fn digit(d: u8) -> u8
     requires { d < 16 }
     ensures { result ≡ hex_digit d }
 {
-    if d < 10 { 48 + d } else { 55 + d }
+    if d < 10 { b'0' + d } else { b'A' + (d - 10) }
 }
 
 // Two digits in capital hex.
+#[tactic(auto, unfolding(basics::specs::Text::hex_text))]
 pub fn add_hex(b: u8, at: usize, out: &mut [u8]) -> usize
     ensures { text result out.new ≡ add_all (hex_text b) (text at out.old) }
 {
     add_all(&[digit(b / 16), digit(b % 16)], at, out)
 }
 
-fn add_hexes(v: &[u8], at: usize, out: &mut [u8]) -> usize
-    ensures { text result out.new ≡ add_all (hexes v.now) (text at out.old) }
+// Bytes as hex, `-` for none.
+#[tactic(auto, using(crate::proofs::TextLaws::bytes_none, crate::proofs::TextLaws::bytes_some, crate::proofs::TextLaws::hex_step, crate::proofs::TextLaws::hex_none))]
+pub fn add_bytes(v: &[u8], at: usize, out: &mut [u8]) -> usize
+    ensures { text result out.new ≡ add_all (bytes_text v.now) (text at out.old) }
 {
+    if v.is_empty() {
+        return add(b'-', at, out);
+    }
     let mut to = at;
-    let mut i: usize = 0;
-    while i < v.len() {
-        to = add_hex(v[i], to, out);
-        i += 1;
+    for &b in v {
+        to = add_hex(b, to, out);
     }
     to
 }
 
-// Bytes as hex, `-` for none.
-pub fn add_bytes(v: &[u8], at: usize, out: &mut [u8]) -> usize
-    ensures { text result out.new ≡ add_all (bytes_text v.now) (text at out.old) }
-{
-    if v.len() == 0 {
-        return add(b'-', at, out);
-    }
-    add_hexes(v, at, out)
-}
-
+#[tactic(auto, using(crate::proofs::TextLaws::decimals))]
 pub fn add_decimal(n: u64, at: usize, out: &mut [u8]) -> usize
     ensures { text result out.new ≡ add_all (decimal_text n) (text at out.old) }
 {
@@ -122,23 +102,10 @@ pub fn add_decimal(n: u64, at: usize, out: &mut [u8]) -> usize
 pub fn hex_value(b: u8) -> u8
     ensures { result ≡ hex_value b }
 {
-    if b < b'0' {
-        return 16;
+    match b {
+        b'0'..=b'9' => b - b'0',
+        b'A'..=b'F' => b - b'A' + 10,
+        b'a'..=b'f' => b - b'a' + 10,
+        _ => 16,
     }
-    if b <= b'9' {
-        return b - b'0';
-    }
-    if b < b'A' {
-        return 16;
-    }
-    if b <= b'F' {
-        return b - 55;
-    }
-    if b < b'a' {
-        return 16;
-    }
-    if b <= b'f' {
-        return b - 87;
-    }
-    16
 }

@@ -1,18 +1,17 @@
 -- What a call of the desk answers and leaves, by the tests that the code makes one after the other. Assumes nothing.
-use mathlib.Core.Path.{◌≡◌, refl, sym, ◌∙◌}
+use mathlib.Core.Path.{ap, refl, ◌≡◌, sym, ◌∙◌}
 use mathlib.Core.Bool.{true, false, ◌&&◌}
-use mathlib.Core.Logic.{inl, inr}
-use mathlib.Core.List.{List, [], ◌∷◌, ◌++◌}
+use mathlib.Core.List.{List, ◌++◌}
 use Prim.Native.Nat.{ℕ, ◌≤◌, ◌<◌}
 use native.Mathlib.Omega.{arith}
 use lib.ListN.{length, take, drop}
 use lib.Seq.{take-length}
-use Rattle.std.proofs.Common.{min}
+use Rattle.std.proofs.Common.{min, Err, Ok}
 use Rattle.buffers.proofs.Copies.{copied-all}
 use lib.Dec.{leb}
 use borrow.Author.Tests.{le-leb, lt-leb, lt-ltb, le-ltb}
-use denote.Enum.Declared.{tag_of}
-use types.Run.{OneOf}
+use Rattle.basics.proofs.Tests.{never}
+use Rattle.desk_rules.specs.Desk.{Decision}
 use Rattle.zvt_rules.specs.declared.Refusal.{Refusal}
 use Rattle.zvt_rules.specs.Reading.{unplaced}
 use Rattle.basics.specs.Buffers.{front}
@@ -20,10 +19,9 @@ use Rattle.desk_rules.specs.declared.Outcome.{Outcome}
 use Rattle.desk_rules.specs.declared.Outcome.TheVariants.{Unclear}
 use Rattle.desk_rules.specs.declared.Lane.{Lane}
 use Rattle.desk_rules.specs.declared.Moved.{Moved}
-use Rattle.desk_rules.specs.declared.Moved.TheVariants.{Refused, Stays, Becomes, Ends}
+use Rattle.desk_rules.specs.declared.Moved.TheVariants.{Stays, Becomes, Ends}
 use Rattle.desk_rules.specs.declared.Desk.{Desk}
 use Rattle.desk_rules.specs.declared.Answer.{Answer}
-use Rattle.desk_rules.specs.declared.Reply.TheVariants.{Written}
 use Rattle.desk_rules.specs.Numbers.{lane_count, book_lines}
 use Rattle.desk_rules.specs.Kinds.{is_idle}
 use Rattle.desk_rules.specs.Course.{no_move, lost_by, Call, lane_of, needs_line, NumbersFit, writes}
@@ -31,26 +29,15 @@ use Rattle.desk_rules.specs.Lanes.{line_at}
 use Rattle.desk_rules.specs.Desk.{lane_at, load, refuse, accept, unless_refused, decide, lines_from}
 use Rattle.desk_rules.specs.Memory.{view, lane_for, Valid, moved_desk, refused_answer, answer_of, leaves_of}
 use Rattle.desk.specs.Steps.{BookedFits, LineFits}
-use Rattle.desk_rules.specs.contracts.Moved.{the_type}
 use Rattle.desk_rules.proofs.Calls.{Passes}
 use Rattle.desk_rules.proofs.Lanes.{passing}
 use Rattle.desk_rules.proofs.Memory.{move_of, refused-same, accepted-answer, refused-leaves, accepted-leaves, answer-valid}
 
--- by the variant, as code that has ruled out the first one knows it
-pub passes-tag : (m : Moved) → OneOf (1 ∷ 2 ∷ 3 ∷ []) (tag_of the_type m) → Passes m
-passes-tag (Refused r) (inl e) = absurd (omega arith)
-passes-tag (Refused r) (inr (inl e)) = absurd (omega arith)
-passes-tag (Refused r) (inr (inr e)) = absurd (omega arith)
-passes-tag Stays h = tt
-passes-tag (Becomes l) h = tt
-passes-tag (Ends outcome settled code) h = tt
-
 -- a move that is no refusal
-pub passes-other : (m : Moved) → ((r : Refusal) → m ≡ Refused r → ⊥) → Passes m
-passes-other (Refused r) n = absurd (n r refl)
-passes-other Stays n = tt
-passes-other (Becomes l) n = tt
-passes-other (Ends outcome settled code) n = tt
+pub passes-ok : (m : Moved) → Passes (Ok m)
+passes-ok Stays = tt
+passes-ok (Becomes l) = tt
+passes-ok (Ends outcome settled code) = tt
 
 -- the line at an end, if it is booked, is free
 pub booked-fits : (d : Desk) (i : ℕ) (outcome : Outcome) (settled code : ℕ) → LineFits d i (Ends outcome settled code)
@@ -73,7 +60,7 @@ pub lost-idle : (l : Lane) → is_idle l.phase ≡ true → lost_by l ≡ no_mov
 unfolding lost_by
 lost-idle l e = rw e
 
-pub lost-open : (l : Lane) → is_idle l.phase ≡ false → lost_by l ≡ Ends Unclear 0 0
+pub lost-open : (l : Lane) → is_idle l.phase ≡ false → lost_by l ≡ Ok (Ends Unclear 0 0)
 unfolding lost_by
 lost-open l e = rw e
 
@@ -85,7 +72,7 @@ module _ (d : Desk) (c : Call) (room : ℕ) where
   no_lane h = rw (le-leb lane_count (lane_of c) h)
 
   module _ (h : lane_of c < lane_count) where
-    pub not-moved : (r : Refusal) → move_of d c ≡ Refused r → decide (view d) c room ≡ refuse r
+    pub not-moved : (r : Refusal) → move_of d c ≡ Err r → decide (view d) c room ≡ refuse r
     unfolding decide view unless_refused
     not-moved r e = rw (lt-leb lane_count (lane_of c) h, e)
 
@@ -118,7 +105,7 @@ module _ (d : Desk) (v : Valid d) (c : Call) (n : NumbersFit c) (out : List ℕ)
       (same, (sym (refused-leaves d c out k e), valid same))
 
   pub taken_as : (exit : List ℕ) → decide (view d) c (length out) ≡ accept
-      → r ≡ record { reply = Written (length (writes (lane_for d c) c)); desk = moved_desk d (lane_of c) (move_of d c) }
+      → r ≡ record { reply = Ok (length (writes (lane_for d c) c)); desk = moved_desk d (lane_of c) (move_of d c) }
       → exit ≡ front (writes (lane_for d c) c) out
       → Answers d c out r exit
   taken_as exit e f g =
@@ -126,9 +113,35 @@ module _ (d : Desk) (v : Valid d) (c : Call) (n : NumbersFit c) (out : List ℕ)
       (same, (g ∙ sym (accepted-leaves d c out e), valid same))
 
 -- so many bytes were written, and that desk is given back
-pub written : {n m : ℕ} {d e : Desk} → n ≡ m → d ≡ e → ◌≡◌ {A = Answer} (record { reply = Written n; desk = d }) (record { reply = Written m; desk = e })
+pub written : {n m : ℕ} {d e : Desk} → n ≡ m → d ≡ e → ◌≡◌ {A = Answer} (record { reply = Ok n; desk = d }) (record { reply = Ok m; desk = e })
 written p q = rw (p, q)
 
 pub valid-refused : (d : Desk) (r : Answer) (n : Refusal) → Valid d → r ≡ refused_answer d n → Valid r.desk
 unfolding refused_answer
 valid-refused d r n v e = rw e v
+
+-- ---- the reply says how the call was decided
+module _ (d : Desk) (c : Call) (room : ℕ) where
+  pub reply-refused : (r : Refusal) → (answer_of d c room).reply ≡ Err r → decide (view d) c room ≡ refuse r
+  unfolding refused_answer
+  reply-refused r e = go (decide (view d) c room) refl
+    where
+      go : (x : Decision) → decide (view d) c room ≡ x → decide (view d) c room ≡ refuse r
+      go (refuse n) q =
+          let said : Err n ≡ Err r = ap (λ (i : Answer). i.reply) (sym (refused-same d c room n q)) ∙ e in
+          cc
+      go accept q =
+          let said : Ok _ ≡ Err r = ap (λ (i : Answer). i.reply) (sym (accepted-answer d c room q)) ∙ e in
+          never cc
+
+  pub reply-accepted : (k : ℕ) → (answer_of d c room).reply ≡ Ok k → (decide (view d) c room ≡ accept) × (k ≡ length (writes (lane_for d c) c))
+  unfolding refused_answer
+  reply-accepted k e = go (decide (view d) c room) refl
+    where
+      go : (x : Decision) → decide (view d) c room ≡ x → (decide (view d) c room ≡ accept) × (k ≡ length (writes (lane_for d c) c))
+      go (refuse n) q =
+          let said : Err n ≡ Ok k = ap (λ (i : Answer). i.reply) (sym (refused-same d c room n q)) ∙ e in
+          never cc
+      go accept q =
+          let said : Ok (length (writes (lane_for d c) c)) ≡ Ok k = ap (λ (i : Answer). i.reply) (sym (accepted-answer d c room q)) ∙ e in
+          (q, cc)

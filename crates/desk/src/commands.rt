@@ -59,8 +59,7 @@ pub(crate) fn put_command(opening: Opening, out: &mut [u8])
 fn supposed_in(b: [u8; Opening::MOST_COMMAND]) -> Opening
     ensures { result ≡ supposed b }
 {
-    let instruction = b[1];
-    match instruction {
+    match b[1] {
         0x30 => {
             let receipt = zvt::receipt_in([b[7], b[8]]);
             Opening::Reversal {
@@ -98,6 +97,5 @@ pub(crate) fn is_command(opening: Opening, s: &[u8]) -> bool
 {
     let mut b = [0u8; Opening::MOST_COMMAND];
     put_command(opening, &mut b);
-    let size = command_size(opening);
-    check::same(s, &b[..size])
+    s == &b[..command_size(opening)]
 }

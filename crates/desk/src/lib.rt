@@ -19,11 +19,9 @@ ghost use Rattle.desk_rules.specs.Memory.{Valid, lines_of_desk, view, refused_an
 ghost use Rattle.desk_rules.specs.Turnover.{net_of};
 
 use commands::{is_command, put_command, would_open};
-use desk_rules::{
-    Answer, Desk, Lane, LaneAnswer, LineAnswer, Moved, Opening, OpeningAnswer, Outcome, Reply,
-};
+use desk_rules::{Answer, Desk, Lane, Line, Moved, Opening, Outcome, Phase};
 use memory::{all_idle, is_full, last_line, moved};
-use questions::{booked, command_size, gain, is_idle, kind_of, loss, refers_to, within_limits};
+use questions::{booked, command_size, gains, kind_of, losses, refers_to, within_limits};
 use zvt_rules::Refusal;
 
 // Refused with a number that names no place.
@@ -31,7 +29,7 @@ fn refused(desk: Desk, number: u8) -> Answer
     ensures { result ≡ refused_answer desk (unplaced number) }
 {
     Answer {
-        reply: Reply::Refused(Refusal::unplaced(number)),
+        reply: Err(Refusal::unplaced(number)),
         desk,
     }
 }
@@ -46,16 +44,17 @@ pub fn open(desk: Desk, lane: u8, opening: Opening, out: &mut [u8]) -> Answer
     if Lane::COUNT <= lane {
         return refused(desk, Refusal::NO_SUCH_LANE);
     }
-    let at = lane as usize;
-    let l = desk.lanes[at];
-    let book = desk.book;
-    let m = hear::opened(l, opening, last_line(book, lane, refers_to(opening)));
-    if let Moved::Refused(r) = m {
-        return Answer {
-            reply: Reply::Refused(r),
-            desk,
-        };
-    }
+    let l = desk.lanes[lane as usize];
+    let line = last_line(desk.book, lane, refers_to(opening));
+    let m = match hear::opened(l, opening, line) {
+        Ok(m) => m,
+        Err(r) => {
+            return Answer {
+                reply: Err(r),
+                desk,
+            };
+        }
+    };
     if no_line(desk, opening) {
         return refused(desk, Refusal::BOOK_FULL);
     }
@@ -64,10 +63,9 @@ pub fn open(desk: Desk, lane: u8, opening: Opening, out: &mut [u8]) -> Answer
         return refused(desk, Refusal::NO_ROOM);
     }
     put_command(opening, out);
-    let d = moved(desk, lane, m);
     Answer {
-        reply: Reply::Written(size),
-        desk: d,
+        reply: Ok(size),
+        desk: moved(desk, lane, m),
     }
 }
 
@@ -76,8 +74,7 @@ fn no_line(desk: Desk, opening: Opening) -> bool
     requires { Valid desk }
     ensures { result ≡ (booked (kind_of opening) && leb book_lines (load (view desk))) }
 {
-    let kind = kind_of(opening);
-    if booked(kind) { is_full(desk) } else { false }
+    booked(kind_of(opening)) && is_full(desk)
 }
 
 // Takes one message from a lane's terminal.
@@ -90,30 +87,30 @@ pub fn terminal(desk: Desk, lane: u8, s: &[u8], out: &mut [u8]) -> Answer
     if Lane::COUNT <= lane {
         return refused(desk, Refusal::NO_SUCH_LANE);
     }
-    let at = lane as usize;
-    let l = desk.lanes[at];
-    let m = hear::heard(l, s);
-    if let Moved::Refused(r) = m {
-        return Answer {
-            reply: Reply::Refused(r),
-            desk,
-        };
-    }
-    let size = hear::reply_size(l);
-    if out.len() < size {
+    let l = desk.lanes[lane as usize];
+    let m = match hear::heard(l, s) {
+        Ok(m) => m,
+        Err(r) => {
+            return Answer {
+                reply: Err(r),
+                desk,
+            };
+        }
+    };
+    let reply = hear::reply(l.phase);
+    if out.len() < reply.len() {
         return refused(desk, Refusal::NO_ROOM);
     }
-    hear::put_reply(size, out);
-    let d = moved(desk, lane, m);
+    let size = buffers::copy(reply, out);
     Answer {
-        reply: Reply::Written(size),
-        desk: d,
+        reply: Ok(size),
+        desk: moved(desk, lane, m),
     }
 }
 
 // What one message from its terminal does to a lane. A desk is large: who takes many messages asks the lane first, and the desk where its
 // payment ends.
-pub fn hears(lane: Lane, s: &[u8]) -> Moved
+pub fn hears(lane: Lane, s: &[u8]) -> Result<Moved, Refusal>
     ensures { result ≡ heard lane s.now }
 {
     hear::heard(lane, s)
@@ -128,16 +125,12 @@ pub fn link_lost(desk: Desk, lane: u8) -> Answer
     if Lane::COUNT <= lane {
         return refused(desk, Refusal::NO_SUCH_LANE);
     }
-    let at = lane as usize;
-    let l = desk.lanes[at];
-    let phase = l.phase;
-    if is_idle(phase) {
+    if desk.lanes[lane as usize].phase == Phase::Idle {
         return refused(desk, Refusal::LANE_IDLE);
     }
-    let d = moved(desk, lane, Moved::Ends(Outcome::Unclear, 0, 0));
     Answer {
-        reply: Reply::Written(0),
-        desk: d,
+        reply: Ok(0),
+        desk: moved(desk, lane, Moved::Ends(Outcome::Unclear, 0, 0)),
     }
 }
 
@@ -151,7 +144,7 @@ pub fn close(desk: Desk) -> Answer
         return refused(desk, Refusal::PAYMENT_OPEN);
     }
     Answer {
-        reply: Reply::Written(0),
+        reply: Ok(0),
         desk: Desk::fresh(),
     }
 }
@@ -161,57 +154,40 @@ pub fn net(desk: Desk) -> i64
     requires { Valid desk }
     ensures { result ≡ net_of (lines_of_desk desk) }
 {
-    let book = desk.book;
-    let count = book.count;
-    let mut plus: u64 = 0;
-    let mut minus: u64 = 0;
-    let mut i: usize = 0;
-    while i < count {
-        let l = book.lines[i];
-        plus += gain(l);
-        minus += loss(l);
-        i += 1;
-    }
-    (plus as i64) - (minus as i64)
+    let lines = &desk.book.lines[..desk.book.count];
+    (gains(lines) as i64) - (losses(lines) as i64)
 }
 
 // Line number k of the book, counted from 0.
-pub fn line_at(desk: Desk, k: usize) -> LineAnswer
+pub fn line_at(desk: Desk, k: usize) -> Option<Line>
     requires { Valid desk }
     ensures { result ≡ line_answer k (lines_of_desk desk) }
 {
-    let book = desk.book;
-    if book.count <= k {
-        return LineAnswer::End;
-    }
-    LineAnswer::Line(book.lines[k])
+    desk.book.lines[..desk.book.count].get(k).copied()
 }
 
 // A lane as it stands.
-pub fn lane_at(desk: Desk, lane: u8) -> LaneAnswer
+pub fn lane_at(desk: Desk, lane: u8) -> Result<Lane, Refusal>
     requires { Valid desk }
     ensures { result ≡ lane_answer lane desk.lanes }
 {
-    if Lane::COUNT <= lane {
-        return LaneAnswer::Refused(Refusal::unplaced(Refusal::NO_SUCH_LANE));
-    }
-    let at = lane as usize;
-    LaneAnswer::Lane(desk.lanes[at])
+    desk.lanes
+        .get(lane as usize)
+        .copied()
+        .ok_or(Refusal::unplaced(Refusal::NO_SUCH_LANE))
 }
 
 // The opening whose command s is, with password 0: the one that a command on a tape is.
-pub fn opening_in(s: &[u8]) -> OpeningAnswer
+pub fn opening_in(s: &[u8]) -> Option<Opening>
     ensures { result ≡ opening_in s.now }
 {
     if Opening::MOST_COMMAND < s.len() {
-        return OpeningAnswer::Nothing;
+        return None;
     }
     let opening = would_open(s);
-    if !within_limits(opening) {
-        return OpeningAnswer::Nothing;
+    if within_limits(opening) && is_command(opening, s) {
+        Some(opening)
+    } else {
+        None
     }
-    if !is_command(opening, s) {
-        return OpeningAnswer::Nothing;
-    }
-    OpeningAnswer::Opening(opening)
 }

@@ -5,23 +5,22 @@ use Prim.Native.Nat.{ℕ, ◌+◌, ◌*◌, ◌≤◌}
 use native.Mathlib.Omega.{arith}
 use lib.ListN.{get_or}
 use lib.Dec.{eqb}
+use Rattle.std.proofs.Common.{Err, None, Ok, Option, Result, Some}
 use Rattle.basics.specs.Lists.{among}
 use Rattle.zvt_rules.specs.Reading.{Reading, got, refused}
 use Rattle.basics.specs.believed.Lists.{Bytes}
 use Rattle.zvt_rules.specs.Message.{Heading, Message, read_of}
 use Rattle.zvt_rules.specs.Values.{Found, missing, found, value_in, amount_of, amount_in, status_in, body_fields, status_fields}
 use Rattle.zvt_rules.specs.declared.Status.{Status}
-use Rattle.zvt_rules.specs.declared.ToldCode.{ToldCode}
-use Rattle.zvt_rules.specs.declared.ToldCode.TheVariants.{Missing as no_code, Code}
-use Rattle.zvt_rules.specs.declared.ToldAmount.TheVariants.{Amount}
 use Rattle.zvt_rules.specs.Heard.{first_byte, told_in}
 use Rattle.zvt_rules.proofs.Told.{Twelve, told-twelve}
 use Rattle.basics.proofs.Tests.{pick-test}
 use Rattle.desk_rules.specs.declared.Lane.{Lane}
 use Rattle.desk_rules.specs.declared.Line.{Line}
 use Rattle.desk_rules.specs.declared.Moved.{Moved}
-use Rattle.desk_rules.specs.declared.Moved.TheVariants.{Refused, Stays, Becomes, Ends}
+use Rattle.desk_rules.specs.declared.Moved.TheVariants.{Stays, Becomes, Ends}
 use Rattle.desk_rules.specs.declared.Opening.{Opening}
+use Rattle.zvt_rules.specs.declared.Refusal.{Refusal}
 use Rattle.desk_rules.specs.Numbers.{most_asked}
 use Rattle.desk_rules.specs.Kinds.{is_idle}
 use Rattle.desk_rules.specs.Lanes.{blank_line}
@@ -39,31 +38,31 @@ LaneFits l = ToldSmall l.status.amount
 abbrev pub LinesFit : List Line → Type 0
 LinesFit ls = (k : ℕ) → Small (get_or ls k blank_line).settled
 
-abbrev pub Fits : Moved → Type 0
-Fits (Refused r) = Unit {0}
-Fits Stays = Unit {0}
-Fits (Becomes l) = LaneFits l
-Fits (Ends outcome settled code) = Small settled
+abbrev pub Fits : Result Moved Refusal → Type 0
+Fits (Err r) = Unit {0}
+Fits (Ok Stays) = Unit {0}
+Fits (Ok (Becomes l)) = LaneFits l
+Fits (Ok (Ends outcome settled code)) = Small settled
 
 told-fits : (f : Found) → Twelve f → ToldSmall (amount_of f)
 unfolding Twelve ToldSmall amount_of
 told-fits missing h = tt
 told-fits (found value) h = h
 
-aborted-fits : (start : ℕ) (t : ToldCode) → Fits (aborted_by start t)
+aborted-fits : (start : ℕ) (t : Option ℕ) → Fits (aborted_by start t)
 unfolding aborted_by
-aborted-fits start no_code = tt
-aborted-fits start (Code b) = omega arith
+aborted-fits start None = tt
+aborted-fits start (Some b) = omega arith
 
 module _ (l : Lane) (h : LaneFits l) where
-  approved-fits : (a : ℕ) → l.status.amount ≡ Amount a → Small a
+  approved-fits : (a : ℕ) → l.status.amount ≡ Some a → Small a
   unfolding ToldSmall
   approved-fits a e = subst ToldSmall e h
 
-  reported-fits : (status : Status) (t : ToldCode) → ToldSmall status.amount → Fits (reported_by l status t)
+  reported-fits : (status : Status) (t : Option ℕ) → ToldSmall status.amount → Fits (reported_by l status t)
   unfolding reported_by
-  reported-fits status no_code k = tt
-  reported-fits status (Code c) k = k
+  reported-fits status None k = tt
+  reported-fits status (Some c) k = k
 
   module _ (s : List ℕ) (b : Bytes s) where
     read_fits : (r : Reading Message) → read_of s ≡ r → Fits (after_body l r)

@@ -10,6 +10,7 @@ use lib.ListN.{length, get_or, take, length-append, length-set}
 use lib.Seq.{length-take-le, split_at, get_or_at, get_or-set_same, get_or-set_other, ext_get_or}
 use lib.Dec.{eqb, ltb}
 use borrow.Author.Tests.{eqb-true, eq-eqb, ne_eqb, ltb-true, ltb-false, lt-ltb, le-ltb}
+use Rattle.std.proofs.Common.{Err, Ok, Option, Result, Some}
 use Rattle.zvt_rules.specs.declared.Refusal.{Refusal}
 use Rattle.basics.specs.Choice.{pick}
 use Rattle.basics.specs.Lists.{among}
@@ -30,14 +31,10 @@ use Rattle.desk_rules.specs.declared.Phase.TheVariants.{Idle, Waiting, Running}
 use Rattle.desk_rules.specs.declared.Lane.{Lane}
 use Rattle.desk_rules.specs.declared.Line.{Line}
 use Rattle.desk_rules.specs.declared.Moved.{Moved}
-use Rattle.desk_rules.specs.declared.Moved.TheVariants.{Refused, Stays, Becomes, Ends}
+use Rattle.desk_rules.specs.declared.Moved.TheVariants.{Stays, Becomes, Ends}
 use Rattle.desk_rules.specs.declared.Opening.{Opening}
 use Rattle.desk_rules.specs.declared.Desk.{Desk}
 use Rattle.desk_rules.specs.declared.Answer.{Answer}
-use Rattle.desk_rules.specs.declared.Reply.TheVariants.{Written}
-use Rattle.desk_rules.specs.declared.LineAnswer.{LineAnswer}
-use Rattle.desk_rules.specs.declared.LineAnswer.TheVariants.{Line as line-got}
-use Rattle.desk_rules.specs.declared.LaneAnswer.{LaneAnswer}
 use Rattle.desk_rules.specs.Numbers.{lane_count}
 use Rattle.desk_rules.specs.Kinds.{is_idle}
 use Rattle.desk_rules.specs.Lanes.{blank_line}
@@ -104,28 +101,28 @@ unfolding message_bytes Bytes
 pair-bytes b m n r = let all = subst Bytes (sym (read-sound b m n r).0) n in (all 0, all 1)
 
 -- a move is one that the second writing knows, where it is not refused
-Fits : State → Call → ℕ → Moved → Type 0
+Fits : State → Call → ℕ → Result Moved Refusal → Type 0
 Fits s c i m = Passes m → Makes s c i (lane_after (lane_at s.lanes i) m) (lines_from i (lane_at s.lanes i) m)
 
 module _ (s : State) (c : Call) (i : ℕ) where
-  refuses : (r : Refusal) → Fits s c i (Refused r)
+  refuses : (r : Refusal) → Fits s c i (Err r)
   unfolding Fits
   refuses r h = absurd h
 
-  stays : Makes s c i (lane_in s i) [] → Fits s c i Stays
+  stays : Makes s c i (lane_in s i) [] → Fits s c i (Ok Stays)
   unfolding Fits lane_after lines_from
   stays k h = k
 
-  becomes : (n : Lane) → Makes s c i n [] → Fits s c i (Becomes n)
+  becomes : (n : Lane) → Makes s c i n [] → Fits s c i (Ok (Becomes n))
   unfolding Fits lane_after lines_from
   becomes n k h = k
 
-  ends : ((line : Line) → Makes s c i idle (line ∷ [])) → (m : Moved) → Closing m → Fits s c i m
+  ends : ((line : Line) → Makes s c i idle (line ∷ [])) → (m : Result Moved Refusal) → Closing m → Fits s c i m
   unfolding Fits lane_after lines_from
-  ends e (Refused r) k h = absurd h
-  ends e Stays k h = absurd k
-  ends e (Becomes n) k h = absurd k
-  ends e (Ends outcome settled code) k h = rw (every-kind (lane_at s.lanes i).kind) (e _)
+  ends e (Err r) k h = absurd h
+  ends e (Ok Stays) k h = absurd k
+  ends e (Ok (Becomes n)) k h = absurd k
+  ends e (Ok (Ends outcome settled code)) k h = rw (every-kind (lane_at s.lanes i).kind) (e _)
 
 module _ (s : State) (i : ℕ) (b : List ℕ) where
   by-waiting : (h : Heading) → whole_header b ≡ got h → Fits s (message i b) i (heard_waiting (lane_at s.lanes i) h)
@@ -139,7 +136,7 @@ module _ (s : State) (i : ℕ) (b : List ℕ) where
       (λ _. pick-test (Fits s (message i b) i) (eqb h.class 0x84)
       (λ e.
       let p = eqb-true h.class 0x84 e in
-      ends _ _ _ (λ _. ended (by_84 (reads b _ 0x84 h.instruction (plain-read b h w (omega arith)) p refl))) (Ends Declined 0 h.instruction) tt)
+      ends _ _ _ (λ _. ended (by_84 (reads b _ 0x84 h.instruction (plain-read b h w (omega arith)) p refl))) (Ok (Ends Declined 0 h.instruction)) tt)
       (λ _. refuses _ _ _ _)))
       (λ _. refuses _ _ _ _)
 
@@ -219,7 +216,7 @@ makes s (opening i o) n =
 makes s (message i b) n =
     heard-cases (Fits s (message i b) i) (lane_at s.lanes i) b (refuses _ _ _) (λ h w _. by-waiting s i b h w) (λ h w e. by-running s i b n h w e)
 makes s (lost i) n =
-    pick-test (Fits s (lost i) i) (is_idle (lane_at s.lanes i).phase) (λ _. refuses _ _ _ _) (λ _. ends _ _ _ (λ _. broken by_loss) (Ends Unclear 0 0) tt)
+    pick-test (Fits s (lost i) i) (is_idle (lane_at s.lanes i).phase) (λ _. refuses _ _ _ _) (λ _. ends _ _ _ (λ _. broken by_loss) (Ok (Ends Unclear 0 0)) tt)
 
 -- ---- and nothing else
 
@@ -365,7 +362,7 @@ pub close-exactly : (d : Desk) → Valid d → (a : Answer) → (close_answer d 
 unfolding close_answer refused_answer view
 close-exactly d v a = (λ e. subst (Closes d) e found, given)
   where
-    closes : all_idle d.lanes ≡ true → close_answer d ≡ record { reply = Written 0; desk = fresh_desk }
+    closes : all_idle d.lanes ≡ true → close_answer d ≡ record { reply = Ok 0; desk = fresh_desk }
     closes t = rw t
 
     held : (i : ℕ) → ((lane_at d.lanes i).phase ≡ Idle → ⊥) → close_answer d ≡ refusing d (unplaced 19)
@@ -383,19 +380,19 @@ close-exactly d v a = (λ e. subst (Closes d) e found, given)
 -- ---- questions
 
 -- a lane is refused with 12 where there is none, and else it is that lane
-pub lane-exactly : (d : Desk) (i : ℕ) (a : LaneAnswer) → (lane_answer i d.lanes ≡ a) ↔ ShowsLane d i a
+pub lane-exactly : (d : Desk) (i : ℕ) (a : Result Lane Refusal) → (lane_answer i d.lanes ≡ a) ↔ ShowsLane d i a
 unfolding lane_answer view
 lane-exactly d i a = (λ e. subst (ShowsLane d i) e found, given)
   where
     found : ShowsLane d i (lane_answer i d.lanes)
     found = pick-test (ShowsLane d i) (ltb i lane_count) (λ t. lane (ltb-true i 8 t)) (λ f. no_lane (ltb-false i 8 f))
 
-    given : {x : LaneAnswer} → ShowsLane d i x → lane_answer i d.lanes ≡ x
+    given : {x : (Result Lane Refusal)} → ShowsLane d i x → lane_answer i d.lanes ≡ x
     given (no_lane h) = rw (le-ltb i 8 h)
     given (lane h) = rw (lt-ltb i 8 h)
 
 -- a line is the one with that number, and End where there is none
-pub line-exactly : (d : Desk) (k : ℕ) (a : LineAnswer) → (line_answer k (lines_of_desk d) ≡ a) ↔ ShowsLine d k a
+pub line-exactly : (d : Desk) (k : ℕ) (a : Option Line) → (line_answer k (lines_of_desk d) ≡ a) ↔ ShowsLine d k a
 unfolding line_answer view
 line-exactly d k a = (λ e. subst (ShowsLine d k) e found, given)
   where
@@ -406,8 +403,8 @@ line-exactly d k a = (λ e. subst (ShowsLine d k) e found, given)
         line (take k (lines_of_desk d)) _ (split_at (lines_of_desk d) k blank_line h) (length-take-le k (lines_of_desk d) (omega arith)))
         (λ f. no_line (ltb-false k (length (lines_of_desk d)) f))
 
-    given : {x : LineAnswer} → ShowsLine d k x → line_answer k (lines_of_desk d) ≡ x
+    given : {x : (Option Line)} → ShowsLine d k x → line_answer k (lines_of_desk d) ≡ x
     given (no_line h) = rw (le-ltb k (length (lines_of_desk d)) h)
     given (line before after {l} e n) =
         let h : k < length (lines_of_desk d) = omega (arith, ap length e, length-append before (l ∷ after)) in
-        rw (lt-ltb k (length (lines_of_desk d)) h) (ap line-got (ap (λ (ls : List Line). get_or ls k blank_line) e ∙ get_or_at before l after blank_line k n))
+        rw (lt-ltb k (length (lines_of_desk d)) h) (ap Some (ap (λ (ls : List Line). get_or ls k blank_line) e ∙ get_or_at before l after blank_line k n))

@@ -6,14 +6,13 @@ use Prim.Native.Nat.{ℕ, ◌-◌, ◌+◌, ◌*◌, ◌≤◌, ◌<◌}
 use native.Mathlib.Omega.{arith}
 use lib.Dec.{eqb}
 use borrow.Author.Tests.{eqb-true, ne_eqb}
+use Rattle.std.proofs.Common.{Err, None, Ok, Option, Result, Some}
 use Rattle.basics.specs.Lists.{part, among}
 use Rattle.zvt_rules.specs.Reading.{Reading, got, refused, and_then}
 use Rattle.zvt_rules.specs.Message.{Heading, header_size, whole_header, bytes, Message, read_of, message_of, body_of, layout_of, start, end}
 use Rattle.zvt_rules.specs.Values.{is_status, status_of, status_in, status_fields, code_in, code_of, value_in}
 use Rattle.zvt_rules.specs.declared.Refusal.{Refusal}
 use Rattle.zvt_rules.specs.declared.Status.{Status}
-use Rattle.zvt_rules.specs.declared.ToldCode.{ToldCode}
-use Rattle.zvt_rules.specs.declared.ToldCode.TheVariants.{Missing as no_code, Code}
 use Rattle.zvt_rules.specs.Heard.{first_byte, told_in}
 use Rattle.zvt_rules.proofs.Readings.{then-on, then-got, got_same}
 use Rattle.basics.proofs.Tests.{pick-test, never}
@@ -25,7 +24,7 @@ use Rattle.desk_rules.specs.declared.Phase.TheVariants.{Running}
 use Rattle.desk_rules.specs.declared.Lane.{Lane}
 use Rattle.desk_rules.specs.declared.Line.{Line}
 use Rattle.desk_rules.specs.declared.Moved.{Moved}
-use Rattle.desk_rules.specs.declared.Moved.TheVariants.{Refused, Stays, Becomes, Ends}
+use Rattle.desk_rules.specs.declared.Moved.TheVariants.{Stays, Becomes, Ends}
 use Rattle.desk_rules.specs.declared.Opening.{Opening}
 use Rattle.desk_rules.specs.Kinds.{booked, is_idle}
 use Rattle.desk_rules.specs.Lanes.{running_lane, reported_lane}
@@ -36,11 +35,11 @@ use Rattle.desk_rules.proofs.Heard.{heard-cases, completed-cases}
 use Rattle.desk_rules.proofs.Judge.{or_else, remembered, verdict_of, verdict}
 
 -- not refused
-abbrev pub Passes : Moved → Type 0
-Passes (Refused r) = ⊥
-Passes Stays = Unit {0}
-Passes (Becomes l) = Unit {0}
-Passes (Ends outcome settled code) = Unit {0}
+abbrev pub Passes : Result Moved Refusal → Type 0
+Passes (Err r) = ⊥
+Passes (Ok Stays) = Unit {0}
+Passes (Ok (Becomes l)) = Unit {0}
+Passes (Ok (Ends outcome settled code)) = Unit {0}
 
 -- P29: an end of every kind puts its line into the book
 pub every-kind : (k : Kind) → booked k ≡ true
@@ -49,8 +48,8 @@ every-kind Refund = refl
 every-kind Reversal = refl
 
 -- ---- an opening finds its lane idle and makes it wait for what it asks
-abbrev Opened : Lane → Opening → Line → Moved → Type 0
-Opened l o line m = (is_idle l.phase ≡ true) × (stands (refers_to o) line ≡ true) × (m ≡ Becomes (opened_lane o line))
+abbrev Opened : Lane → Opening → Line → Result Moved Refusal → Type 0
+Opened l o line m = (is_idle l.phase ≡ true) × (stands (refers_to o) line ≡ true) × (m ≡ Ok (Becomes (opened_lane o line)))
 
 pub opened : (l : Lane) (o : Opening) (line : Line) → Passes (opened_by l o line) → Opened l o line (opened_by l o line)
 unfolding opened_by
@@ -59,7 +58,7 @@ opened l o line =
     (λ e. pick-test P (within_limits o) (λ _. pick-test P (stands (refers_to o) line) (λ f _. (e, f, refl)) (λ _ h. absurd h)) (λ _ h. absurd h))
     (λ _ h. absurd h)
   where
-    P : Moved → Type 0
+    P : Result Moved Refusal → Type 0
     P m = Passes m → Opened l o line m
 
 -- ---- any other call finds it open, and goes on with what it remembers or ends by its verdict
@@ -74,11 +73,11 @@ Heeds l (opening i o) n = ⊥
 Heeds l (message i s) n = n ≡ retold l s
 Heeds l (lost i) n = ⊥
 
-abbrev pub Later : Lane → Call → Moved → Type 0
-Later l c (Refused r) = ⊥
-Later l c Stays = Heeds l c l
-Later l c (Becomes n) = Heeds l c n
-Later l c (Ends outcome settled code) = verdict (running_lane l) c ≡ Ends outcome settled code
+abbrev pub Later : Lane → Call → Result Moved Refusal → Type 0
+Later l c (Err r) = ⊥
+Later l c (Ok Stays) = Heeds l c l
+Later l c (Ok (Becomes n)) = Heeds l c n
+Later l c (Ok (Ends outcome settled code)) = verdict (running_lane l) c ≡ Ok (Ends outcome settled code)
 
 -- the header's class is the message's
 of-header : (s : List ℕ) (h : Heading) (m : Message) → message_of s h ≡ got m → m.class ≡ h.class
@@ -122,47 +121,47 @@ running-same : (l : Lane) → l.phase ≡ Running → l ≡ running_lane l
 running-same l e = ap (λ (p : Phase). record { phase = p; kind = l.kind; asked = l.asked; named = l.named; status = l.status }) e
 
 -- refused, or an end
-abbrev pub Closing : Moved → Type 0
-Closing (Refused r) = Unit {0}
-Closing Stays = ⊥
-Closing (Becomes l) = ⊥
-Closing (Ends outcome settled code) = Unit {0}
+abbrev pub Closing : Result Moved Refusal → Type 0
+Closing (Err r) = Unit {0}
+Closing (Ok Stays) = ⊥
+Closing (Ok (Becomes l)) = ⊥
+Closing (Ok (Ends outcome settled code)) = Unit {0}
 
-pub completed-closes : (l : Lane) (t : ToldCode) → Closing (completed_by l t)
+pub completed-closes : (l : Lane) (t : Option ℕ) → Closing (completed_by l t)
 completed-closes l t = completed-cases Closing l (λ c. tt) (λ a e. tt) t
 
-completed-running : (l : Lane) (t : ToldCode) → completed_by (running_lane l) t ≡ completed_by l t
+completed-running : (l : Lane) (t : Option ℕ) → completed_by (running_lane l) t ≡ completed_by l t
 unfolding completed_by
-completed-running l no_code = refl
-completed-running l (Code c) = refl
+completed-running l None = refl
+completed-running l (Some c) = refl
 
-pub aborted-closes : (start : ℕ) (t : ToldCode) → Closing (aborted_by start t)
+pub aborted-closes : (start : ℕ) (t : Option ℕ) → Closing (aborted_by start t)
 unfolding aborted_by
-aborted-closes start no_code = tt
-aborted-closes start (Code b) = tt
+aborted-closes start None = tt
+aborted-closes start (Some b) = tt
 
 module _ (l : Lane) (i : ℕ) (s : List ℕ) where
-  Goes : Moved → Type 0
+  Goes : Result Moved Refusal → Type 0
   Goes m = Passes m → Later l (message i s) m
 
-  refuses : (r : Refusal) → Goes (Refused r)
+  refuses : (r : Refusal) → Goes (Err r)
   unfolding Goes
   refuses r h = absurd h
 
-  stays : l ≡ retold l s → Goes Stays
+  stays : l ≡ retold l s → Goes (Ok Stays)
   unfolding Goes
   stays e h = e
 
-  becomes : (n : Lane) → n ≡ retold l s → Goes (Becomes n)
+  becomes : (n : Lane) → n ≡ retold l s → Goes (Ok (Becomes n))
   unfolding Goes
   becomes n e h = e
 
-  closes : (m : Moved) → Closing m → verdict (running_lane l) (message i s) ≡ m → Goes m
+  closes : (m : Result Moved Refusal) → Closing m → verdict (running_lane l) (message i s) ≡ m → Goes m
   unfolding Goes
-  closes (Refused r) c v h = absurd h
-  closes Stays c v h = absurd c
-  closes (Becomes n) c v h = absurd c
-  closes (Ends outcome settled code) c v h = v
+  closes (Err r) c v h = absurd h
+  closes (Ok Stays) c v h = absurd c
+  closes (Ok (Becomes n)) c v h = absurd c
+  closes (Ok (Ends outcome settled code)) c v h = v
 
   -- what tells no status leaves what is remembered
   same : ((m : Message) → read_of s ≡ got m → is_status m ≡ false) → running_lane l ≡ retold l s
@@ -180,7 +179,7 @@ module _ (l : Lane) (i : ℕ) (s : List ℕ) where
       (λ _. pick-test Goes (pair_is h.class h.instruction 0x80 0x00)
       (λ e. becomes (running_lane l) (same λ m f. rw (of-header s h m (sym (then-on _ h w) ∙ f), (both h.class h.instruction 0x80 0x00 e).0)))
       (λ _. pick-test Goes (eqb h.class 0x84)
-      (λ e. closes (Ends Declined 0 h.instruction) tt (rw (plain-read s h w (omega (arith, eqb-true h.class 0x84 e)), e)))
+      (λ e. closes (Ok (Ends Declined 0 h.instruction)) tt (rw (plain-read s h w (omega (arith, eqb-true h.class 0x84 e)), e)))
       (λ _. refuses _)))
       (λ _. refuses _)
 
@@ -189,9 +188,9 @@ module _ (l : Lane) (i : ℕ) (s : List ℕ) where
   unfolding reported_by or_else
   reported st e on = go st.code e
     where
-      go : (t : ToldCode) → remembered l.status s ≡ or_else t st l.status → Goes (reported_by l st t)
-      go no_code f = stays (running-same l on ∙ ap (reported_lane (running_lane l)) (sym f))
-      go (Code c) f = becomes (reported_lane l st) (ap₂ reported_lane (running-same l on) (sym f))
+      go : (t : Option ℕ) → remembered l.status s ≡ or_else t st l.status → Goes (reported_by l st t)
+      go None f = stays (running-same l on ∙ ap (reported_lane (running_lane l)) (sym f))
+      go (Some c) f = becomes (reported_lane l st) (ap₂ reported_lane (running-same l on) (sym f))
 
   moved : (m : Message) → read_of s ≡ got m → l.phase ≡ Running → Goes (moved_by l m.class m.instruction (header_size m.long) (told_in m))
   unfolding moved_by told_in verdict verdict_of remembered status_of status_fields
@@ -230,37 +229,37 @@ later l ls (lost i) e = pick-test (λ m. Passes m → (is_idle l.phase ≡ false
 
 -- ---- whether a call ends its payment can be seen from the call alone
 
-unfoldable pub ends_in : Moved → Bool
-ends_in (Refused r) = false
-ends_in Stays = false
-ends_in (Becomes l) = false
-ends_in (Ends outcome settled code) = true
+unfoldable pub ends_in : Result Moved Refusal → Bool
+ends_in (Err r) = false
+ends_in (Ok Stays) = false
+ends_in (Ok (Becomes l)) = false
+ends_in (Ok (Ends outcome settled code)) = true
 
-closing-ends : (m : Moved) → Closing m → Passes m → ends_in m ≡ true
+closing-ends : (m : Result Moved Refusal) → Closing m → Passes m → ends_in m ≡ true
 unfolding ends_in
-closing-ends (Refused r) c p = absurd p
-closing-ends Stays c p = absurd c
-closing-ends (Becomes l) c p = absurd c
-closing-ends (Ends outcome settled code) c p = refl
+closing-ends (Err r) c p = absurd p
+closing-ends (Ok Stays) c p = absurd c
+closing-ends (Ok (Becomes l)) c p = absurd c
+closing-ends (Ok (Ends outcome settled code)) c p = refl
 
-reported-open : (l : Lane) (st : Status) (t : ToldCode) → ends_in (reported_by l st t) ≡ false
+reported-open : (l : Lane) (st : Status) (t : Option ℕ) → ends_in (reported_by l st t) ≡ false
 unfolding ends_in reported_by
-reported-open l st no_code = refl
-reported-open l st (Code c) = refl
+reported-open l st None = refl
+reported-open l st (Some c) = refl
 
 module _ (l : Lane) (s : List ℕ) where
-  Right : Moved → Type 0
+  Right : Result Moved Refusal → Type 0
   Right m = Passes m → ends_in m ≡ ends_by (read_of s)
 
-  refused-right : (r : Refusal) → Right (Refused r)
+  refused-right : (r : Refusal) → Right (Err r)
   unfolding Right
   refused-right r p = absurd p
 
-  open-right : (m : Moved) → ends_in m ≡ false → ends_by (read_of s) ≡ false → Right m
+  open-right : (m : Result Moved Refusal) → ends_in m ≡ false → ends_by (read_of s) ≡ false → Right m
   unfolding Right
   open-right m e f p = e ∙ sym f
 
-  end-right : (m : Moved) → Closing m → ends_by (read_of s) ≡ true → Right m
+  end-right : (m : Result Moved Refusal) → Closing m → ends_by (read_of s) ≡ true → Right m
   unfolding Right
   end-right m c f p = closing-ends m c p ∙ sym f
 
@@ -271,7 +270,7 @@ module _ (l : Lane) (s : List ℕ) where
       (λ _. pick-test Right (pair_is h.class h.instruction 0x80 0x00)
       (λ e. open-right _ refl (go (read_of s) refl (both h.class h.instruction 0x80 0x00 e).0))
       (λ _. pick-test Right (eqb h.class 0x84)
-      (λ e. end-right (Ends Declined 0 h.instruction) tt (ap ends_by (plain-read s h w (omega (arith, eqb-true h.class 0x84 e))) ∙ rw e))
+      (λ e. end-right (Ok (Ends Declined 0 h.instruction)) tt (ap ends_by (plain-read s h w (omega (arith, eqb-true h.class 0x84 e))) ∙ rw e))
       (λ _. refused-right _)))
       (λ _. refused-right _)
     where
@@ -288,7 +287,7 @@ module _ (l : Lane) (s : List ℕ) where
       (λ e. let q = both m.class m.instruction 0x06 0x1E e in end-right _ (aborted-closes _ _) (ap ends_by r ∙ rw (q.0, q.1)))
       (λ b. pick-test Right (pair_is m.class m.instruction 0x04 0x0F)
       (λ e. let q = both m.class m.instruction 0x04 0x0F e in open-right _ (reported-open l _ _) (ap ends_by r ∙ rw q.0))
-      (λ _. open-right Stays refl (ap ends_by r ∙ rw (n, b, a)))))
+      (λ _. open-right (Ok Stays) refl (ap ends_by r ∙ rw (n, b, a)))))
 
   running-ends : (h : Heading) → whole_header s ≡ got h → Right (heard_running l s h)
   unfolding heard_running after_body read_of

@@ -9,15 +9,13 @@ use native.Mathlib.Omega.{arith}
 use lib.Dec.{eqb}
 use lib.ListN.{get_or}
 use borrow.Author.Tests.{eqb-true, eq-eqb, ne_eqb}
+use Rattle.std.proofs.Common.{None, Ok, Result, Some}
 use Rattle.zvt_rules.specs.Reading.{Reading, got, refused}
 use Rattle.zvt_rules.specs.Fields.{Field}
 use Rattle.zvt_rules.specs.Message.{Body, bytes, listed, Message, read_of}
 use Rattle.zvt_rules.specs.Values.{is_status, Found, missing, found, value_in, code_of, amount_of, receipt_of, code_in, amount_in, receipt_in, status_in, body_fields, status_fields, status_of}
 use Rattle.zvt_rules.specs.Digits.{number_of}
 use Rattle.zvt_rules.specs.declared.Status.{Status}
-use Rattle.zvt_rules.specs.declared.ToldCode.TheVariants.{Missing as no_code, Code}
-use Rattle.zvt_rules.specs.declared.ToldAmount.TheVariants.{Missing as no-amount, Amount}
-use Rattle.zvt_rules.specs.declared.ToldReceipt.TheVariants.{Missing as no-receipt, Receipt}
 use Rattle.zvt_rules.specs.Heard.{first_byte}
 use Rattle.basics.proofs.Tests.{pick-test, case, eqb-test, either, never}
 use Rattle.desk_rules.specs.declared.Kind.{Kind}
@@ -32,13 +30,13 @@ use Rattle.desk_rules.specs.declared.Moved.{Moved}
 use Rattle.desk_rules.specs.declared.Moved.TheVariants.{Ends}
 use Rattle.desk_rules.specs.declared.Opening.{Opening}
 use Rattle.desk_rules.specs.declared.Opening.TheVariants.{Sale as sale, Refund as refund, Reversal as reversal}
-use Rattle.desk_rules.specs.declared.Reference.TheVariants.{Sold}
+use Rattle.zvt_rules.specs.declared.Refusal.{Refusal}
 use Rattle.desk_rules.specs.Lanes.{blank_status, blank_line, waiting_lane, told_receipt, receipt_by, line_at}
 use Rattle.desk_rules.specs.Openings.{refers_to, last_line, sold, stands, opened_lane}
 use Rattle.desk_rules.specs.Course.{pair_is, settled_as, completed_by, aborted_by, Call, opening, message, lost, lane_of}
 use Rattle.desk_rules.specs.Runs.{of_lane}
 use Rattle.desk_rules.specs.Payments.{ends_by, ends}
-use Rattle.desk_rules.specs.believed.LastSale.{None, Named}
+use Rattle.desk_rules.specs.believed.LastSale.{NoneOf, Named}
 use Rattle.desk_rules.specs.believed.Due.{Reads, Report, Remembered, nothing, report, Told, told, untold, CodeIs, AmountIs, Asks, by_sale, by_refund, by_reversal, Ended, not_taken, aborted, link_lost, approved, amount_untold, differs, other_code, no_status, Ending, by_84, by_061E, by_060F, by_loss, ReceiptIs, of_reversal, of_another, Open, LineDue, PhaseIs, waiting, running, StatusIs, LaneIs, idle, busy}
 use Rattle.desk_rules.proofs.NamedSale.{named-is, named-there}
 use Rattle.desk_rules.proofs.Judge.{or_else, remembered, recalled, verdict_of, verdict}
@@ -59,15 +57,15 @@ tell fs id says other = go (value_in id fs) refl
     go missing e = (other, untold e)
     go (found v) e = (says v, told e)
 
-pub code_is : (fs : List Field) (c : ℕ) → CodeIs fs c → (status_in fs).code ≡ Code c
+pub code_is : (fs : List Field) (c : ℕ) → CodeIs fs c → (status_in fs).code ≡ Some c
 unfolding status_in code_in code_of
 code_is fs c k = rw (k.1, k.2)
 
-pub amount-is : (fs : List Field) (n : ℕ) → AmountIs fs n → (status_in fs).amount ≡ Amount n
+pub amount-is : (fs : List Field) (n : ℕ) → AmountIs fs n → (status_in fs).amount ≡ Some n
 unfolding status_in amount_in amount_of
 amount-is fs n k = rw (k.1, k.2)
 
-amount-none : (fs : List Field) → value_in 0x04 fs ≡ missing → (status_in fs).amount ≡ no-amount
+amount-none : (fs : List Field) → value_in 0x04 fs ≡ missing → (status_in fs).amount ≡ None
 unfolding status_in amount_in amount_of
 amount-none fs m = rw m
 
@@ -94,9 +92,9 @@ status-is {fs} s = rw (told-as code_of refl (λ v. refl) s.code, told-as amount_
 -- some status is told by any fields
 pub status-there : (fs : List Field) → StatusIs fs (status_in fs)
 status-there fs =
-    let c = tell fs 0x27 (λ v. Code (get_or v 0 0)) no_code in
-    let a = tell fs 0x04 (λ v. Amount (number_of v)) no-amount in
-    let r = tell fs 0x87 (λ v. Receipt (number_of v)) no-receipt in
+    let c = tell fs 0x27 (λ v. Some (get_or v 0 0)) None in
+    let a = tell fs 0x04 (λ v. Some (number_of v)) None in
+    let r = tell fs 0x87 (λ v. Some (number_of v)) None in
     let s : StatusIs fs (record { code = c.0; amount = a.0; receipt = r.0 }) = record { code = c.1; amount = a.1; receipt = r.1 } in
     subst (StatusIs fs) (sym (status-is s)) s
 
@@ -164,19 +162,19 @@ heard s = go (read_of s) refl
 
 silent : (s : List ℕ) → ((st : Status) → remembered st s ≡ st) → Report s → ⊥
 silent s same r =
-    let e : Code (get_or r.code 0 0) ≡ blank_status.code =
+    let e : Some (get_or r.code 0 0) ≡ blank_status.code =
     sym (code_is (body_fields r.body) _ (r.code, r.coded, refl)) ∙ ap (λ (t : Status). t.code) (sym (heeded blank_status s r) ∙ same blank_status) in
     never cc
 
 passed-over : (s : List ℕ) → (Report s → ⊥) → (st : Status) → remembered st s ≡ st
 passed-over s n = ⊎_elim (λ r. absurd (n r)) (λ f. f) (heard s)
 
-none-recalled : (st : Status) (ss : List (List ℕ)) → None Report ss → recalled st ss ≡ st
-unfolding recalled None
+none-recalled : (st : Status) (ss : List (List ℕ)) → NoneOf Report ss → recalled st ss ≡ st
+unfolding recalled NoneOf
 none-recalled st [] n = refl
 none-recalled st (s ∷ ss) n = ap (λ (x : Status). recalled x ss) (passed-over s n.0 st) ∙ none-recalled st ss n.1
 
-last-recalled : (st : Status) (before after : List (List ℕ)) (s : List ℕ) (r : Report s) → None Report after
+last-recalled : (st : Status) (before after : List (List ℕ)) (s : List ℕ) (r : Report s) → NoneOf Report after
     → recalled st (before ++ (s ∷ after)) ≡ status_in (body_fields r.body)
 unfolding recalled
 last-recalled st [] after s r n = ap (λ (x : Status). recalled x after) (heeded st s r) ∙ none-recalled _ after n
@@ -188,14 +186,14 @@ recalled-is {ss} (nothing n) = none-recalled blank_status ss n
 recalled-is (report {s = s} l) = ap (recalled blank_status) l.all ∙ last-recalled blank_status l.before l.after s l.holds l.later
 
 -- one message more
-pub none_more : {A : Type 0} (P : A → Type 0) (xs : List A) (x : A) → None P xs → (P x → ⊥) → None P (xs ++ (x ∷ []))
-unfolding None
+pub none_more : {A : Type 0} (P : A → Type 0) (xs : List A) (x : A) → NoneOf P xs → (P x → ⊥) → NoneOf P (xs ++ (x ∷ []))
+unfolding NoneOf
 none_more P [] x n h = (h, tt)
 none_more P (y ∷ xs) x n h = (n.0, none_more P xs x n.1 h)
 
 pub remember : (ss : List (List ℕ)) (fs : List Field) (s : List ℕ) → Remembered ss fs
     → (gs : List Field) × Remembered (ss ++ (s ∷ [])) gs × (remembered (status_in fs) s ≡ status_in gs)
-unfolding None
+unfolding NoneOf
 remember ss fs s m =
     ⊎_elim (λ r. (_, report (record { before = ss; after = []; all = refl; holds = r; later = tt }), heeded (status_in fs) s r))
     (λ same. (fs, go fs (silent s same) m, same (status_in fs))) (heard s)
@@ -233,12 +231,12 @@ ask-local before by_sale = by_sale
 ask-local before by_refund = by_refund
 ask-local {i} before (by_reversal {receipt = receipt} {sold = line} h) =
     let k = named-is i receipt (of_lane i before) line h in
-    let e : last_line i (Sold receipt) before ≡ line = last-local i (Sold receipt) blank_line before ∙ k.0 in
+    let e : last_line i (Some receipt) before ≡ line = last-local i (Some receipt) blank_line before ∙ k.0 in
     by_reversal (subst (Named i receipt before) e (named-there i receipt before (ap sold e ∙ k.1)))
 
 -- ---- how it ended
 
-settles : (k : Kind) (a amount : ℕ) → (k ≡ Reversal → amount ≡ a) → settled_as k a (Amount amount) ≡ Ends Approved amount 0
+settles : (k : Kind) (a amount : ℕ) → (k ≡ Reversal → amount ≡ a) → settled_as k a (Some amount) ≡ Ok (Ends Approved amount 0)
 unfolding settled_as
 settles Sale a amount r = refl
 settles Refund a amount r = refl
@@ -253,7 +251,7 @@ module _ (i : ℕ) (l : Lane) (fs : List Field) (same : l.status ≡ status_in f
   remembers : l.status.amount ≡ (status_in fs).amount
   remembers = ap (λ (x : Status). x.amount) same
 
-  verdict-is : {c : Call} {o : Outcome} {s code : ℕ} → Ended i l.kind l.asked fs c o s code → verdict l c ≡ Ends o s code
+  verdict-is : {c : Call} {o : Outcome} {s code : ℕ} → Ended i l.kind l.asked fs c o s code → verdict l c ≡ Ok (Ends o s code)
   unfolding verdict verdict_of first_byte aborted_by completed_by settled_as status_in code_in code_of
   verdict-is (not_taken h) = rw h.whole
   verdict-is (aborted h) = rw h.whole
@@ -267,48 +265,48 @@ module _ (i : ℕ) (l : Lane) (fs : List Field) (same : l.status ≡ status_in f
   verdict-is (no_status h m) = completed h ∙ rw (status_in, code_in, m)
 
   -- by the bytes alone there is some end
-  Some : Call → Type 0
-  Some c = (o : Outcome) × (s : ℕ) × (code : ℕ) × Ended i l.kind l.asked fs c o s code
+  SomeEnd : Call → Type 0
+  SomeEnd c = (o : Outcome) × (s : ℕ) × (code : ℕ) × Ended i l.kind l.asked fs c o s code
 
   settling : {s : List ℕ} {body : Body} {amount : ℕ} → Reads s 0x06 0x0F body → CodeIs fs 0 → AmountIs fs amount
-      → (k : Kind) → l.kind ≡ k → Some (message i s)
-  unfolding Some
+      → (k : Kind) → l.kind ≡ k → SomeEnd (message i s)
+  unfolding SomeEnd
   settling h z t Reversal e =
       case (eqb-test _ l.asked) (λ f. (Approved, _, 0, approved h z t (λ _. f))) (λ f. (Unclear, 0, 0, differs h z t e f))
   settling h z t Sale e = (Approved, _, 0, approved h z t (λ f. absurd (let q : ◌≡◌ {A = ℕ} 0 1 = cc in omega arith)))
   settling h z t Refund e = (Approved, _, 0, approved h z t (λ f. absurd (let q : ◌≡◌ {A = ℕ} 0 1 = cc in omega arith)))
 
-  coded : {s : List ℕ} {body : Body} → Reads s 0x06 0x0F body → CodeIs fs 0 → (v : Found) → value_in 0x04 fs ≡ v → Some (message i s)
-  unfolding Some
+  coded : {s : List ℕ} {body : Body} → Reads s 0x06 0x0F body → CodeIs fs 0 → (v : Found) → value_in 0x04 fs ≡ v → SomeEnd (message i s)
+  unfolding SomeEnd
   coded h z missing e = (Unclear, 0, 0, amount_untold h z e)
   coded h z (found v) e = settling h z (v, e, refl) l.kind refl
 
-  completing : {s : List ℕ} {body : Body} → Reads s 0x06 0x0F body → Some (message i s)
-  unfolding Some
+  completing : {s : List ℕ} {body : Body} → Reads s 0x06 0x0F body → SomeEnd (message i s)
+  unfolding SomeEnd
   completing {s = s} h = go (value_in 0x27 fs) refl
     where
-      go : (v : Found) → value_in 0x27 fs ≡ v → Some (message i s)
+      go : (v : Found) → value_in 0x27 fs ≡ v → SomeEnd (message i s)
       go missing e = (Unclear, 0, 0, no_status h e)
       go (found v) e =
           case (eqb-test (get_or v 0 0) 0) (λ f. coded h (v, e, f) (value_in 0x04 fs) refl)
           (λ f. (Unclear, 0, get_or v 0 0, other_code h (v, e, refl) f))
 
   module _ (outcome : Outcome) (settled code : ℕ) where
-    aborting : (s : List ℕ) (start : ℕ) (body : Body) → Reads s 0x06 0x1E body → aborted_by start (first_byte body) ≡ Ends outcome settled code
-        → Some (message i s)
-    unfolding Some first_byte aborted_by
+    aborting : (s : List ℕ) (start : ℕ) (body : Body) → Reads s 0x06 0x1E body → aborted_by start (first_byte body) ≡ Ok (Ends outcome settled code)
+        → SomeEnd (message i s)
+    unfolding SomeEnd first_byte aborted_by
     aborting s start (bytes []) h e = absurd (let q : ◌≡◌ {A = ℕ} 0 1 = cc in omega arith)
     aborting s start (bytes (b ∷ rest)) h e = (Declined, 0, b, aborted h)
     aborting s start (listed password fields) h e = absurd (let q : ◌≡◌ {A = ℕ} 0 1 = cc in omega arith)
 
-    some : (c : Call) → lane_of c ≡ i → verdict l c ≡ Ends outcome settled code → Some c
-    unfolding Some verdict verdict_of lane_of
+    some : (c : Call) → lane_of c ≡ i → verdict l c ≡ Ok (Ends outcome settled code) → SomeEnd c
+    unfolding SomeEnd verdict verdict_of lane_of
     some (opening j o) at v = absurd (let q : ◌≡◌ {A = ℕ} 0 1 = cc in omega arith)
     some (lost j) at v = rw at (Unclear, 0, 0, link_lost)
     some (message j s) at v = rw at (go (read_of s) refl v)
       where
-        P : Moved → Type 0
-        P m = m ≡ Ends outcome settled code → Some (message i s)
+        P : Result Moved Refusal → Type 0
+        P m = m ≡ Ok (Ends outcome settled code) → SomeEnd (message i s)
 
         go : (r : Reading Message) → read_of s ≡ r → P (verdict_of l r)
         go (refused f) e = λ v. absurd (let q : ◌≡◌ {A = ℕ} 0 1 = cc in omega arith)
@@ -322,11 +320,11 @@ module _ (i : ℕ) (l : Lane) (fs : List Field) (same : l.status ≡ status_in f
             (λ _ v. absurd (let q : ◌≡◌ {A = ℕ} 0 1 = cc in omega arith))))
 
     -- and it is the one that is computed
-    pub ended-there : (c : Call) → lane_of c ≡ i → verdict l c ≡ Ends outcome settled code → Ended i l.kind l.asked fs c outcome settled code
-    unfolding Some
+    pub ended-there : (c : Call) → lane_of c ≡ i → verdict l c ≡ Ok (Ends outcome settled code) → Ended i l.kind l.asked fs c outcome settled code
+    unfolding SomeEnd
     ended-there c at v =
         let x = some c at v in
-        let e : Ends x.0 x.1 x.2 ≡ Ends outcome settled code = sym (verdict-is x.3) ∙ v in
+        let e : Ok (Ends x.0 x.1 x.2) ≡ Ok (Ends outcome settled code) = sym (verdict-is x.3) ∙ v in
         let p : x.0 ≡ outcome = cc in
         let q : x.1 ≡ settled = cc in
         let r : x.2 ≡ code = cc in
@@ -401,7 +399,7 @@ module _ {before : List Line} {calls : List Call} where
   due-same {l} {m} d e =
       let c = last-same d.sofar e.sofar d.last e.last (sym d.in_order ∙ e.in_order) in
       let o = open-same d.its (subst (λ (q : List Call). Open m.lane before q m.kind m.asked e.named e.told e.status) (sym c.0) e.its) in
-      let v : Ends l.outcome l.settled l.code ≡ Ends m.outcome m.settled m.code =
+      let v : Ok (Ends l.outcome l.settled l.code) ≡ Ok (Ends m.outcome m.settled m.code) =
       sym (verdict-is l.lane (judge d) d.status refl d.ended) ∙ ap₂ verdict o.2 c.1
       ∙ verdict-is m.lane (judge e) e.status refl e.ended in
       let p : l.outcome ≡ m.outcome = cc v in

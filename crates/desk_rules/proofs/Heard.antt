@@ -5,11 +5,8 @@ use mathlib.Core.Bool.{not, ◌&&◌}
 use mathlib.Core.List.{List}
 use Prim.Native.Nat.{ℕ}
 use lib.Dec.{eqb}
+use Rattle.std.proofs.Common.{Err, None, Ok, Option, Result, Some}
 use Rattle.zvt_rules.specs.declared.Refusal.{Refusal}
-use Rattle.zvt_rules.specs.declared.ToldCode.{ToldCode}
-use Rattle.zvt_rules.specs.declared.ToldCode.TheVariants.{Missing as no_code, Code}
-use Rattle.zvt_rules.specs.declared.ToldAmount.{ToldAmount}
-use Rattle.zvt_rules.specs.declared.ToldAmount.TheVariants.{Missing as no-amount, Amount}
 use Rattle.zvt_rules.specs.Reading.{Reading, got, refused}
 use Rattle.zvt_rules.specs.Message.{Heading, whole_header}
 use Rattle.basics.proofs.Tests.{pick-test}
@@ -18,15 +15,15 @@ use Rattle.desk_rules.specs.declared.Phase.{Phase}
 use Rattle.desk_rules.specs.declared.Phase.TheVariants.{Idle, Waiting, Running}
 use Rattle.desk_rules.specs.declared.Lane.{Lane}
 use Rattle.desk_rules.specs.declared.Moved.{Moved}
-use Rattle.desk_rules.specs.declared.Moved.TheVariants.{Refused, Ends}
+use Rattle.desk_rules.specs.declared.Moved.TheVariants.{Ends}
 use Rattle.desk_rules.specs.Kinds.{is_reversal}
 use Rattle.desk_rules.specs.Course.{heard_waiting, settled_as, completed_by, heard_running, after_header, heard_by, heard}
 
-module _ (P : Moved → Type 0) (l : Lane) (s : List ℕ) (no : (r : Refusal) → P (Refused r)) where
-  abbrev Holds : Phase → (Heading → Moved) → Type 0
+module _ (P : Result Moved Refusal → Type 0) (l : Lane) (s : List ℕ) (no : (r : Refusal) → P (Err r)) where
+  abbrev Holds : Phase → (Heading → Result Moved Refusal) → Type 0
   Holds p hears = (h : Heading) → whole_header s ≡ got h → l.phase ≡ p → P (hears h)
 
-  after : (p : Phase) (hears : Heading → Moved) → l.phase ≡ p → Holds p hears → P (after_header hears (whole_header s))
+  after : (p : Phase) (hears : Heading → Result Moved Refusal) → l.phase ≡ p → Holds p hears → P (after_header hears (whole_header s))
   unfolding after_header
   after p hears e k = go (whole_header s) refl
     where
@@ -44,14 +41,14 @@ module _ (P : Moved → Type 0) (l : Lane) (s : List ℕ) (no : (r : Refusal) �
       go Running e = after Running (heard_running l s) e running
 
 -- a completion ends unclear, with nothing settled, or approved for the amount that is remembered
-module _ (P : Moved → Type 0) (l : Lane) (unclear : (c : ℕ) → P (Ends Unclear 0 c))
-    (approved : (a : ℕ) → l.status.amount ≡ Amount a → P (Ends Approved a 0)) where
-  settled : (t : ToldAmount) → l.status.amount ≡ t → P (settled_as l.kind l.asked t)
+module _ (P : Result Moved Refusal → Type 0) (l : Lane) (unclear : (c : ℕ) → P (Ok (Ends Unclear 0 c)))
+    (approved : (a : ℕ) → l.status.amount ≡ Some a → P (Ok (Ends Approved a 0))) where
+  settled : (t : Option ℕ) → l.status.amount ≡ t → P (settled_as l.kind l.asked t)
   unfolding settled_as
-  settled no-amount e = unclear 0
-  settled (Amount a) e = pick-test P (is_reversal l.kind && not (eqb a l.asked)) (λ _. unclear 0) (λ _. approved a e)
+  settled None e = unclear 0
+  settled (Some a) e = pick-test P (is_reversal l.kind && not (eqb a l.asked)) (λ _. unclear 0) (λ _. approved a e)
 
-  pub completed-cases : (t : ToldCode) → P (completed_by l t)
+  pub completed-cases : (t : Option ℕ) → P (completed_by l t)
   unfolding completed_by
-  completed-cases no_code = unclear 0
-  completed-cases (Code c) = pick-test P (eqb c 0) (λ _. settled l.status.amount refl) (λ _. unclear c)
+  completed-cases None = unclear 0
+  completed-cases (Some c) = pick-test P (eqb c 0) (λ _. settled l.status.amount refl) (λ _. unclear c)

@@ -8,11 +8,13 @@ use lib.Dec.{eqb}
 use lib.ListN.{length, get_or, set, replicate, length-set}
 use lib.Seq.{get_or-set_same, get_or-set_other, append_snoc}
 use borrow.Author.Tests.{eqb-true, eqb-false}
+use Rattle.std.proofs.Common.{Err, Ok, Result}
 use Rattle.basics.specs.Choice.{pick}
 use Rattle.desk_rules.specs.declared.Lane.{Lane}
 use Rattle.desk_rules.specs.declared.Line.{Line}
 use Rattle.desk_rules.specs.declared.Moved.{Moved}
-use Rattle.desk_rules.specs.declared.Moved.TheVariants.{Refused, Stays, Becomes, Ends}
+use Rattle.desk_rules.specs.declared.Moved.TheVariants.{Stays, Becomes, Ends}
+use Rattle.zvt_rules.specs.declared.Refusal.{Refusal}
 use Rattle.desk_rules.specs.Numbers.{lane_count}
 use Rattle.desk_rules.specs.Lanes.{idle_lane}
 use Rattle.desk_rules.specs.Course.{Call, lane_of, moves}
@@ -77,7 +79,7 @@ mine s c = own_of (lane_of c) s
 abbrev grown : Payments → Call → List Call
 grown p c = get_or p.ongoing (lane_of c) [] ++ (c ∷ [])
 
-abbrev turn : State → Call → Moved
+abbrev turn : State → Call → Result Moved Refusal
 turn s c = moves (mine s c).lane (mine s c).lines c
 
 -- the payment with the call stands in ys, ended, or in x, still open
@@ -160,14 +162,14 @@ kept_step s p past c kept h =
         (rw l (blocks-snoc [] p.ended s.lines (q ++ (c ∷ [])) x kept.blocks
         (record { lane = i; small = (accept-parts s c h).lane; its = its-more q c now.its; due = d; brings = rw (e, l) at brings })))
 
-    go : (m : Moved) → turn s c ≡ m → Goes i w.lines w.lane (q ++ (c ∷ [])) m
+    go : (m : Result Moved Refusal) → turn s c ≡ m → Goes i w.lines w.lane (q ++ (c ∷ [])) m
         → Kept (step s c) (pick (ends_in m)
         (record { ended = p.ended ++ ((q ++ (c ∷ [])) ∷ []); ongoing = set p.ongoing i [] })
         (record { ended = p.ended; ongoing = set p.ongoing i (q ++ (c ∷ [])) })) (past ++ (c ∷ []))
-    go (Refused r) e g = absurd g
-    go Stays e g = on w.lane (ap (lane_after w.lane) e) (ap (lines_from i w.lane) e) g
-    go (Becomes n) e g = on n (ap (lane_after w.lane) e) (ap (lines_from i w.lane) e) g
-    go (Ends outcome settled code) e g =
+    go (Err r) e g = absurd g
+    go (Ok Stays) e g = on w.lane (ap (lane_after w.lane) e) (ap (lines_from i w.lane) e) g
+    go (Ok (Becomes n)) e g = on n (ap (lane_after w.lane) e) (ap (lines_from i w.lane) e) g
+    go (Ok (Ends outcome settled code)) e g =
         ended _ (ap (lane_after w.lane) e) (ap (lines_from i w.lane) e ∙ rw (every-kind w.lane.kind)) (g s.lines refl)
 
 kept_run : (s : State) (p : Payments) (past cs : List Call) → Kept s p past → Accepted s cs → Kept (run s cs) (payments_from p cs) (past ++ cs)

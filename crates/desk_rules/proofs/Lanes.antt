@@ -8,14 +8,14 @@ use lib.Dec.{eqb, leb}
 use lib.ListN.{length, get_or, set, length-set}
 use lib.Seq.{get_or-set_same, get_or-set_other}
 use borrow.Author.Tests.{eqb-true, eqb-false, eq-eqb, ne_eqb, leb-false, lt-leb, le-ltb}
+use Rattle.std.proofs.Common.{Err, Ok, Option, Result}
 use Rattle.zvt_rules.specs.declared.Refusal.{Refusal}
 use Rattle.basics.specs.Choice.{pick}
 use Rattle.basics.proofs.Tests.{pick_same, pick_under, never}
 use Rattle.desk_rules.specs.declared.Lane.{Lane}
 use Rattle.desk_rules.specs.declared.Line.{Line}
 use Rattle.desk_rules.specs.declared.Moved.{Moved}
-use Rattle.desk_rules.specs.declared.Moved.TheVariants.{Refused, Stays, Becomes, Ends}
-use Rattle.desk_rules.specs.declared.Reference.{Reference}
+use Rattle.desk_rules.specs.declared.Moved.TheVariants.{Stays, Becomes, Ends}
 use Rattle.desk_rules.specs.Numbers.{lane_count, book_lines}
 use Rattle.desk_rules.specs.Kinds.{booked}
 use Rattle.desk_rules.specs.Lanes.{idle_lane, line_at, line_taken}
@@ -45,7 +45,7 @@ total-set f (y ∷ xs) (suc i) x d h = omega (arith, total-set f xs i x d (omega
 
 -- ---- a call depends on its lane's own lines
 
-pub last-local : (i : ℕ) (r : Reference) (last : Line) (ls : List Line) → last_from i r last ls ≡ last_from i r last (of_lane i ls)
+pub last-local : (i : ℕ) (r : Option ℕ) (last : Line) (ls : List Line) → last_from i r last ls ≡ last_from i r last (of_lane i ls)
 unfolding last_from having concerns
 last-local i r last [] = refl
 last-local i r last (l ∷ ls) = go (eqb l.lane i) refl (λ x. last-local i r x ls)
@@ -69,12 +69,12 @@ after o c =
     let m = moves o.lane o.lines c in
     record { lane = lane_after o.lane m; lines = o.lines ++ lines_from (lane_of c) o.lane m }
 
-lines-own : (i k : ℕ) (l : Lane) (m : Moved) → of_lane k (lines_from i l m) ≡ pick (eqb i k) (lines_from i l m) []
+lines-own : (i k : ℕ) (l : Lane) (m : Result Moved Refusal) → of_lane k (lines_from i l m) ≡ pick (eqb i k) (lines_from i l m) []
 unfolding lines_from having line_at
-lines-own i k l (Refused r) = sym (pick_same (eqb i k) refl)
-lines-own i k l Stays = sym (pick_same (eqb i k) refl)
-lines-own i k l (Becomes n) = sym (pick_same (eqb i k) refl)
-lines-own i k l (Ends outcome settled code) = go (booked l.kind)
+lines-own i k l (Err r) = sym (pick_same (eqb i k) refl)
+lines-own i k l (Ok Stays) = sym (pick_same (eqb i k) refl)
+lines-own i k l (Ok (Becomes n)) = sym (pick_same (eqb i k) refl)
+lines-own i k l (Ok (Ends outcome settled code)) = go (booked l.kind)
   where
     go : (b : Bool) → let x = line_at i l outcome settled code in of_lane k (line_if b x) ≡ pick (eqb i k) (line_if b x) []
     go true = refl
@@ -129,19 +129,19 @@ pub not-refused : (t : Bool) (n : Refusal) (d : Decision) → pick t (refuse n) 
 not-refused true n d e = never cc
 not-refused false n d e = (refl, e)
 
-pub passed : (m : Moved) (d : Decision) → unless_refused m d ≡ accept → Passes m × (d ≡ accept)
+pub passed : (m : Result Moved Refusal) (d : Decision) → unless_refused m d ≡ accept → Passes m × (d ≡ accept)
 unfolding unless_refused
-passed (Refused r) d e = never cc
-passed Stays d e = (tt, e)
-passed (Becomes l) d e = (tt, e)
-passed (Ends outcome settled code) d e = (tt, e)
+passed (Err r) d e = never cc
+passed (Ok Stays) d e = (tt, e)
+passed (Ok (Becomes l)) d e = (tt, e)
+passed (Ok (Ends outcome settled code)) d e = (tt, e)
 
-pub passing : (m : Moved) (d : Decision) → Passes m → unless_refused m d ≡ d
+pub passing : (m : Result Moved Refusal) (d : Decision) → Passes m → unless_refused m d ≡ d
 unfolding unless_refused
-passing (Refused r) d h = absurd h
-passing Stays d h = refl
-passing (Becomes l) d h = refl
-passing (Ends outcome settled code) d h = refl
+passing (Err r) d h = absurd h
+passing (Ok Stays) d h = refl
+passing (Ok (Becomes l)) d h = refl
+passing (Ok (Ends outcome settled code)) d h = refl
 
 line-free : (o : Bool) (n : ℕ) → o && leb book_lines n ≡ false → o ≡ true → n < book_lines
 line-free true n e f = leb-false book_lines n e

@@ -5,11 +5,13 @@ use mathlib.Core.List.{List}
 use Prim.Native.Nat.{ℕ, ◌+◌}
 use native.Mathlib.Omega.{arith}
 use lib.ListN.{length, length-append}
+use Rattle.std.proofs.Common.{Err, Ok, Result}
 use Rattle.basics.specs.Choice.{pick}
 use Rattle.desk_rules.specs.declared.Lane.{Lane}
 use Rattle.desk_rules.specs.declared.Line.{Line}
 use Rattle.desk_rules.specs.declared.Moved.{Moved}
-use Rattle.desk_rules.specs.declared.Moved.TheVariants.{Refused, Stays, Becomes, Ends}
+use Rattle.desk_rules.specs.declared.Moved.TheVariants.{Stays, Becomes, Ends}
+use Rattle.zvt_rules.specs.declared.Refusal.{Refusal}
 use Rattle.desk_rules.specs.Numbers.{lane_count}
 use Rattle.desk_rules.specs.Kinds.{booked, is_idle}
 use Rattle.desk_rules.specs.Lanes.{idle_lane, line_at, line_taken}
@@ -31,13 +33,13 @@ heeds-line l (message i s) n e f = rw (e, f)
 heeds-line l (lost i) n e f = absurd f
 
 -- lines are kept: an opening takes one, and an end writes it
-then-kept : (i : ℕ) (l : Lane) (c : Call) (m : Moved) → is_idle l.phase ≡ false → Later l c m
+then-kept : (i : ℕ) (l : Lane) (c : Call) (m : Result Moved Refusal) → is_idle l.phase ≡ false → Later l c m
     → line_taken (lane_after l m) + length (lines_from i l m) ≡ line_taken l + 0
 unfolding lane_after lines_from line_taken
-then-kept i l c (Refused r) e f = absurd f
-then-kept i l c Stays e f = refl
-then-kept i l c (Becomes n) e f = omega (arith, heeds-line l c n e f)
-then-kept i l c (Ends outcome settled code) e f = rw e (omega (arith, line-count (booked l.kind) (line_at i l outcome settled code)))
+then-kept i l c (Err r) e f = absurd f
+then-kept i l c (Ok Stays) e f = refl
+then-kept i l c (Ok (Becomes n)) e f = omega (arith, heeds-line l c n e f)
+then-kept i l c (Ok (Ends outcome settled code)) e f = rw e (omega (arith, line-count (booked l.kind) (line_at i l outcome settled code)))
 
 pub kept : (i : ℕ) (l : Lane) (ls : List Line) (c : Call) → Passes (moves l ls c)
     → line_taken (lane_after l (moves l ls c)) + length (lines_from i l (moves l ls c)) ≡ line_taken l + one_opened c

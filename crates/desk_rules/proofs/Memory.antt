@@ -9,6 +9,7 @@ use lib.ListN.{length, get_or, set, replicate, length-set}
 use lib.Seq.{length-take-le, set-get_or, take-suc-set}
 use lib.Dec.{ltb, leb}
 use borrow.Author.Tests.{leb-false, ltb-false}
+use Rattle.std.proofs.Common.{Err, Ok, Result}
 use Rattle.zvt_rules.specs.declared.Refusal.{Refusal}
 use Rattle.basics.specs.Choice.{pick}
 use Rattle.basics.specs.Buffers.{front}
@@ -16,11 +17,10 @@ use Rattle.basics.proofs.Tests.{pick-test}
 use Rattle.desk_rules.specs.declared.Lane.{Lane}
 use Rattle.desk_rules.specs.declared.Line.{Line}
 use Rattle.desk_rules.specs.declared.Moved.{Moved}
-use Rattle.desk_rules.specs.declared.Moved.TheVariants.{Refused, Stays, Becomes, Ends}
+use Rattle.desk_rules.specs.declared.Moved.TheVariants.{Stays, Becomes, Ends}
 use Rattle.desk_rules.specs.declared.Book.{Book}
 use Rattle.desk_rules.specs.declared.Desk.{Desk}
 use Rattle.desk_rules.specs.declared.Answer.{Answer}
-use Rattle.desk_rules.specs.declared.Reply.TheVariants.{Written}
 use Rattle.desk_rules.specs.Numbers.{lane_count, book_lines}
 use Rattle.desk_rules.specs.Kinds.{booked, is_idle}
 use Rattle.desk_rules.specs.Lanes.{blank_line, idle_lane, line_at, line_taken}
@@ -80,7 +80,7 @@ fresh-valid =
     }
 
 -- what a move of lane i leaves finds its lines
-abbrev pub MoveFits : Desk → ℕ → Moved → Type 0
+abbrev pub MoveFits : Desk → ℕ → Result Moved Refusal → Type 0
 MoveFits d i m =
     let l = lane_at d.lanes i in
     d.book.count + lines_taken d.lanes + (line_taken (lane_after l m) + length (lines_from i l m)) ≤ book_lines + line_taken l
@@ -104,12 +104,12 @@ module _ (d : Desk) (v : Valid d) where
           settled = k;
         }
 
-    moved-valid : (m : Moved) → MoveFits d i m → Fits m → Valid (moved_desk d i m)
+    moved-valid : (m : Result Moved Refusal) → MoveFits d i m → Fits m → Valid (moved_desk d i m)
     unfolding moved_desk ended_desk line_at lane_after lines_from ToldSmall
-    moved-valid (Refused x) r f = v
-    moved-valid Stays r f = v
-    moved-valid (Becomes l) r f = changed-valid l d.book f v.lines v.settled (omega arith)
-    moved-valid (Ends outcome settled code) r f = go (booked (lane_at d.lanes i).kind) r
+    moved-valid (Err x) r f = v
+    moved-valid (Ok Stays) r f = v
+    moved-valid (Ok (Becomes l)) r f = changed-valid l d.book f v.lines v.settled (omega arith)
+    moved-valid (Ok (Ends outcome settled code)) r f = go (booked (lane_at d.lanes i).kind) r
       where
         line : Line
         line = line_at i (lane_at d.lanes i) outcome settled code
@@ -124,13 +124,13 @@ module _ (d : Desk) (v : Valid d) where
 
     -- ---- the desk follows the course
 
-    moved_view : (m : Moved) → MoveFits d i m → let l = lane_at d.lanes i in
+    moved_view : (m : Result Moved Refusal) → MoveFits d i m → let l = lane_at d.lanes i in
         view (moved_desk d i m) ≡ record { lanes = set d.lanes i (lane_after l m); lines = lines_of_desk d ++ lines_from i l m }
     unfolding view moved_desk ended_desk line_at lane_after lines_from
-    moved_view (Refused x) r = rw (set-get_or, append-nil)
-    moved_view Stays r = rw (set-get_or, append-nil)
-    moved_view (Becomes l) r = rw append-nil
-    moved_view (Ends outcome settled code) r = go (booked (lane_at d.lanes i).kind) r
+    moved_view (Err x) r = rw (set-get_or, append-nil)
+    moved_view (Ok Stays) r = rw (set-get_or, append-nil)
+    moved_view (Ok (Becomes l)) r = rw append-nil
+    moved_view (Ok (Ends outcome settled code)) r = go (booked (lane_at d.lanes i).kind) r
       where
         line : Line
         line = line_at i (lane_at d.lanes i) outcome settled code
@@ -143,7 +143,7 @@ module _ (d : Desk) (v : Valid d) where
         go false e = rw append-nil
 
 -- what a call does to the lane that it names
-abbrev pub move_of : Desk → Call → Moved
+abbrev pub move_of : Desk → Call → Result Moved Refusal
 move_of d c = moves (lane_for d c) (lines_of_desk d) c
 
 -- what an accepted call tells
@@ -172,7 +172,7 @@ module _ (d : Desk) (c : Call) (room : ℕ) where
   unfolding one_opened
   taken-fits v t = go (needs_line c) (kept (lane_of c) (lane_for d c) (lines_of_desk d) c t.passes) t.few
     where
-      m : Moved
+      m : Result Moved Refusal
       m = move_of d c
 
       go : (o : Bool)
@@ -193,7 +193,7 @@ module _ (d : Desk) (c : Call) (room : ℕ) where
   refused-same n e = rw (e, answer_by)
 
   pub accepted-answer : decide (view d) c room ≡ accept
-      → answer_of d c room ≡ record { reply = Written (length (writes (lane_for d c) c)); desk = moved_desk d (lane_of c) (move_of d c) }
+      → answer_of d c room ≡ record { reply = Ok (length (writes (lane_for d c) c)); desk = moved_desk d (lane_of c) (move_of d c) }
   unfolding answer_of answer_by
   accepted-answer e = rw (e, answer_by)
 

@@ -6,6 +6,7 @@ use Prim.Native.Nat.{ℕ, ◌<◌}
 use lib.Dec.{eqb}
 use lib.ListN.{length, set}
 use lib.Seq.{get_or-set_same, set-set, set-get_or}
+use Rattle.std.proofs.Common.{Err, Ok, Result}
 use Rattle.basics.specs.Choice.{pick}
 use Rattle.zvt_rules.specs.Values.{value_in, code_of, amount_of, receipt_of, code_in, amount_in, receipt_in, status_in}
 use Rattle.basics.proofs.Tests.{pick_same, true-false}
@@ -15,8 +16,9 @@ use Rattle.desk_rules.specs.declared.Phase.{Phase}
 use Rattle.desk_rules.specs.declared.Lane.{Lane}
 use Rattle.desk_rules.specs.declared.Line.{Line}
 use Rattle.desk_rules.specs.declared.Moved.{Moved}
-use Rattle.desk_rules.specs.declared.Moved.TheVariants.{Refused, Stays, Becomes, Ends}
+use Rattle.desk_rules.specs.declared.Moved.TheVariants.{Stays, Becomes, Ends}
 use Rattle.desk_rules.specs.declared.Opening.{Opening}
+use Rattle.zvt_rules.specs.declared.Refusal.{Refusal}
 use Rattle.desk_rules.specs.Kinds.{is_idle}
 use Rattle.desk_rules.specs.Lanes.{idle_lane, running_lane, line_at}
 use Rattle.desk_rules.specs.Openings.{refers_to, last_line, stands, opened_lane}
@@ -24,7 +26,7 @@ use Rattle.desk_rules.specs.Course.{Call, opening, message, lost, lane_of, opens
 use Rattle.desk_rules.specs.Desk.{State, lane_at, lane_after, lines_from, step, run}
 use Rattle.desk_rules.specs.Runs.{having, of_lane, calls_of, Own}
 use Rattle.desk_rules.specs.Payments.{ends}
-use Rattle.desk_rules.specs.believed.LastSale.{None}
+use Rattle.desk_rules.specs.believed.LastSale.{NoneOf}
 use Rattle.desk_rules.specs.believed.Due.{nothing, Ending, Open, LineDue, PhaseIs, waiting, running, StatusIs, LaneIs, idle, busy}
 use Rattle.desk_rules.proofs.Judge.{remembered, verdict}
 use Rattle.desk_rules.proofs.Calls.{Passes, opened, retold, Heeds, Later, later, ends_in, ends_same}
@@ -41,7 +43,7 @@ phase-busy running = refl
 module _ (k : ℕ) (ls : List Line) where
   opens-lane : {q : List Call} {l : Lane} (o : Opening) → LaneIs k ls q l → is_idle l.phase ≡ true → stands (refers_to o) (last_line k (refers_to o) ls) ≡ true
       → LaneIs k ls (q ++ (opening k o ∷ [])) (opened_lane o (last_line k (refers_to o) ls))
-  unfolding None status_in code_in code_of amount_in amount_of receipt_in receipt_of value_in
+  unfolding NoneOf status_in code_in code_of amount_in amount_of receipt_in receipt_of value_in
   opens-lane o idle e f =
       busy (record { first = o; in_order = refl; still_open = tt; asks = ask k ls o f; remembered = nothing tt }) waiting (status-there [])
   opens-lane o (busy x p s) e f = absurd (true-false e (phase-busy p))
@@ -70,7 +72,7 @@ module _ (k : ℕ) (ls : List Line) where
         phase (x ∷ ss) = running
 
   closes : {q : List Call} {l : Lane} (c : Call) (outcome : Outcome) (settled code : ℕ) → LaneIs k ls q l → is_idle l.phase ≡ false → lane_of c ≡ k
-      → verdict (running_lane l) c ≡ Ends outcome settled code
+      → verdict (running_lane l) c ≡ Ok (Ends outcome settled code)
       → (xs : List Line) → of_lane k xs ≡ ls → LineDue xs (q ++ (c ∷ [])) (line_at k l outcome settled code)
   unfolding line_at
   closes c outcome settled code idle b at v xs e = absurd (false≢true (sym b))
@@ -88,11 +90,11 @@ module _ (k : ℕ) (ls : List Line) where
       }
 
 -- what a call makes of a payment
-unfoldable pub Goes : ℕ → List Line → Lane → List Call → Moved → Type 0
-Goes k ls l q (Refused r) = ⊥
-Goes k ls l q Stays = LaneIs k ls q l
-Goes k ls l q (Becomes n) = LaneIs k ls q n
-Goes k ls l q (Ends outcome settled code) = (xs : List Line) → of_lane k xs ≡ ls → LineDue xs q (line_at k l outcome settled code)
+unfoldable pub Goes : ℕ → List Line → Lane → List Call → Result Moved Refusal → Type 0
+Goes k ls l q (Err r) = ⊥
+Goes k ls l q (Ok Stays) = LaneIs k ls q l
+Goes k ls l q (Ok (Becomes n)) = LaneIs k ls q n
+Goes k ls l q (Ok (Ends outcome settled code)) = (xs : List Line) → of_lane k xs ≡ ls → LineDue xs q (line_at k l outcome settled code)
 
 heeds : (l : Lane) (ls : List Line) (q : List Call) (c : Call) (n : Lane) → LaneIs (lane_of c) ls q l → is_idle l.phase ≡ false → ends c ≡ false
     → Heeds l c n → LaneIs (lane_of c) ls (q ++ (c ∷ [])) n
@@ -101,13 +103,13 @@ heeds l ls q (opening i o) n says b e f = absurd f
 heeds l ls q (message i s) n says b e f = rw f (on i ls s b e says)
 heeds l ls q (lost i) n says b e f = absurd f
 
-then : (l : Lane) (ls : List Line) (q : List Call) (c : Call) (m : Moved) → LaneIs (lane_of c) ls q l → is_idle l.phase ≡ false → ends_in m ≡ ends c
+then : (l : Lane) (ls : List Line) (q : List Call) (c : Call) (m : Result Moved Refusal) → LaneIs (lane_of c) ls q l → is_idle l.phase ≡ false → ends_in m ≡ ends c
     → Later l c m → Goes (lane_of c) ls l (q ++ (c ∷ [])) m
 unfolding Goes ends_in
-then l ls q c (Refused r) says b e f = absurd f
-then l ls q c Stays says b e f = heeds l ls q c l says b (sym e) f
-then l ls q c (Becomes n) says b e f = heeds l ls q c n says b (sym e) f
-then l ls q c (Ends outcome settled code) says b e f = closes (lane_of c) ls c outcome settled code says b refl f
+then l ls q c (Err r) says b e f = absurd f
+then l ls q c (Ok Stays) says b e f = heeds l ls q c l says b (sym e) f
+then l ls q c (Ok (Becomes n)) says b e f = heeds l ls q c n says b (sym e) f
+then l ls q c (Ok (Ends outcome settled code)) says b e f = closes (lane_of c) ls c outcome settled code says b refl f
 
 pub goes : (l : Lane) (ls : List Line) (q : List Call) (c : Call) → LaneIs (lane_of c) ls q l → Passes (moves l ls c)
     → Goes (lane_of c) ls l (q ++ (c ∷ [])) (moves l ls c)

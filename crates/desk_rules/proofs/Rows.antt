@@ -9,10 +9,9 @@ use native.Mathlib.Omega.{arith}
 use lib.ListN.{length}
 use lib.Dec.{ltb, leb, eqb}
 use borrow.Author.Tests.{ltb-true, lt-ltb, le-ltb}
+use Rattle.std.proofs.Common.{None, Option, Result, Some}
 use Rattle.zvt_rules.specs.declared.Refusal.{Refusal}
 use Rattle.zvt_rules.specs.declared.Status.{Status}
-use Rattle.zvt_rules.specs.declared.ToldCode.{ToldCode}
-use Rattle.zvt_rules.specs.declared.ToldCode.TheVariants.{Missing, Code}
 use Rattle.basics.specs.Choice.{pick}
 use Rattle.basics.specs.Lists.{part, among}
 use Rattle.zvt_rules.specs.Reading.{Reading, got, refused, fault_at, unplaced}
@@ -39,7 +38,6 @@ use Rattle.desk_rules.specs.Lanes.{line_taken}
 use Rattle.desk_rules.specs.Openings.{kind_of, within_limits, refers_to, last_line, sold, stands, missing_no, command_size}
 use Rattle.desk_rules.specs.Course.{no_move, running_pairs, pair_is, heard_waiting, completed_by, aborted_by, reported_by, moved_by, after_body, heard_running, heard_by, after_header, heard, lost_by, answered, opened_by, Call, opening, message, lost, lane_of, needs_line, moves, writes}
 use Rattle.desk_rules.specs.Desk.{State, lane_at, lines_taken, load, Decision, refuse, accept, unless_refused, decide}
-use Rattle.desk_rules.specs.declared.Reference.TheVariants.{Sold}
 use Rattle.desk_rules.specs.believed.LastSale.{Named}
 use Rattle.desk_rules.specs.believed.Due.{Reads}
 use Rattle.desk_rules.specs.believed.Table.{Given, GivesNumber, GivesAt, Refuses, phase_at, open_in, open_payments, Within, Stands, needs, opening_rows, while_running, Allowed, hearing_rows, losing_rows, Row}
@@ -154,7 +152,7 @@ module _ (s : State) (i : ℕ) (o : Opening) (room : ℕ) where
   unfolding decide moves writes needs_line lane_of opened_by few unless_refused
   decide-opening = rw command-size (simp (pick_under (λ m. unless_refused m few)))
 
-named-test : (i receipt : ℕ) (ls : List Line) → (sold (last_line i (Sold receipt) ls) ≡ true) ↔ ((line : Line) × Named i receipt ls line)
+named-test : (i receipt : ℕ) (ls : List Line) → (sold (last_line i (Some receipt) ls) ≡ true) ↔ ((line : Line) × Named i receipt ls line)
 named-test i receipt ls = (λ e. (_, named-there i receipt ls e), λ k. let n = named-is i receipt ls k.0 k.1 in rw n.0 n.1)
 
 stands-agrees : (i : ℕ) (ls : List Line) (o : Opening) (rows : List (Refusal → Type 0)) (x : Decision) → Agrees x rows
@@ -215,17 +213,17 @@ waiting-says l h x = simp (pick_under (λ m. unless_refused m x)) (go (eqb h.siz
     go false b c = refl
 
 -- a move that is not refused
-Goes : Moved → Type 0
+Goes : Result Moved Refusal → Type 0
 Goes m = (x : Decision) → unless_refused m x ≡ x
 
-completed-goes : (l : Lane) (code : ToldCode) → Goes (completed_by l code)
+completed-goes : (l : Lane) (code : Option ℕ) → Goes (completed_by l code)
 unfolding Goes unless_refused
 completed-goes l code = completed-cases Goes l (λ c x. refl) (λ a e x. refl) code
 
-reported-goes : (l : Lane) (status : Status) (code : ToldCode) → Goes (reported_by l status code)
+reported-goes : (l : Lane) (status : Status) (code : Option ℕ) → Goes (reported_by l status code)
 unfolding Goes unless_refused reported_by
-reported-goes l status Missing x = refl
-reported-goes l status (Code c) x = refl
+reported-goes l status None x = refl
+reported-goes l status (Some c) x = refl
 
 -- a body of 06 1E is plain bytes
 plain-body : (at : ℕ) (w : List ℕ) (c i : ℕ) (b : Body) → body_of at w (layout_of c i) ≡ got b → c ≡ 0x06 → i ≡ 0x1E → bytes w ≡ b
@@ -285,7 +283,7 @@ moved-says : (b : List ℕ) (l : Lane) (m : Message) (x : Decision) → read_of 
     → unless_refused (moved_by l m.class m.instruction (header_size m.long) (told_in m)) x ≡ pick (empty_abort m) (refuse (fault_at 1 (length b))) x
 unfolding unless_refused moved_by Goes told_in
 moved-says b l m x e =
-    let P : Moved → Type 0 = λ y. unless_refused y x ≡ pick (empty_abort m) (refuse (fault_at 1 (length b))) x in
+    let P : Result Moved Refusal → Type 0 = λ y. unless_refused y x ≡ pick (empty_abort m) (refuse (fault_at 1 (length b))) x in
     let class = m.class in
     let instruction = m.instruction in
     pick-test P (pair_is class instruction 0x06 0x0F)
@@ -327,7 +325,7 @@ module _ (p : Phase) (l : Lane) (b : List ℕ) (room : ℕ) where
   further Running = unless_refused (after_body l (read_of b)) (replied Running room)
 
   -- what is made of a header, by the phase
-  hears : Phase → Heading → Moved
+  hears : Phase → Heading → Result Moved Refusal
   hears Idle h = no_move 14
   hears Waiting h = heard_waiting l h
   hears Running h = heard_running l b h

@@ -7,6 +7,7 @@ use native.Mathlib.Numerals.{add-one}
 use native.Mathlib.Omega.{arith}
 use lib.ListN.{length, get_or, take, drop}
 use lib.Seq.{take-suc, drop-cons}
+use Rattle.std.proofs.Common.{Option}
 use Rattle.basics.specs.Choice.{pick}
 use Rattle.basics.proofs.Tests.{pick-test}
 use Rattle.desk_rules.specs.declared.Kind.{Kind}
@@ -14,7 +15,6 @@ use Rattle.desk_rules.specs.declared.Kind.TheVariants.{Sale, Refund, Reversal}
 use Rattle.desk_rules.specs.declared.Lane.{Lane}
 use Rattle.desk_rules.specs.declared.Line.{Line}
 use Rattle.desk_rules.specs.declared.Desk.{Desk}
-use Rattle.desk_rules.specs.declared.Reference.{Reference}
 use Rattle.desk_rules.specs.Numbers.{most_asked}
 use Rattle.desk_rules.specs.Kinds.{is_approved, is_idle}
 use Rattle.desk_rules.specs.Lanes.{blank_line, idle_lane, line_taken}
@@ -58,13 +58,13 @@ idle-from ls i h = rw (add-one, drop-cons ls i idle_lane h)
 
 -- ---- the last line of a lane with a receipt
 
-last-last : (i : ℕ) (r : Reference) (first : Line) (ls : List Line) (l : Line)
+last-last : (i : ℕ) (r : Option ℕ) (first : Line) (ls : List Line) (l : Line)
     → last_from i r first (ls ++ (l ∷ [])) ≡ pick (concerns i r l) l (last_from i r first ls)
 unfolding last_from
 last-last i r first [] l = refl
 last-last i r first (x ∷ ls) l = last-last i r (pick (concerns i r x) x first) ls l
 
-pub last-take : (i : ℕ) (r : Reference) (ls : List Line) (k : ℕ) → k < length ls → let l = get_or ls k blank_line in
+pub last-take : (i : ℕ) (r : Option ℕ) (ls : List Line) (k : ℕ) → k < length ls → let l = get_or ls k blank_line in
     last_line i r (take (k + 1) ls) ≡ pick (concerns i r l) l (last_line i r (take k ls))
 unfolding last_line
 last-take i r ls k h = rw (add-one, take-suc ls k blank_line h) (last-last i r blank_line (take k ls) (get_or ls k blank_line))

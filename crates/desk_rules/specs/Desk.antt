@@ -1,5 +1,5 @@
 -- The lanes and the book together: when a call is accepted, and what it leaves. Definitions only.
-use Rattle.std.specs.Prelude.{◌≡◌, ℕ, ◌+◌, Bool, true, false, ◌&&◌, List, [], ◌∷◌, ◌++◌, length, get_or, set, replicate, ltb, leb}
+use Rattle.std.specs.Prelude.{◌≡◌, ℕ, ◌+◌, Bool, true, false, ◌&&◌, List, [], ◌∷◌, ◌++◌, length, get_or, set, replicate, ltb, leb, Err, Ok, Result}
 use Rattle.zvt_rules.specs.declared.Refusal.{Refusal}
 use Rattle.basics.specs.Choice.{pick}
 use Rattle.zvt_rules.specs.Reading.{unplaced}
@@ -7,7 +7,7 @@ use Rattle.zvt_rules.specs.Refusals.{no_such_lane, book_full, no_room}
 use Rattle.desk_rules.specs.declared.Lane.{Lane}
 use Rattle.desk_rules.specs.declared.Line.{Line}
 use Rattle.desk_rules.specs.declared.Moved.{Moved}
-use Rattle.desk_rules.specs.declared.Moved.TheVariants.{Refused, Stays, Becomes, Ends}
+use Rattle.desk_rules.specs.declared.Moved.TheVariants.{Stays, Becomes, Ends}
 use Rattle.desk_rules.specs.Numbers.{lane_count, book_lines}
 use Rattle.desk_rules.specs.Kinds.{booked, is_idle}
 use Rattle.desk_rules.specs.Lanes.{idle_lane, line_at, line_taken}
@@ -43,11 +43,11 @@ pub data Decision : Type 0 where
   refuse : Refusal → Decision
   accept : Decision
 
-unfoldable pub unless_refused : Moved → Decision → Decision
-unless_refused (Refused r) other = refuse r
-unless_refused Stays other = other
-unless_refused (Becomes l) other = other
-unless_refused (Ends outcome settled code) other = other
+unfoldable pub unless_refused : Result Moved Refusal → Decision → Decision
+unless_refused (Err r) other = refuse r
+unless_refused (Ok Stays) other = other
+unless_refused (Ok (Becomes l)) other = other
+unless_refused (Ok (Ends outcome settled code)) other = other
 
 -- R30: "Of the numbers in the order of a call, one is given exactly where its row holds and none before it there does."
 -- R34: "12, 13, 16, 17, 18, 11." R35: "12, 14, header, 15, body, 11." R36: "12, 14."
@@ -59,22 +59,22 @@ decide s c room =
     (pick (needs_line c && leb book_lines (load s)) (refuse (unplaced book_full)) (pick (ltb room (length (writes l c))) (refuse (unplaced no_room)) accept)))
 
 -- P29: "the lane is idle then and remembers nothing"
-unfoldable pub lane_after : Lane → Moved → Lane
-lane_after l (Refused r) = l
-lane_after l Stays = l
-lane_after l (Becomes m) = m
-lane_after l (Ends outcome settled code) = idle_lane
+unfoldable pub lane_after : Lane → Result Moved Refusal → Lane
+lane_after l (Err r) = l
+lane_after l (Ok Stays) = l
+lane_after l (Ok (Becomes m)) = m
+lane_after l (Ok (Ends outcome settled code)) = idle_lane
 
 -- P29: "Every end puts one line into the book", of a kind that is booked
 abbrev pub line_if : Bool → Line → List Line
 line_if true l = l ∷ []
 line_if false l = []
 
-unfoldable pub lines_from : ℕ → Lane → Moved → List Line
-lines_from i l (Refused r) = []
-lines_from i l Stays = []
-lines_from i l (Becomes m) = []
-lines_from i l (Ends outcome settled code) = line_if (booked l.kind) (line_at i l outcome settled code)
+unfoldable pub lines_from : ℕ → Lane → Result Moved Refusal → List Line
+lines_from i l (Err r) = []
+lines_from i l (Ok Stays) = []
+lines_from i l (Ok (Becomes m)) = []
+lines_from i l (Ok (Ends outcome settled code)) = line_if (booked l.kind) (line_at i l outcome settled code)
 
 -- what an accepted call leaves
 unfoldable pub step : State → Call → State

@@ -1,10 +1,6 @@
 -- The states of a lane, and the line at a payment's end. Definitions only.
-use Rattle.std.specs.Prelude.{ℕ}
+use Rattle.std.specs.Prelude.{ℕ, None, Option, Some}
 use Rattle.zvt_rules.specs.declared.Status.{Status}
-use Rattle.zvt_rules.specs.declared.ToldCode.TheVariants.{Missing as no_code}
-use Rattle.zvt_rules.specs.declared.ToldAmount.TheVariants.{Missing as no-amount}
-use Rattle.zvt_rules.specs.declared.ToldReceipt.{ToldReceipt}
-use Rattle.zvt_rules.specs.declared.ToldReceipt.TheVariants.{Missing as no-receipt, Receipt}
 use Rattle.desk_rules.specs.declared.Kind.{Kind}
 use Rattle.desk_rules.specs.declared.Kind.TheVariants.{Sale, Refund, Reversal}
 use Rattle.desk_rules.specs.declared.Outcome.{Outcome}
@@ -17,7 +13,7 @@ use Rattle.desk_rules.specs.Kinds.{booked, is_idle}
 
 -- nothing remembered
 abbrev pub blank_status : Status
-blank_status = record { code = no_code; amount = no-amount; receipt = no-receipt }
+blank_status = record { code = None; amount = None; receipt = None }
 
 abbrev pub blank_line : Line
 blank_line = record { lane = 0; kind = Sale; asked = 0; settled = 0; receipt = 0; outcome = Unclear; code = 0 }
@@ -42,12 +38,12 @@ unfoldable pub line_taken : Lane → ℕ
 line_taken l = pick (is_idle l.phase) 0 (pick (booked l.kind) 1 0)
 
 -- P32: "field 87 of the remembered status. 0 stands for none, and a told 0000 is none."
-abbrev pub told_receipt : ToldReceipt → ℕ
-told_receipt no-receipt = 0
-told_receipt (Receipt r) = r
+abbrev pub told_receipt : Option ℕ → ℕ
+told_receipt None = 0
+told_receipt (Some r) = r
 
 -- P32: "its receipt is the one that a reversal named or, for another kind, field 87"
-unfoldable pub receipt_by : Kind → ℕ → ToldReceipt → ℕ
+unfoldable pub receipt_by : Kind → ℕ → Option ℕ → ℕ
 receipt_by Sale named told = told_receipt told
 receipt_by Refund named told = told_receipt told
 receipt_by Reversal named told = named

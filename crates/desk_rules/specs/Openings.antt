@@ -1,6 +1,6 @@
 -- The kinds of opening, a row for each in every table: what it opens, its limits, the line that it refers to, the amount that it asks
 -- for, the receipt that it names, its command, and the opening that a command is. Definitions only.
-use Rattle.std.specs.Prelude.{ℕ, zero, suc, ◌+◌, Bool, true, false, ◌&&◌, List, [], ◌∷◌, get_or, eqb}
+use Rattle.std.specs.Prelude.{ℕ, zero, suc, ◌+◌, Bool, true, false, ◌&&◌, List, [], ◌∷◌, get_or, eqb, None, Option, Some}
 use Rattle.basics.specs.Choice.{pick}
 use Rattle.zvt_rules.specs.Fields.{Field, plain}
 use Rattle.zvt_rules.specs.Message.{Message, listed}
@@ -13,10 +13,6 @@ use Rattle.desk_rules.specs.declared.Line.{Line}
 use Rattle.desk_rules.specs.declared.Lane.{Lane}
 use Rattle.desk_rules.specs.declared.Opening.{Opening}
 use Rattle.desk_rules.specs.declared.Opening.TheVariants.{Sale as sale, Refund as refund, Reversal as reversal}
-use Rattle.desk_rules.specs.declared.OpeningAnswer.{OpeningAnswer}
-use Rattle.desk_rules.specs.declared.OpeningAnswer.TheVariants.{Nothing as no-opening, Opening as opened}
-use Rattle.desk_rules.specs.declared.Reference.{Reference}
-use Rattle.desk_rules.specs.declared.Reference.TheVariants.{Nothing, Sold}
 use Rattle.desk_rules.specs.Numbers.{amount_ok, receipt_ok, password_ok}
 use Rattle.desk_rules.specs.Kinds.{is_sale, is_approved}
 use Rattle.desk_rules.specs.Lanes.{blank_line, waiting_lane}
@@ -34,32 +30,32 @@ within_limits (refund password amount) = password_ok password && amount_ok amoun
 within_limits (reversal password receipt) = password_ok password && receipt_ok receipt
 
 -- ---- the line that it refers to
-abbrev pub refers_to : Opening → Reference
-refers_to (sale amount) = Nothing
-refers_to (refund password amount) = Nothing
-refers_to (reversal password receipt) = Sold receipt
+abbrev pub refers_to : Opening → Option ℕ
+refers_to (sale amount) = None
+refers_to (refund password amount) = None
+refers_to (reversal password receipt) = Some receipt
 
 -- P12: "of the approved sale and reversal lines of its lane with that receipt": the kinds that are looked at, and the receipt
-abbrev pub looks_at : Reference → Kind → Bool
-looks_at Nothing kind = false
-looks_at (Sold receipt) Sale = true
-looks_at (Sold receipt) Refund = false
-looks_at (Sold receipt) Reversal = true
+abbrev pub looks_at : Option ℕ → Kind → Bool
+looks_at None kind = false
+looks_at (Some receipt) Sale = true
+looks_at (Some receipt) Refund = false
+looks_at (Some receipt) Reversal = true
 
-abbrev pub receipt_named : Reference → ℕ
-receipt_named Nothing = 0
-receipt_named (Sold receipt) = receipt
+abbrev pub receipt_named : Option ℕ → ℕ
+receipt_named None = 0
+receipt_named (Some receipt) = receipt
 
-unfoldable pub concerns : ℕ → Reference → Line → Bool
+unfoldable pub concerns : ℕ → Option ℕ → Line → Bool
 concerns i r l =
     eqb l.lane i && (eqb l.receipt (receipt_named r) && (is_approved l.outcome && looks_at r l.kind))
 
-unfoldable pub last_from : ℕ → Reference → Line → List Line → Line
+unfoldable pub last_from : ℕ → Option ℕ → Line → List Line → Line
 last_from i r last [] = last
 last_from i r last (l ∷ ls) = last_from i r (pick (concerns i r l) l last) ls
 
 -- P12: "the last" of them, or a blank one where there is none
-unfoldable pub last_line : ℕ → Reference → List Line → Line
+unfoldable pub last_line : ℕ → Option ℕ → List Line → Line
 last_line i r ls = last_from i r blank_line ls
 
 -- P12: "must be a sale"
@@ -67,14 +63,14 @@ abbrev pub sold : Line → Bool
 sold l = is_approved l.outcome && is_sale l.kind
 
 -- ---- whether that line is there; who refers to nothing needs none
-abbrev pub stands : Reference → Line → Bool
-stands Nothing line = true
-stands (Sold receipt) line = sold line
+abbrev pub stands : Option ℕ → Line → Bool
+stands None line = true
+stands (Some receipt) line = sold line
 
 -- ---- and the number of refusal where it is not. R17: "there is no sale to reverse (P12)". For nothing there is none
-abbrev pub missing_no : Reference → ℕ
-missing_no Nothing = 0
-missing_no (Sold receipt) = no_sale
+abbrev pub missing_no : Option ℕ → ℕ
+missing_no None = 0
+missing_no (Some receipt) = no_sale
 
 -- ---- the amount that it asks for. P13: "A reversal asks for the settled amount of that sale"
 abbrev pub asked_by : Opening → Line → ℕ
@@ -146,5 +142,5 @@ same (b ∷ s) [] = false
 same (b ∷ s) (c ∷ t) = eqb b c && same s t
 
 -- T26: "a command with numbers within their limits (P4, P5) and password 0": just its bytes
-unfoldable pub opening_in : List ℕ → OpeningAnswer
-opening_in s = let o = supposed s in pick (within_limits o && same s (command_bytes o)) (opened o) no-opening
+unfoldable pub opening_in : List ℕ → Option Opening
+opening_in s = let o = supposed s in pick (within_limits o && same s (command_bytes o)) (Some o) None

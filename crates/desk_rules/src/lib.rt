@@ -8,9 +8,9 @@ ghost use Rattle.desk_rules.specs.Lanes.{blank_status, blank_line, idle_lane, wa
 ghost use Rattle.desk_rules.specs.Memory.{empty_book, fresh_desk, Valid};
 ghost use Rattle.desk_rules.specs.Numbers.{amount_ok, receipt_ok, password_ok};
 
-use zvt_rules::{Refusal, Status, ToldAmount, ToldCode, ToldReceipt};
+use zvt_rules::{Refusal, Status};
 
-#[derive(Clone, Copy)]
+#[derive(Clone, Copy, PartialEq, Eq)]
 pub enum Kind {
     Sale,
     Refund,
@@ -19,14 +19,14 @@ pub enum Kind {
 
 // Unclear comes first: an element past the end of a list is read as the first variant with zeros, and so is a blank line. The same
 // holds of a phase and an idle lane.
-#[derive(Clone, Copy)]
+#[derive(Clone, Copy, PartialEq, Eq)]
 pub enum Outcome {
     Unclear,
     Declined,
     Approved,
 }
 
-#[derive(Clone, Copy)]
+#[derive(Clone, Copy, PartialEq, Eq)]
 pub enum Phase {
     Idle,
     Waiting,
@@ -39,20 +39,6 @@ pub enum Opening {
     Sale { amount: u64 },
     Refund { password: u32, amount: u64 },
     Reversal { password: u32, receipt: u16 },
-}
-
-// The opening that the bytes of a command are, with password 0, or none.
-#[derive(Clone, Copy)]
-pub enum OpeningAnswer {
-    Nothing,
-    Opening(Opening),
-}
-
-// The line that an opening refers to: none, or the sale with that receipt.
-#[derive(Clone, Copy)]
-pub enum Reference {
-    Nothing,
-    Sold(u16),
 }
 
 // A lane: its phase, what was asked, the receipt that a reversal names (else 0), and the remembered status.
@@ -77,51 +63,33 @@ pub struct Line {
     pub code: u8,
 }
 
-// What a call does to its lane: nothing, refused or not; another state; or the payment's end, with outcome, settled amount, code.
+// What an accepted call does to its lane: nothing; another state; or the payment's end, with outcome, settled amount, code.
 #[derive(Clone, Copy)]
 pub enum Moved {
-    Refused(Refusal),
     Stays,
     Becomes(Lane),
     Ends(Outcome, u64, u8),
 }
 
-// The day book: its lines so far are the first count.
+// The day book: its lines so far are the first count. No list that grows: a desk is copied, and asks for no memory.
 #[derive(Clone, Copy)]
 pub struct Book {
     pub lines: [Line; Book::LINES],
     pub count: usize,
 }
 
+// Which desks are Valid the contracts say, and not this type: definitions build desks of any lanes and book (`moved_desk`).
 #[derive(Clone, Copy)]
 pub struct Desk {
     pub lanes: [Lane; Lane::COUNT as usize],
     pub book: Book,
 }
 
-// How many bytes were written, or the refusal.
-#[derive(Clone, Copy)]
-pub enum Reply {
-    Written(usize),
-    Refused(Refusal),
-}
-
+// What a call answers, and the desk as it then is: how many bytes were written, or the refusal.
 #[derive(Clone, Copy)]
 pub struct Answer {
-    pub reply: Reply,
+    pub reply: Result<usize, Refusal>,
     pub desk: Desk,
-}
-
-#[derive(Clone, Copy)]
-pub enum LineAnswer {
-    End,
-    Line(Line),
-}
-
-#[derive(Clone, Copy)]
-pub enum LaneAnswer {
-    Refused(Refusal),
-    Lane(Lane),
 }
 
 impl Opening {
@@ -164,47 +132,28 @@ impl Lane {
     pub fn running(self) -> Self
         ensures { result ≡ running_lane self }
     {
-        let kind = self.kind;
-        let status = self.status;
         Lane {
             phase: Phase::Running,
-            kind,
-            asked: self.asked,
-            named: self.named,
-            status,
+            ..self
         }
     }
 
     pub fn reported(self, status: Status) -> Self
         ensures { result ≡ reported_lane self status }
     {
-        let phase = self.phase;
-        let kind = self.kind;
-        Lane {
-            phase,
-            kind,
-            asked: self.asked,
-            named: self.named,
-            status,
-        }
+        Lane { status, ..self }
     }
 
     pub fn amount_ok(amount: u64) -> bool
         ensures { result ≡ amount_ok amount }
     {
-        if amount < 1 {
-            return false;
-        }
-        amount <= Lane::MOST_ASKED
+        (1..=Lane::MOST_ASKED).contains(&amount)
     }
 
     pub fn receipt_ok(receipt: u16) -> bool
         ensures { result ≡ receipt_ok receipt }
     {
-        if receipt < 1 {
-            return false;
-        }
-        receipt <= Lane::MOST_RECEIPT
+        (1..=Lane::MOST_RECEIPT).contains(&receipt)
     }
 
     pub fn password_ok(password: u32) -> bool
@@ -235,9 +184,9 @@ pub fn nothing_told() -> Status
     ensures { result ≡ blank_status }
 {
     Status {
-        code: ToldCode::Missing,
-        amount: ToldAmount::Missing,
-        receipt: ToldReceipt::Missing,
+        code: None,
+        amount: None,
+        receipt: None,
     }
 }
 

@@ -43,9 +43,6 @@ message-ids (refused f) = refl
 
 -- ---- the ids at the front of a buffer, n of them
 module _ (s rest : List ℕ) {n : ℕ} {out : List ℕ} (size : n ≡ length (first_ids s)) (all : out ≡ first_ids s ++ rest) where
-  pub ids-fit : n ≤ length out
-  ids-fit = omega (arith, size, ap length all, length-append (first_ids s) rest)
-
   pub ids-told : each_text (take n out) ≡ ids_of (first_of s)
   unfolding first_ids
   ids-told = rw (size, all, take-append_seam (first_ids s) rest) (message-ids (first_of s))

@@ -1,5 +1,5 @@
 -- The next line of a listing, case by case, and the lines from there on. Assumes nothing.
-use mathlib.Core.Path.{◌≡◌, refl, ◌∙◌, ap}
+use mathlib.Core.Path.{◌≡◌, refl, ◌∙◌, ap, sym, subst}
 use mathlib.Core.List.{List, [], ◌∷◌, ◌++◌}
 use Prim.Native.Nat.{ℕ, ◌+◌, ◌-◌, ◌*◌, ◌≤◌, ◌<◌}
 use native.Mathlib.Omega.{arith}
@@ -7,6 +7,8 @@ use borrow.Author.Tests.{lt-ltb, le-ltb, eq-eqb, ne_eqb, ltb-false, eqb-true, eq
 use lib.ListN.{length, take, drop, length-drop}
 use lib.Seq.{drop-drop}
 use lib.Dec.{ltb, eqb}
+use Rattle.std.specs.Prelude.{None, Option, Some}
+use Rattle.std.proofs.Common.{Err, Ok}
 use Rattle.zvt_rules.specs.Reading.{Reading, got, refused}
 use Rattle.io.specs.Counts.{IsPrefixLen}
 use Rattle.basics.specs.Buffers.{Whole}
@@ -22,16 +24,15 @@ use Rattle.zvt_rules.proofs.AnswerLaws.{first-refused-exactly}
 use Rattle.zvt_rules.proofs.Listing.{lines_none, lines-refused, lines-message, listing-long}
 use Rattle.zvt_rules.specs.declared.Refusal.{Refusal}
 use Rattle.zvt_rules.specs.declared.Outline.{Outline}
-use Rattle.zvt_rules.specs.declared.FirstAnswer.TheVariants.{Accepted as first-accepted, Refused as first-refused}
 use Rattle.zvt_rules.specs.Answers.{outline_of, as_first_answer, first_answer}
 use Rattle.buffers.proofs.TextLaws.{add_all-append, stands}
-use Rattle.listing.specs.Lines.{read_text, NextLine, message, last, next_by, next_of, lines_of}
+use Rattle.listing.specs.Lines.{read_text, next_by, next_of, lines_of}
 
-pub next-over : (count : ℕ) (s : List ℕ) → 65536 < length s → next_of count s ≡ last (refused_text count 2)
+pub next-over : (count : ℕ) (s : List ℕ) → 65536 < length s → next_of count s ≡ (refused_text count 2, None)
 unfolding next_of
 next-over count s h = rw (lt-ltb 65536 (length s) h)
 
-pub next-none : (count : ℕ) (s : List ℕ) → length s ≡ 0 → next_of count s ≡ last (ok_text count)
+pub next-none : (count : ℕ) (s : List ℕ) → length s ≡ 0 → next_of count s ≡ (ok_text count, None)
 unfolding next_of
 next-none count s h = let k : length s ≤ 65536 = omega arith in rw (le-ltb 65536 (length s) k, eq-eqb (length s) 0 h)
 
@@ -40,26 +41,25 @@ module _ (count : ℕ) (s : List ℕ) (most : length s ≤ 65536) (some : length
   unfolding next_of
   next-some = rw (le-ltb 65536 (length s) most, ne_eqb (length s) 0 some)
 
-  pub next-refused : (f : Refusal) → first_answer s ≡ first-refused f → next_of count s ≡ last (refused_text count f.number)
+  pub next-refused : (f : Refusal) → first_answer s ≡ Err f → next_of count s ≡ (refused_text count f.number, None)
   unfolding next_by
   next-refused f e = next-some ∙ rw ((first-refused-exactly s f).0 e)
 
 -- the text of a message by what the reader answers
 told : (count : ℕ) (t : Message) (m : Outline) (x : Reading Message) (next : ℕ) → outline_of t ≡ m
     → length (message_bytes t) ≡ next → x ≡ got t
-    → next_by count (got t) ≡ message (read_text (count + 1) m (ids_of x)) next
+    → next_by count (got t) ≡ (read_text (count + 1) m (ids_of x), Some next)
 unfolding next_by message_text read_text outline_of ids_of
 told count t m x next same size e = rw (e, ← size, ← same)
 
 -- the message that the reader answers
-module _ (s : List ℕ) (b : Bytes s) (m : Outline) (next : ℕ) (e : first_answer s ≡ first-accepted m next) where
-  whole : (x : Reading Message) → first_of s ≡ x → as_first_answer x ≡ first-accepted m next
+module _ (s : List ℕ) (b : Bytes s) (m : Outline) (next : ℕ) (e : first_answer s ≡ Ok (m, next)) where
+  whole : (x : Reading Message) → first_of s ≡ x → as_first_answer x ≡ Ok (m, next)
       → (t : Message) × (first_of s ≡ got t) × (outline_of t ≡ m) × (length (message_bytes t) ≡ next)
   unfolding as_first_answer
   whole (got t) k h =
-      let same : outline_of t ≡ m = cc in
-      let size : length (message_bytes t) ≡ next = cc in
-      (t, k, same, size)
+      let both : (outline_of t, length (message_bytes t)) ≡ (m, next) = cc in
+      (t, k, ap (λ (x : Outline × ℕ). x.0) both, ap (λ (x : Outline × ℕ). x.1) both)
   whole (refused r) k h = never cc
 
   pub next-within : next ≤ length s
@@ -71,7 +71,7 @@ module _ (s : List ℕ) (b : Bytes s) (m : Outline) (next : ℕ) (e : first_answ
   next-some-bytes = let w = whole (first_of s) refl e in omega (arith, w.3)
 
   pub next-message : (count : ℕ) → length s ≤ 65536 → (length s ≡ 0 → ⊥)
-      → next_of count s ≡ message (read_text (count + 1) m (ids_of (first_of s))) next
+      → next_of count s ≡ (read_text (count + 1) m (ids_of (first_of s)), Some next)
   unfolding first_answer
   next-message count most some =
       let w = whole (first_of s) refl e in
@@ -79,13 +79,13 @@ module _ (s : List ℕ) (b : Bytes s) (m : Outline) (next : ℕ) (e : first_answ
 
 -- ---- the lines from there on
 -- a line with its end, and behind a message's the rest: what follows so many bytes
-unfoldable and_rest : (ℕ → List ℕ) → NextLine → List ℕ
-and_rest rest (message w next) = w ++ (10 ∷ rest next)
-and_rest rest (last w) = w ++ (10 ∷ [])
+unfoldable and_rest : (ℕ → List ℕ) → List ℕ → Option ℕ → List ℕ
+and_rest rest w (Some next) = w ++ (10 ∷ rest next)
+and_rest rest w None = w ++ (10 ∷ [])
 
 module _ (count : ℕ) (s : List ℕ) where
-  abbrev Next : NextLine → Type 0
-  Next n = lines_of count s ≡ and_rest (λ next. lines_of (count + 1) (drop next s)) n
+  abbrev Next : List ℕ × Option ℕ → Type 0
+  Next n = lines_of count s ≡ and_rest (λ next. lines_of (count + 1) (drop next s)) n.0 n.1
 
   lines-some : length s ≤ 65536 → (length s ≡ 0 → ⊥) → (x : Reading Message) → first_of s ≡ x → Next (next_by count x)
   unfolding lines_of and_rest next_by
@@ -104,21 +104,27 @@ module _ (count : ℕ) (s : List ℕ) where
       (λ z. rw (t, z) (rw t at (lines-some most (eqb-false (length s) 0 z) (first_of s) refl))))
 
 -- what is left of s behind its first bytes
-module _ (s : List ℕ) (from count : ℕ) (w : List ℕ) (t : Text) where
+module _ (s : List ℕ) (from count : ℕ) (t : Text) where
   abbrev rest : List ℕ
   rest = take (length s - from) (drop from s)
 
-  pub rest-last : next_of count rest ≡ last w → add_all (lines_of count (drop from s)) t ≡ add_all (10 ∷ []) (add_all w t)
-  unfolding and_rest
-  rest-last e = rw (lines_next count (drop from s), rw (tail from s) at e) (add_all-append w (10 ∷ []) t)
+  abbrev line : List ℕ
+  line = (next_of count rest).0
 
-  pub rest-message : (next : ℕ) → next_of count rest ≡ message w next
-      → add_all (lines_of count (drop from s)) t ≡ add_all (lines_of (count + 1) (drop (from + next) s)) (add_all (10 ∷ []) (add_all w t))
+  lines-rest : lines_of count (drop from s) ≡ and_rest (λ next. lines_of (count + 1) (drop next (drop from s))) line (next_of count rest).1
+  lines-rest = subst (λ (x : List ℕ). Next count (drop from s) (next_of count x)) (sym (tail from s)) (lines_next count (drop from s))
+
+  pub rest-last : (next_of count rest).1 ≡ None → add_all (lines_of count (drop from s)) t ≡ add_all (10 ∷ []) (add_all line t)
+  unfolding and_rest
+  rest-last e = rw (lines-rest, e) (add_all-append line (10 ∷ []) t)
+
+  pub rest-message : (next : ℕ) → (next_of count rest).1 ≡ Some next
+      → add_all (lines_of count (drop from s)) t ≡ add_all (lines_of (count + 1) (drop (from + next) s)) (add_all (10 ∷ []) (add_all line t))
   unfolding and_rest
   rest-message next e =
       let more = lines_of (count + 1) (drop next (drop from s)) in
-      rw (lines_next count (drop from s), rw (tail from s) at e, ← (drop-drop next from s))
-      (add_all-append w (10 ∷ more) t ∙ add_all-append (10 ∷ []) more (add_all w t))
+      rw (lines-rest, e, ← (drop-drop next from s))
+      (add_all-append line (10 ∷ more) t ∙ add_all-append (10 ∷ []) more (add_all line t))
 
 -- ---- the whole text
 -- what `list` leaves: where there is room for the longest listing, nothing is cut off; it never goes beyond the buffer

@@ -8,10 +8,10 @@ ghost use Rattle.zvt_rules.specs.Message.{first_of};
 ghost use Rattle.basics.specs.Buffers.{Whole};
 ghost use Rattle.basics.specs.Text.{text, add_all};
 ghost use Rattle.zvt_rules.specs.Listing.{start_text, size_text, end_text, ok_text, refused_text, ids_of, listing};
-ghost use Rattle.listing.specs.Lines.{each_text, read_text, next_of, Added};
+ghost use Rattle.listing.specs.Lines.{each_text, read_text, next_of, Within};
 
 use buffers::{add, add_all, add_decimal, add_hex};
-use zvt_rules::{FirstAnswer, Outline, Refusal};
+use zvt_rules::{Outline, Refusal};
 
 // An input of more bytes is refused before its first message.
 pub const LIMIT: usize = 65536;
@@ -19,23 +19,14 @@ pub const LIMIT: usize = 65536;
 // No listing is longer, by the law listing-long. The shortest message has the most text for its bytes: three, and a line of at most 19.
 pub const TEXT: usize = LIMIT * 7;
 
-// Where the text of a line ends, and, where it is a message's, where the next message begins.
-#[derive(Clone, Copy)]
-enum LineWritten {
-    Message(usize, usize),
-    Last(usize),
-}
-
 // Ids, a blank before each.
 fn add_each(ids: &[u8], at: usize, out: &mut [u8]) -> usize
     ensures { text result out.new ≡ add_all (each_text ids.now) (text at out.old) }
 {
     let mut to = at;
-    let mut k: usize = 0;
-    while k < ids.len() {
+    for id in ids {
         to = add(b' ', to, out);
-        to = add_hex(ids[k], to, out);
-        k += 1;
+        to = add_hex(*id, to, out);
     }
     to
 }
@@ -46,8 +37,7 @@ pub fn add_ids(s: &[u8], at: usize, out: &mut [u8]) -> usize
 {
     let mut ids = [0u8; 256];
     let first = zvt::read_first(s, &mut ids);
-    let fields = first.count;
-    add_each(&ids[..fields], at, out)
+    add_each(&ids[..first.count], at, out)
 }
 
 // Number and pair.
@@ -104,27 +94,28 @@ fn refused_line(count: u64, number: u8, at: usize, out: &mut [u8]) -> usize
     add_decimal(number as u64, to, out)
 }
 
-// The line of the message that the rest of an input begins with, after count messages; or the last line.
-fn next_line(rest: &[u8], count: u32, at: usize, out: &mut [u8]) -> LineWritten
-    ensures { Added (next_of count rest.now) rest.now at out.old result out.new }
+// The line of the message that the rest of an input begins with, after count messages, or the last line: where its text ends, and, where
+// it is a message's, where the next message begins.
+fn next_line(rest: &[u8], count: u32, at: usize, out: &mut [u8]) -> (usize, Option<usize>)
+    ensures line { text result.0 out.new ≡ add_all (next_of count rest.now).0 (text at out.old) }
+    ensures next { result.1 ≡ (next_of count rest.now).1 }
+    ensures within { Within rest.now result.1 }
 {
     let listed = count as u64;
     if LIMIT < rest.len() {
-        return LineWritten::Last(refused_line(listed, Refusal::TOO_LONG, at, out));
+        return (refused_line(listed, Refusal::TOO_LONG, at, out), None);
     }
     if rest.len() == 0 {
-        return LineWritten::Last(ok_line(listed, at, out));
+        return (ok_line(listed, at, out), None);
     }
     let mut ids = [0u8; 256];
     let first = zvt::read_first(rest, &mut ids);
-    let fields = first.count;
-    let answer = first.answer;
-    match answer {
-        FirstAnswer::Refused(f) => LineWritten::Last(refused_line(listed, f.number, at, out)),
-        FirstAnswer::Accepted(m, next) => LineWritten::Message(
-            message_line(&ids[..fields], listed + 1, m, at, out),
-            next,
-        ),
+    match first.answer {
+        Err(f) => (refused_line(listed, f.number, at, out), None),
+        Ok((m, next)) => {
+            let end = message_line(&ids[..first.count], listed + 1, m, at, out);
+            (end, Some(next))
+        }
     }
 }
 
@@ -137,14 +128,12 @@ pub fn list(s: &[u8], out: &mut [u8]) -> usize
     let mut to: usize = 0;
     let mut from: usize = 0;
     let mut count: u32 = 0;
+    // Each message has its own size: no iterator steps so.
     loop {
-        match next_line(&s[from..], count, to, out) {
-            LineWritten::Last(end) => return add(b'\n', end, out),
-            LineWritten::Message(end, next) => {
-                to = add(b'\n', end, out);
-                from += next;
-                count += 1;
-            }
-        }
+        let (end, next) = next_line(&s[from..], count, to, out);
+        to = add(b'\n', end, out);
+        let Some(size) = next else { return to };
+        from += size;
+        count += 1;
     }
 }

@@ -1,12 +1,12 @@
 -- How long the text of an answer is at most, by the widths of its numbers. Assumes nothing.
 use mathlib.Core.List.{List, [], ◌∷◌, ◌++◌}
-use Prim.Native.Nat.{ℕ, ◌+◌, ◌-◌, ◌*◌, ◌/◌, ◌^◌, ◌≤◌, ◌<◌}
+use Prim.Native.Nat.{ℕ, zero, suc, ◌+◌, ◌-◌, ◌*◌, ◌/◌, ◌^◌, ◌≤◌, ◌<◌}
 use native.Mathlib.Omega.{arith}
 use lib.ListN.{length, take, drop, length-append, length-take, length-drop}
+use Rattle.std.proofs.Common.{Err, None, Ok, Option, Some}
 use Rattle.basics.specs.Text.{hex_text, decimal_text}
 use Rattle.basics.proofs.Text.{decimal-long, bytes-long}
 use Rattle.zvt_rules.specs.declared.Refusal.{Refusal}
-use Rattle.zvt_rules.specs.declared.Place.TheVariants.{Nowhere, At}
 use Rattle.desk_rules.specs.declared.Kind.{Kind}
 use Rattle.desk_rules.specs.declared.Kind.TheVariants.{Sale, Refund, Reversal}
 use Rattle.desk_rules.specs.declared.Outcome.{Outcome}
@@ -15,25 +15,18 @@ use Rattle.desk_rules.specs.declared.Lane.{Lane}
 use Rattle.desk_rules.specs.declared.Phase.TheVariants.{Idle, Waiting, Running}
 use Rattle.desk_rules.specs.declared.Line.{Line}
 use Rattle.zvt_rules.specs.declared.Status.{Status}
-use Rattle.zvt_rules.specs.declared.ToldCode.{ToldCode}
-use Rattle.zvt_rules.specs.declared.ToldCode.TheVariants.{Missing as no_code, Code}
-use Rattle.tape_rules.specs.declared.Ending.TheVariants.{Whole, Refused}
 use Rattle.basics.specs.Lists.{part}
 use Rattle.basics.specs.believed.Lists.{Bytes}
 use Rattle.basics.specs.believed.Text.{ascii}
 use Rattle.zvt_rules.specs.Message.{first_of}
 use Rattle.zvt_rules.specs.Listing.{size_text, ids_of}
 use Rattle.zvt_rules.specs.declared.Header.{Header}
-use Rattle.zvt_rules.specs.declared.HeaderAnswer.TheVariants.{Header as header-got}
 use Rattle.zvt_rules.specs.declared.Outline.{Outline}
-use Rattle.zvt_rules.specs.declared.ReadAnswer.TheVariants.{Accepted}
-use Rattle.zvt_rules.specs.declared.FirstAnswer.TheVariants.{Accepted as first-accepted}
-use Rattle.zvt_rules.specs.declared.FieldAnswer.TheVariants.{Value}
 use Rattle.zvt_rules.specs.declared.Span.{Span}
 use Rattle.zvt_rules.proofs.Listing.{form-long, ids-long}
 use Rattle.printing.specs.Messages.{outline_text, header_by, read_by, first_by, field_by}
 use Rattle.printing.specs.Answers.{refused_at, not_understood, bytes_line, ok_text, counted_text}
-use Rattle.printing.specs.Desks.{kind_text, outcome_text, line_text, last_text, book_room, code_text, amount_text, receipt_text, status_text, remembered}
+use Rattle.printing.specs.Desks.{kind_text, outcome_text, line_text, last_text, book_room, code_text, number_or_none, status_text, remembered}
 use Rattle.printing.specs.Desks.{payment_text, phase_text, blocks_text, tape_text}
 
 -- ---- numbers of 64, 16 and 8 bits
@@ -47,10 +40,10 @@ pub byte-long : (n : ℕ) → n < 2 ^ 8 → length (decimal_text n) ≤ 3
 byte-long n h = decimal-long 2 n (omega arith)
 
 -- ---- answers
-pub refused-long : (n : ℕ) → n < 2 ^ 8 → length (refused_at n Nowhere) ≤ 64
+pub refused-long : (n : ℕ) → n < 2 ^ 8 → length (refused_at n None) ≤ 64
 refused-long n h = simp length-append (omega (arith, byte-long n h))
 
-pub refused-at-long : (n p : ℕ) → n < 2 ^ 8 → p < 2 ^ 64 → length (refused_at n (At p)) ≤ 64
+pub refused-at-long : (n p : ℕ) → n < 2 ^ 8 → p < 2 ^ 64 → length (refused_at n (Some p)) ≤ 64
 refused-at-long n p h k = simp length-append (omega (arith, byte-long n h, number-long p k))
 
 pub not-understood-long : (n : ℕ) → n < 2 ^ 64 → length (not_understood n) ≤ 64
@@ -101,20 +94,20 @@ module _ (lines : List ℕ) (n : ℕ) (h : length lines ≤ 64 * 76) (k : n < 2 
   pub book-long : length (lines ++ counted_text (ascii "end") n) ≤ book_room
   book-long = simp length-append (omega (arith, number-long n k))
 
-  pub whole_long : length (lines ++ last_text n Whole) ≤ book_room
+  pub whole_long : length (lines ++ last_text n (Ok tt)) ≤ book_room
   whole_long = simp length-append (omega (arith, number-long n k))
 
 pub stopped-long : (lines : List ℕ) (n : ℕ) (r : Refusal) → length lines ≤ 64 * 76 → n < 2 ^ 64 → r.number < 2 ^ 8
-    → length (lines ++ last_text n (Refused r)) ≤ book_room
+    → length (lines ++ last_text n (Err r)) ≤ book_room
 stopped-long lines n r h k f = simp length-append (omega (arith, number-long n k, byte-long r.number f))
 
 -- ---- the lanes
-code-long : (c : ToldCode) → length (code_text c) ≤ 2
+code-long : (c : Option ℕ) → length (code_text c) ≤ 2
 unfolding hex_text
-code-long no_code = omega arith
-code-long (Code b) = omega arith
+code-long None = omega arith
+code-long (Some b) = omega arith
 
-pub status-long : (s : Status) → length (amount_text s.amount) ≤ 20 → length (receipt_text s.receipt) ≤ 5 → length (status_text s) ≤ 30
+pub status-long : (s : Status) → length (number_or_none s.amount) ≤ 20 → length (number_or_none s.receipt) ≤ 5 → length (status_text s) ≤ 30
 unfolding status_text
 status-long s a b = simp length-append (omega (arith, code-long s.code))
 
@@ -136,39 +129,41 @@ module _ (i : ℕ) (l : Lane) (h : i < 8) where
       simp length-append (omega (arith, decimal-long 0 i (omega arith)))
 
 -- ---- a tape
-pub block-long : (s : List ℕ) → length (bytes_line (take 512 s)) ≤ 1026
+block-long : (s : List ℕ) → length (bytes_line (take 512 s)) ≤ 1026
 unfolding bytes_line
 block-long s = simp length-append (omega (arith, bytes-long (take 512 s), length-take 512 s))
 
-pub tape-long : (s : List ℕ) → length s < 2 ^ 64 → let n = length s / 512 in length (blocks_text n s) ≤ 1026 * n
-    → length (tape_text s) ≤ 64 + 3 * length s
+blocks-long : (n : ℕ) (s : List ℕ) → length (blocks_text n s) ≤ 1026 * n
+unfolding blocks_text
+blocks-long zero s = omega arith
+blocks-long (suc n) s =
+    omega (arith, length-append (bytes_line (take 512 s)) (blocks_text n (drop 512 s)), block-long s, blocks-long n (drop 512 s))
+
+pub tape-long : (s : List ℕ) → length s < 2 ^ 64 → length (tape_text s) ≤ 64 + 3 * length s
 unfolding tape_text
-tape-long s h k = simp length-append (omega (arith, number-long (length s / 512) (omega arith)))
+tape-long s h = simp length-append (omega (arith, blocks-long (length s / 512) s, number-long (length s / 512) (omega arith)))
 
 -- ---- messages
-pub header-long : (h : Header) → h.start < 2 ^ 64 → h.length < 2 ^ 64 → length (header_by (header-got h)) ≤ 64
+pub header-long : (h : Header) → h.start < 2 ^ 64 → h.length < 2 ^ 64 → length (header_by (Ok h)) ≤ 64
 unfolding header_by hex_text
 header-long h a b = simp length-append (omega (arith, number-long h.start a, number-long h.length b))
 
-outline-long : (m : Outline) (ids : List ℕ) → m.length < 2 ^ 64 → m.objects < 2 ^ 8 → length (outline_text m ids) ≤ 35 + length ids
+pub outline-long : (m : Outline) (s : List ℕ) → Bytes s → m.length < 2 ^ 64 → m.objects < 2 ^ 8
+    → length (outline_text m (ids_of (first_of s))) ≤ 35 + 3 * length s
 unfolding outline_text size_text hex_text
-outline-long m ids a b =
-    simp length-append (omega (arith, number-long m.length a, byte-long m.objects b, form-long m.shortest))
+outline-long m s bytes a b =
+    simp length-append (omega (arith, ids-long s bytes, number-long m.length a, byte-long m.objects b, form-long m.shortest))
 
-module _ (m : Outline) (s : List ℕ) (bytes : Bytes s) (a : m.length < 2 ^ 64) (b : m.objects < 2 ^ 8) where
-  abbrev ids : List ℕ
-  ids = ids_of (first_of s)
-
-  pub read-long : length (read_by ids (Accepted m)) ≤ 64 + 3 * length s
+module _ (m : Outline) (s : List ℕ) (long : length (outline_text m (ids_of (first_of s))) ≤ 35 + 3 * length s) where
+  pub read-long : length (read_by (ids_of (first_of s)) (Ok m)) ≤ 64 + 3 * length s
   unfolding read_by
-  read-long = simp length-append (omega (arith, outline-long m ids a b, ids-long s bytes))
+  read-long = simp length-append (omega (arith, long))
 
-  pub first-long : (next : ℕ) → m.start < 2 ^ 64 → next < 2 ^ 64 → length (first_by ids (first-accepted m next)) ≤ 128 + 3 * length s
+  pub first-long : (next : ℕ) → m.start < 2 ^ 64 → next < 2 ^ 64 → length (first_by (ids_of (first_of s)) (Ok (m, next))) ≤ 128 + 3 * length s
   unfolding first_by
-  first-long next c d =
-      simp length-append (omega (arith, outline-long m ids a b, ids-long s bytes, number-long m.start c, number-long next d))
+  first-long next c d = simp length-append (omega (arith, long, number-long m.start c, number-long next d))
 
-pub value-long : (s : List ℕ) (p : Span) → p.from < 2 ^ 64 → length (field_by s (Value p)) ≤ 64 + 2 * length s
+pub value-long : (s : List ℕ) (p : Span) → p.from < 2 ^ 64 → length (field_by s (Ok (Some p))) ≤ 64 + 2 * length s
 unfolding field_by
 value-long s p h =
     let v = part p.from p.to s in

@@ -1,24 +1,22 @@
 -- What is printed at the start of a buffer, and texts that are put together. Assumes nothing.
 use mathlib.Core.Path.{◌≡◌, refl, ap, ◌∙◌}
-use mathlib.Core.Bool.{true, ◌&&◌}
 use mathlib.Core.List.{List, [], ◌∷◌, ◌++◌, append_assoc}
-use Prim.Native.Nat.{ℕ, ◌+◌, ◌≤◌, ◌<◌, min}
-use native.Mathlib.Numerals.{add-one}
+use Prim.Native.Nat.{ℕ, ◌≤◌, min}
 use native.Mathlib.Omega.{arith}
-use lib.ListN.{length, get_or, take, drop, drop_of_length-le}
-use lib.Seq.{drop-cons, take_all}
-use lib.Dec.{eqb, leb}
+use lib.ListN.{length, take}
+use lib.Seq.{take_all}
+use lib.Dec.{leb}
 use borrow.Author.Tests.{leb-true, leb-false}
+use Rattle.std.proofs.Common.{Ok, Some}
 use Rattle.basics.specs.Text.{Text, text, add_all, bytes_text, decimal_text}
 use Rattle.basics.specs.believed.Text.{ascii}
 use Rattle.basics.proofs.Tests.{by-test}
 use Rattle.buffers.proofs.TextLaws.{both, stands}
 use Rattle.basics.specs.Lists.{part}
 use Rattle.zvt_rules.specs.Listed.{field_answer, handed_bytes}
-use Rattle.zvt_rules.specs.declared.FieldAnswer.TheVariants.{Value}
 use Rattle.zvt_rules.specs.declared.Span.{Span}
 use Rattle.desk_rules.specs.declared.Lane.{Lane}
-use Rattle.printing.specs.Answers.{Printed, line, ok_text, untouched}
+use Rattle.printing.specs.Answers.{Printed, line, ok_text}
 use Rattle.printing.specs.Desks.{kind_text, payment_text}
 
 pub printed : (room : ℕ) (w entry : List ℕ) {end : ℕ} {exit : List ℕ} → length w ≤ room → text end exit ≡ add_all w (text 0 entry)
@@ -54,22 +52,13 @@ take-upto n s =
     let e : min n (length s) ≡ length s = omega arith in
     rw (e, take_all (length s) s (omega arith), take_all n s (omega arith)))
 
--- ---- whether a byte of the room was changed
-pub untouched-next : (s : List ℕ) (i : ℕ) → i < length s → untouched (drop i s) ≡ (eqb (get_or s i 0) 0xC3 && untouched (drop (i + 1) s))
-unfolding untouched
-untouched-next s i h = rw (add-one, drop-cons s i 0)
-
-pub untouched-none : (s : List ℕ) (i : ℕ) → length s ≤ i → untouched (drop i s) ≡ true
-unfolding untouched
-untouched-none s i h = rw (drop_of_length-le s h)
-
 -- a payment, and what stands behind it
 pub payment : (l : Lane) (rest : List ℕ) (t : Text) {u x : Text} → u ≡ add_all (payment_text l) t → x ≡ add_all rest u
     → x ≡ add_all (32 ∷ (kind_text l.kind ++ (32 ∷ (decimal_text l.asked ++ (32 ∷ (decimal_text l.named ++ rest)))))) t
 payment l rest t e f = simp append_assoc at (both (payment_text l) rest t e f)
 
 -- the bytes of a field that is there
-pub handed-value : (id : ℕ) (s other : List ℕ) (p : Span) → field_answer id s ≡ Value p
+pub handed-value : (id : ℕ) (s other : List ℕ) (p : Span) → field_answer id s ≡ Ok (Some p)
     → handed_bytes s other (field_answer id s) ≡ part p.from p.to s
 unfolding handed_bytes
 handed-value id s other p e = rw e

@@ -1,17 +1,11 @@
 -- The book, the lanes, the net turnover and the blocks of a tape as a program prints them, and what a replay tells (T31), in the words of
 -- TRIAL.md. Definitions only.
-use Rattle.std.specs.Prelude.{ℕ, zero, suc, ◌+◌, ◌*◌, ◌/◌, List, [], ◌∷◌, ◌++◌, length, take, drop, eqb, ℤ, pos, negsuc}
+use Rattle.std.specs.Prelude.{ℕ, zero, suc, ◌+◌, ◌*◌, ◌/◌, List, [], ◌∷◌, ◌++◌, length, take, drop, eqb, ℤ, pos, negsuc, Err, None, Ok, Option, Result, Some}
 use Rattle.basics.specs.Choice.{pick}
 use Rattle.basics.specs.Text.{hex_text, decimal_text}
 use Rattle.basics.specs.believed.Text.{ascii}
 use Rattle.basics.specs.Lists.{numbered}
 use Rattle.zvt_rules.specs.declared.Status.{Status}
-use Rattle.zvt_rules.specs.declared.ToldCode.{ToldCode}
-use Rattle.zvt_rules.specs.declared.ToldCode.TheVariants.{Missing as no_code, Code}
-use Rattle.zvt_rules.specs.declared.ToldAmount.{ToldAmount}
-use Rattle.zvt_rules.specs.declared.ToldAmount.TheVariants.{Missing as no-amount, Amount}
-use Rattle.zvt_rules.specs.declared.ToldReceipt.{ToldReceipt}
-use Rattle.zvt_rules.specs.declared.ToldReceipt.TheVariants.{Missing as no-receipt, Receipt}
 use Rattle.desk_rules.specs.Turnover.{net_of}
 use Rattle.desk_rules.specs.declared.Kind.{Kind}
 use Rattle.desk_rules.specs.declared.Kind.TheVariants.{Sale, Refund, Reversal}
@@ -21,9 +15,8 @@ use Rattle.desk_rules.specs.declared.Phase.{Phase}
 use Rattle.desk_rules.specs.declared.Phase.TheVariants.{Idle, Waiting, Running}
 use Rattle.desk_rules.specs.declared.Lane.{Lane}
 use Rattle.desk_rules.specs.declared.Line.{Line}
+use Rattle.zvt_rules.specs.declared.Refusal.{Refusal}
 use Rattle.tape_rules.specs.Block.{block_size}
-use Rattle.tape_rules.specs.declared.Ending.{Ending}
-use Rattle.tape_rules.specs.declared.Ending.TheVariants.{Whole, Refused}
 use Rattle.printing.specs.Answers.{line, number_text, counted_text, bytes_line}
 
 -- ---- the book
@@ -56,12 +49,12 @@ unfoldable pub book_text : List Line → List ℕ
 book_text ls = lines_text ls ++ counted_text (ascii "end") (length ls)
 
 -- T31: "The last line is `end`, the place, and `ok` or `refused` with a number."
-abbrev pub last_text : ℕ → Ending → List ℕ
-last_text place Whole = line (ascii "end" ∷ decimal_text place ∷ ascii "ok" ∷ [])
-last_text place (Refused r) = line (ascii "end" ∷ decimal_text place ∷ ascii "refused" ∷ decimal_text r.number ∷ [])
+abbrev pub last_text : ℕ → Result (Unit {0}) Refusal → List ℕ
+last_text place (Ok tt) = line (ascii "end" ∷ decimal_text place ∷ ascii "ok" ∷ [])
+last_text place (Err r) = line (ascii "end" ∷ decimal_text place ∷ ascii "refused" ∷ decimal_text r.number ∷ [])
 
 -- T31: "The program prints the book, a line for each of its lines"
-unfoldable pub replayed_text : List Line → ℕ → Ending → List ℕ
+unfoldable pub replayed_text : List Line → ℕ → Result (Unit {0}) Refusal → List ℕ
 replayed_text ls place ending = lines_text ls ++ last_text place ending
 
 -- 64 lines of at most 76 bytes, and the last
@@ -69,26 +62,22 @@ abbrev pub book_room : ℕ
 book_room = 64 * 76 + 64
 
 -- ---- the lanes: what is remembered, "`-` for what is not"
-abbrev pub code_text : ToldCode → List ℕ
-code_text no_code = ascii "-"
-code_text (Code b) = hex_text b
+abbrev pub code_text : Option ℕ → List ℕ
+code_text None = ascii "-"
+code_text (Some b) = hex_text b
 
-abbrev pub amount_text : ToldAmount → List ℕ
-amount_text no-amount = ascii "-"
-amount_text (Amount n) = decimal_text n
-
-abbrev pub receipt_text : ToldReceipt → List ℕ
-receipt_text no-receipt = ascii "-"
-receipt_text (Receipt n) = decimal_text n
+abbrev pub number_or_none : Option ℕ → List ℕ
+number_or_none None = ascii "-"
+number_or_none (Some n) = decimal_text n
 
 -- code, amount and receipt that a status information told
 unfoldable pub status_text : Status → List ℕ
-status_text s = line (code_text s.code ∷ amount_text s.amount ∷ receipt_text s.receipt ∷ [])
+status_text s = line (code_text s.code ∷ number_or_none s.amount ∷ number_or_none s.receipt ∷ [])
 
 -- "A told receipt 0000 is shown as none, as in the book"
-abbrev pub shown : ToldReceipt → ToldReceipt
-shown no-receipt = no-receipt
-shown (Receipt n) = pick (eqb n 0) no-receipt (Receipt n)
+abbrev pub shown : Option ℕ → Option ℕ
+shown None = None
+shown (Some n) = pick (eqb n 0) None (Some n)
 
 abbrev pub remembered : Status → Status
 remembered s = record { code = s.code; amount = s.amount; receipt = shown s.receipt }
@@ -104,7 +93,7 @@ phase_text i l Waiting = line (decimal_text i ∷ ascii "waiting" ∷ kind_text 
 phase_text i l Running =
     line (
     decimal_text i ∷ ascii "running" ∷ kind_text l.kind ∷ decimal_text l.asked ∷ decimal_text l.named
-    ∷ code_text l.status.code ∷ amount_text l.status.amount ∷ receipt_text (shown l.status.receipt) ∷ []
+    ∷ code_text l.status.code ∷ number_or_none l.status.amount ∷ number_or_none (shown l.status.receipt) ∷ []
     )
 
 unfoldable pub lane_text : ℕ → Lane → List ℕ

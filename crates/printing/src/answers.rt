@@ -2,11 +2,10 @@
 ghost use Rattle.std.specs.Prelude.{◌≡◌, ◌+◌, ◌*◌, length};
 ghost use Rattle.basics.specs.Text.{text, add_all};
 ghost use Rattle.printing.specs.Answers.{Printed, number_text, counted_text, refused_text, not_understood, bytes_line};
-ghost use Rattle.printing.specs.Answers.{size_of, changed_behind, ok_text, reply_text};
+ghost use Rattle.printing.specs.Answers.{changed_behind, ok_text, reply_text};
 
 use buffers::{add, add_all, add_bytes, add_decimal, upto};
-use desk_rules::Reply;
-use zvt_rules::{Place, Refusal};
+use zvt_rules::Refusal;
 
 // A number with a blank before it.
 pub fn add_number(n: u64, at: usize, out: &mut [u8]) -> usize
@@ -33,8 +32,8 @@ pub fn refused(r: Refusal, out: &mut [u8]) -> usize
     let mut to = add_all(b"refused", 0, out);
     to = add_number(r.number as u64, to, out);
     match place {
-        Place::Nowhere => add(b'\n', to, out),
-        Place::At(p) => counted(b" at", p as u64, to, out),
+        None => add(b'\n', to, out),
+        Some(p) => counted(b" at", p as u64, to, out),
     }
 }
 
@@ -57,31 +56,11 @@ pub fn bytes_line(v: &[u8], out: &mut [u8]) -> usize
 // What every byte of a lent room is before a call.
 pub const BLANK: u8 = 0xC3;
 
-// How many bytes a call says that it wrote.
-fn size_of(r: Reply) -> usize
-    ensures { result ≡ size_of r }
-{
-    match r {
-        Reply::Written(size) => size,
-        Reply::Refused(_) => 0,
-    }
-}
-
 // Whether a call that wrote n bytes changed one behind them, or claims more than there are.
 fn changed(n: usize, lent: &[u8]) -> bool
     ensures { result ≡ changed_behind n lent.now }
 {
-    if lent.len() < n {
-        return true;
-    }
-    let mut i = n;
-    while i < lent.len() {
-        if lent[i] != BLANK {
-            return true;
-        }
-        i += 1;
-    }
-    false
+    lent.len() < n || lent[n..].iter().any(|b| *b != BLANK)
 }
 
 fn written(v: &[u8], out: &mut [u8]) -> usize
@@ -96,17 +75,17 @@ fn written(v: &[u8], out: &mut [u8]) -> usize
 }
 
 // What a call answered that had this room to write into, and should have left the rest of it alone.
-pub fn reply(r: Reply, lent: &[u8], out: &mut [u8]) -> usize
+pub fn reply(r: Result<usize, Refusal>, lent: &[u8], out: &mut [u8]) -> usize
     ensures { Printed (64 + 2 * length lent.now) (reply_text r lent.now) result out.old out.new }
 {
-    if changed(size_of(r), lent) {
+    if changed(r.unwrap_or(0), lent) {
         return add_all(b"buffer changed\n", 0, out);
     }
     match r {
-        Reply::Written(size) => {
+        Ok(size) => {
             let end = upto(size, lent);
             written(&lent[..end], out)
         }
-        Reply::Refused(f) => refused(f, out),
+        Err(f) => refused(f, out),
     }
 }

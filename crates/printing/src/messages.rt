@@ -1,5 +1,5 @@
 // What the reader answers of a message.
-ghost use Rattle.std.specs.Prelude.{◌≡◌, ◌+◌, ◌*◌, length};
+ghost use Rattle.std.specs.Prelude.{◌≡◌, ◌+◌, ◌*◌, ◌≤◌, length};
 ghost use Rattle.zvt_rules.specs.Message.{first_of};
 ghost use Rattle.zvt_rules.specs.Listing.{ids_of};
 ghost use Rattle.basics.specs.Text.{text, add_all};
@@ -11,11 +11,12 @@ ghost use Rattle.printing.specs.Messages.{outline_text, read_text, header_text, 
 use crate::answers::{add_number, counted, refused};
 use crate::desks::add_status;
 use buffers::{add, add_all, add_bytes, add_decimal, add_hex};
-use zvt_rules::{FieldAnswer, FirstAnswer, HeaderAnswer, Outline, ReadAnswer};
+use zvt_rules::Outline;
 
 // The message that s begins with, read as m.
 fn message(s: &[u8], m: Outline, out: &mut [u8]) -> usize
-    ensures { text result out.new ≡ add_all (outline_text m (ids_of (first_of s.now))) (text 0 out.old) }
+    ensures added { text result out.new ≡ add_all (outline_text m (ids_of (first_of s.now))) (text 0 out.old) }
+    ensures long { length (outline_text m (ids_of (first_of s.now))) ≤ 35 + 3 * length s.now }
 {
     let mut to = add_hex(m.class, 0, out);
     to = add_hex(m.instruction, to, out);
@@ -29,8 +30,8 @@ pub fn read(s: &[u8], out: &mut [u8]) -> usize
     ensures { Printed (64 + 3 * length s.now) (read_text s.now) result out.old out.new }
 {
     match zvt::read(s) {
-        ReadAnswer::Refused(f) => refused(f, out),
-        ReadAnswer::Accepted(m) => {
+        Err(f) => refused(f, out),
+        Ok(m) => {
             let to = message(s, m, out);
             add(b'\n', to, out)
         }
@@ -42,8 +43,8 @@ pub fn header(s: &[u8], out: &mut [u8]) -> usize
     ensures { Printed 64 (header_text s.now) result out.old out.new }
 {
     match zvt::read_header(s) {
-        HeaderAnswer::Refused(f) => refused(f, out),
-        HeaderAnswer::Header(h) => {
+        Err(f) => refused(f, out),
+        Ok(h) => {
             let mut to = add_hex(h.class, 0, out);
             to = add_hex(h.instruction, to, out);
             to = add_all(b" from", to, out);
@@ -61,8 +62,9 @@ pub fn first(s: &[u8], out: &mut [u8]) -> usize
     let first = zvt::read_first(s, &mut ids);
     let answer = first.answer;
     match answer {
-        FirstAnswer::Refused(f) => refused(f, out),
-        FirstAnswer::Accepted(m, next) => {
+        Err(f) => refused(f, out),
+        Ok(read) => {
+            let (m, next) = read;
             let mut to = message(s, m, out);
             to = add_all(b" from", to, out);
             to = add_number(m.start as u64, to, out);
@@ -76,14 +78,16 @@ pub fn field(s: &[u8], id: u8, out: &mut [u8]) -> usize
     ensures { Printed (64 + 2 * length s.now) (field_text id s.now) result out.old out.new }
 {
     match zvt::field(s, id) {
-        FieldAnswer::Refused(f) => refused(f, out),
-        FieldAnswer::Absent => add_all(b"absent\n", 0, out),
-        FieldAnswer::Value(v) => {
-            let mut to = add_decimal(v.from as u64, 0, out);
-            to = add(b' ', to, out);
-            to = add_bytes(zvt::field_bytes(s, id, &s[..0]), to, out);
-            add(b'\n', to, out)
-        }
+        Err(f) => refused(f, out),
+        Ok(place) => match place {
+            None => add_all(b"absent\n", 0, out),
+            Some(v) => {
+                let mut to = add_decimal(v.from as u64, 0, out);
+                to = add(b' ', to, out);
+                to = add_bytes(zvt::field_bytes(s, id, &s[..0]), to, out);
+                add(b'\n', to, out)
+            }
+        },
     }
 }
 

@@ -5,11 +5,12 @@ use mathlib.Core.Path.{◌≡◌, refl, sym, ap, ◌∙◌}
 use mathlib.Core.Bool.{true, false}
 use mathlib.Core.Logic.Iff
 use mathlib.Core.Logic.{◌↔◌, ◌⊎◌}
-use mathlib.Core.Option.{some}
 use mathlib.Core.List.{List, [], ◌∷◌, ◌++◌}
 use Prim.Native.Nat.{ℕ, ◌<◌, ◌≤◌}
 use native.Mathlib.Omega.{arith}
 use lib.ListN.{length, take}
+use Rattle.std.specs.Prelude.{Err, Ok, Some}
+use Rattle.std.proofs.Common.{None}
 use Rattle.basics.specs.Lists.{among}
 use Rattle.zvt_rules.specs.Reading.{got, unless, and_then}
 use Rattle.zvt_rules.specs.Fields.{Field, field_id}
@@ -17,7 +18,6 @@ use Rattle.zvt_rules.specs.Message.{bytes, Message, length_of, header_with, head
 use Rattle.zvt_rules.specs.Shortest.{short_message, is_short, write, shorten}
 use Rattle.zvt_rules.specs.Values.{status_of}
 use Rattle.zvt_rules.specs.declared.Refusal.{Refusal}
-use Rattle.zvt_rules.specs.declared.Place.TheVariants.{Nowhere as Unplaced}
 use Rattle.zvt_rules.specs.declared.Header.{Header}
 use Rattle.zvt_rules.specs.declared.Outline.{Outline}
 use Rattle.zvt_rules.specs.declared.Span.{Span}
@@ -52,67 +52,66 @@ use Rattle.desk_rules.specs.believed.Table.{Commands}
 use Rattle.desk_rules.specs.Memory.{view, lane_for, answer_of, leaves_of}
 use Rattle.desk_rules.proofs.Rows.{table}
 use Rattle.desk_rules.proofs.Commands as commands
-use Rattle.promises.specs.Answers.{no, yes, header_says, read_says, first_says, short_says, heard_says, told_says, code_says, amount_says, receipt_says, answer_says, Placed}
-use Rattle.promises.proofs.Answers.{header-says, header-gives, read-says, read-gives, first-says, short-says, decided-no, call-wrote, call-size}
+use Rattle.promises.specs.Answers.{Placed}
+use Rattle.promises.proofs.Answers.{header-gives, read-gives, short-says, decided-no, call-wrote, call-size}
 use Rattle.promises.proofs.Placing.{header-nowhere, body-rows, body-names, first-placed, short-placed, call-placed}
-use Rattle.promises.proofs.Asked.{header_is, read_is, first-is, short-is, code_is, amount-is, receipt-is, heard-yes, told_is}
+use Rattle.promises.proofs.Asked.{heard-yes}
 
 -- ---- "read .. as PA00P015 13.11 lays them out"
 
 module _ (s : List ℕ) (b : Bytes s) where
   -- Bytes are accepted exactly where they are those of a message within the limits, and what is answered is what M9 reports of it.
-  pub read-exactly : (t : Outline) → (read_says (read_answer s) ≡ yes t) ↔ Reported s t
-  read-exactly t = Iff.trans (read_is (read_answer s) t) (reports.read-exactly s t b)
+  pub read-exactly : (t : Outline) → (read_answer s ≡ Ok t) ↔ Reported s t
+  read-exactly t = reports.read-exactly s t b
 
   -- So is a header: exactly where it frames the bytes, with the place and the length of its body.
-  pub header-exactly : (t : Header) → (header_says (header_answer s) ≡ yes t) ↔ Framed s t.class t.instruction t.start t.length
-  header-exactly t = Iff.trans (header_is (header_answer s) t) (reports.header-exactly s t b)
+  pub header-exactly : (t : Header) → (header_answer s ≡ Ok t) ↔ Framed s t.class t.instruction t.start t.length
+  header-exactly t = reports.header-exactly s t b
 
   -- What a desk asks of a message is its header, and behind it what a status information tells and the first byte of a plain body.
-  module _ (h : Heard) (e : heard_says (hear_answer s) ≡ yes h) where
+  module _ (h : Heard) (e : hear_answer s ≡ Ok h) where
     pub heard-exactly : Framed s h.class h.instruction h.start h.length
     heard-exactly = let k = heard-yes s h e in rw (← k.2) ((header-exactly k.0).0 k.1)
 
-    pub told-exactly : (t : ToldBody) → told_says h.told ≡ yes t → (t.status ≡ status_of s)
-        × ((c : ℕ) → (code_says t.first ≡ some c) ↔ ((m : Message) × (w : List ℕ) × Is s m × (m.body ≡ bytes (c ∷ w))))
+    pub told-exactly : (t : ToldBody) → h.told ≡ Ok t → (t.status ≡ status_of s)
+        × ((c : ℕ) → (t.first ≡ Some c) ↔ ((m : Message) × (w : List ℕ) × Is s m × (m.body ≡ bytes (c ∷ w))))
     told-exactly t f =
         let same : told_answer (read_of s) ≡ h.told = ap (λ (x : Heard). x.told) (heard-yes s h e).2 in
-        let q = same ∙ (told_is h.told t).0 f in
-        (heard.status-heard s t q, λ c. Iff.trans (code_is t.first c) (heard.first-heard s t q b c))
+        (heard.status-heard s t (same ∙ f), heard.first-heard s t (same ∙ f) b)
 
   -- So is the first of several messages, and the next begins behind its bytes.
-  pub first-exactly : (t : Outline) (next : ℕ) → (first_says (first_answer s) ≡ yes (t, next)) ↔ FirstReported s t next
-  first-exactly t next = Iff.trans (first-is (first_answer s) t next) (reports.first-exactly s t next b)
+  pub first-exactly : (t : Outline) (next : ℕ) → (first_answer s ≡ Ok (t, next)) ↔ FirstReported s t next
+  first-exactly t next = reports.first-exactly s t next b
 
 -- ---- the pair of number and place, with which a message is refused. Of all that reads a message: read-refused-exactly and its sisters
 -- (DemandOne)
 
 module _ (s : List ℕ) (b : Bytes s) (r : Refusal) where
   -- Behind a header that is read, the body is refused with a number and at a place exactly where a row of bodies (R41 to R44) has both.
-  pub body-refused-exactly : (t : Header) → header_says (header_answer s) ≡ yes t → (read_says (read_answer s) ≡ no r) ↔ FramedNo s [] r
+  pub body-refused-exactly : (t : Header) → header_answer s ≡ Ok t → (read_answer s ≡ Err r) ↔ FramedNo s [] r
   body-refused-exactly t h =
-      let g = (header-gives s t).0 h in Iff.trans (read-says s r) (body-rows s b r g.0 g.1)
+      let g = (header-gives s t).0 h in Iff.trans (reports.read-refused-exactly s r) (body-rows s b r g.0 g.1)
 
   -- R46: the refusal of a header names no place.
-  pub header-unplaced : header_says (header_answer s) ≡ no r → r.place ≡ Unplaced
-  header-unplaced h = header-nowhere s b r ((header-says s r).0 h)
+  pub header-unplaced : header_answer s ≡ Err r → r.place ≡ None
+  header-unplaced h = header-nowhere s b r ((reports.header-refused-exactly s r).0 h)
 
   -- R46 to R48: that of a body always names one: of a byte of the message, which is what the number says, or for 1 alone the place where
   -- body, container or run ended too soon, in the message or directly behind it.
-  pub body-placed : (t : Header) → header_says (header_answer s) ≡ yes t → read_says (read_answer s) ≡ no r → Names s r
-  body-placed t h e = let g = (header-gives s t).0 h in body-names s b r g.0 g.1 ((read-says s r).0 e)
+  pub body-placed : (t : Header) → header_answer s ≡ Ok t → read_answer s ≡ Err r → Names s r
+  body-placed t h e = let g = (header-gives s t).0 h in body-names s b r g.0 g.1 ((reports.read-refused-exactly s r).0 e)
 
   -- Where further messages may follow, the place lies in the first, or directly behind it.
-  pub first-placed-in : first_says (first_answer s) ≡ no r
-      → (r.place ≡ Unplaced) ⊎ ((front : List ℕ) × (rest : List ℕ) × (front ++ rest ≡ s) × Names front r)
-  first-placed-in h = first-placed s b r ((first-says s r).0 h)
+  pub first-placed-in : first_answer s ≡ Err r
+      → (r.place ≡ None) ⊎ ((front : List ℕ) × (rest : List ℕ) × (front ++ rest ≡ s) × Names front r)
+  first-placed-in h = first-placed s b r ((reports.first-refused-exactly s r).0 h)
 
   -- Shortening names the places of reading; where its output is too small (11) it names none.
-  pub shorten-placed : (room : ℕ) → short_says (shorten_answer room s) ≡ no r → (r.place ≡ Unplaced) ⊎ Names s r
+  pub shorten-placed : (room : ℕ) → shorten_answer room s ≡ Err r → (r.place ≡ None) ⊎ Names s r
   shorten-placed room h = short-placed s b r room ((short-says room s r).0 h)
 
 -- A call of the desk that is refused names a place only of a terminal's message, and then such a one.
-pub desk-placed : (d : Desk) (c : Call) (room : ℕ) (r : Refusal) → NumbersFit c → answer_says (answer_of d c room) ≡ no r → Placed c r
+pub desk-placed : (d : Desk) (c : Call) (room : ℕ) (r : Refusal) → NumbersFit c → (answer_of d c room).reply ≡ Err r → Placed c r
 desk-placed d c room r n h = call-placed (view d) c room r n ((table (view d) c room (refuse r)).0 ((decided-no d c room r).0 h))
 
 -- ---- no two messages have the same bytes
@@ -124,7 +123,7 @@ pub first-of-many : (m : Message) (rest : List ℕ) → MessageOk m → first_of
 first-of-many = reading.first-complete
 
 -- The number of objects that the reader reports is the number of objects in the message, inner ones counted, at most 64: O11, O10.
-pub objects-counted : (s : List ℕ) (t : Outline) → Bytes s → read_says (read_answer s) ≡ yes t
+pub objects-counted : (s : List ℕ) (t : Outline) → Bytes s → read_answer s ≡ Ok t
     → (m : Message) × Is s m × (t.objects ≡ length (in_body m.body)) × (length (in_body m.body) ≤ 64)
 objects-counted s t b h =
     let k = (read-exactly s b t).0 h in
@@ -143,15 +142,15 @@ shortened-reads-back s m b e =
 
 -- Shortening answers the size of the shortest writing of the same message, exactly where that has room,
 pub shortened-exactly : (s : List ℕ) (room k : ℕ) → Bytes s
-    → (short_says (shorten_answer room s) ≡ yes k) ↔ ((w : List ℕ) × Shortens s w × (length w ≤ room) × (length w ≡ k))
-shortened-exactly s room k b = Iff.trans (short-is (shorten_answer room s) k) (reports.shorten-exactly room s b k)
+    → (shorten_answer room s ≡ Ok k) ↔ ((w : List ℕ) × Shortens s w × (length w ≤ room) × (length w ≡ k))
+shortened-exactly s room k b = reports.shorten-exactly room s b k
 
 -- and leaves it in the buffer.
 pub shortened-written : (s out w : List ℕ) → Bytes s → Shortens s w → length w ≤ length out → Over w out (shorten_leaves s out)
 shortened-written s out w b = reports.shorten-writes s out b w
 
 -- What a call of the desk writes is what the course says, a command, a reply, or nothing; and the answer is its length.
-pub written : (d : Desk) (c : Call) (out : List ℕ) (k : ℕ) → answer_says (answer_of d c (length out)) ≡ yes k
+pub written : (d : Desk) (c : Call) (out : List ℕ) (k : ℕ) → (answer_of d c (length out)).reply ≡ Ok k
     → (take k (leaves_of d c out) ≡ writes (lane_for d c) c) × (length (writes (lane_for d c) c) ≡ k)
 written d c out k h = (call-wrote d c out k h, call-size d c out k h)
 
@@ -168,7 +167,7 @@ reply-reads-back = refl
 -- ---- ".. has the same bytes exactly when all its lengths were in shortest form"
 
 -- Shortening changes a message exactly where the reader says that it is not shortest.
-pub same-bytes-exactly : (s : List ℕ) (t : Outline) → Bytes s → read_says (read_answer s) ≡ yes t → (shorten s ≡ got s) ↔ (t.shortest ≡ true)
+pub same-bytes-exactly : (s : List ℕ) (t : Outline) → Bytes s → read_answer s ≡ Ok t → (shorten s ≡ got s) ↔ (t.shortest ≡ true)
 unfolding outline_of
 same-bytes-exactly s t b h =
     let k = (read-gives s t).0 h in
@@ -187,14 +186,14 @@ never-longer = shortest.never-longer
 
 module _ (s : List ℕ) (b : Bytes s) where
   -- P20: "code (27), amount (04) and receipt (87)": each is told exactly where a status information has that field.
-  pub code-exactly : (c : ℕ) → (code_says (status_of s).code ≡ some c) ↔ Tells s 0x27 (c ∷ [])
-  code-exactly c = Iff.trans (code_is (status_of s).code c) (status.code-exactly s b c)
+  pub code-exactly : (c : ℕ) → ((status_of s).code ≡ Some c) ↔ Tells s 0x27 (c ∷ [])
+  code-exactly = status.code-exactly s b
 
-  pub amount-exactly : (n : ℕ) → (amount_says (status_of s).amount ≡ some n) ↔ TellsNumber s 0x04 n
-  amount-exactly n = Iff.trans (amount-is (status_of s).amount n) (status.amount-exactly s b n)
+  pub amount-exactly : (n : ℕ) → ((status_of s).amount ≡ Some n) ↔ TellsNumber s 0x04 n
+  amount-exactly = status.amount-exactly s b
 
-  pub receipt-exactly : (n : ℕ) → (receipt_says (status_of s).receipt ≡ some n) ↔ TellsNumber s 0x87 n
-  receipt-exactly n = Iff.trans (receipt-is (status_of s).receipt n) (status.receipt-exactly s b n)
+  pub receipt-exactly : (n : ℕ) → ((status_of s).receipt ≡ Some n) ↔ TellsNumber s 0x87 n
+  receipt-exactly = status.receipt-exactly s b
 
 -- ---- the card name
 

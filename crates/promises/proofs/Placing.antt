@@ -4,9 +4,9 @@ use mathlib.Core.Logic.{◌↔◌, ◌⊎◌, inl, inr, ⊎_elim}
 use mathlib.Core.List.{List, [], ◌∷◌, ◌++◌}
 use Prim.Native.Nat.{ℕ}
 use native.Mathlib.Omega.{arith}
+use Rattle.std.proofs.Common.{None}
 use Rattle.basics.proofs.Tests.{never}
 use Rattle.zvt_rules.specs.declared.Refusal.{Refusal}
-use Rattle.zvt_rules.specs.declared.Place.TheVariants.{Nowhere}
 use Rattle.zvt_rules.specs.Reading.{got, refused}
 use Rattle.zvt_rules.specs.Message.{Heading, whole_header, read_of, first_of}
 use Rattle.zvt_rules.specs.Answers.{shortened}
@@ -24,10 +24,10 @@ use Rattle.promises.proofs.Answers.{refuse-same}
 
 -- ---- a message
 module _ (s : List ℕ) (b : Bytes s) (r : Refusal) where
-  pub header-nowhere : whole_header s ≡ refused r → r.place ≡ Nowhere
+  pub header-nowhere : whole_header s ≡ refused r → r.place ≡ None
   header-nowhere e = whole-unplaced ((whole-exactly s b r).0 e)
 
-  pub read-placed : read_of s ≡ refused r → (r.place ≡ Nowhere) ⊎ Names s r
+  pub read-placed : read_of s ≡ refused r → (r.place ≡ None) ⊎ Names s r
   read-placed e = ⊎_elim (λ h. inl (whole-unplaced h)) (λ h. inr (whole-names s r h)) ((read-no-exactly s b r).0 e)
 
   -- where the header is read, it is the body's
@@ -42,16 +42,16 @@ module _ (s : List ℕ) (b : Bytes s) (r : Refusal) where
     body-names e = whole-names s r (body-rows.0 e)
 
   -- the first of several messages: the place lies in it, or directly behind it
-  pub first-placed : first_of s ≡ refused r → (r.place ≡ Nowhere) ⊎ ((front : List ℕ) × (rest : List ℕ) × (front ++ rest ≡ s) × Names front r)
+  pub first-placed : first_of s ≡ refused r → (r.place ≡ None) ⊎ ((front : List ℕ) × (rest : List ℕ) × (front ++ rest ≡ s) × Names front r)
   first-placed e =
       ⊎_elim (λ h. inl (header-unplaced h)) (λ (rest, h). let f = framed-names s rest r h in inr (f.0, rest, f.1, f.2))
       ((first-no-exactly s b r).0 e)
 
   -- shortening
-  pub short-placed : (room : ℕ) → shortened room s ≡ refused r → (r.place ≡ Nowhere) ⊎ Names s r
+  pub short-placed : (room : ℕ) → shortened room s ≡ refused r → (r.place ≡ None) ⊎ Names s r
   short-placed room e = go ((short-no-exactly s b room r).0 e)
     where
-      go : {q : Refusal} → ShortNo room s q → (q.place ≡ Nowhere) ⊎ Names s q
+      go : {q : Refusal} → ShortNo room s q → (q.place ≡ None) ⊎ Names s q
       go (unread h) = ⊎_elim (λ k. inl (whole-unplaced k)) (λ k. inr (whole-names s _ k)) h
       go (tight w k l) = inl refl
 
@@ -68,7 +68,7 @@ module _ (P : Refusal → Type 0) (r : Refusal) where
   none-given e = never cc
 
 -- a row whose number names no place
-bare : {P : Type 0} (number : ℕ) (q : Refusal) → GivesNumber number P q → q.place ≡ Nowhere
+bare : {P : Type 0} (number : ℕ) (q : Refusal) → GivesNumber number P q → q.place ≡ None
 bare number q k = ap (λ (x : Refusal). x.place) (sym k.1)
 
 pub call-placed : (s : State) (c : Call) (room : ℕ) (r : Refusal) → NumbersFit c → Row s c room (refuse r) → Placed c r
@@ -78,7 +78,7 @@ call-placed s (opening i o) room r n =
     (given_by P r _ _ (bare 18) (given_by P r _ _ (bare 11) (none-given P r))))))
   where
     P : Refusal → Type 0
-    P q = q.place ≡ Nowhere
+    P q = q.place ≡ None
 call-placed s (message i b) room r n =
     given_by P r _ _ (λ q k. inl (bare 12 q k)) (given_by P r _ _ (λ q k. inl (bare 14 q k))
     (given_by P r _ _ (λ q k. inl (header-nowhere b n q k)) (given_by P r _ _ (λ q k. inl (bare 15 q k))
@@ -86,8 +86,8 @@ call-placed s (message i b) room r n =
     (given_by P r _ _ (λ q k. inl (bare 11 q k)) (none-given P r)))))))
   where
     P : Refusal → Type 0
-    P q = (q.place ≡ Nowhere) ⊎ Names b q
+    P q = (q.place ≡ None) ⊎ Names b q
 call-placed s (lost i) room r n = given_by P r _ _ (bare 12) (given_by P r _ _ (bare 14) (none-given P r))
   where
     P : Refusal → Type 0
-    P q = q.place ≡ Nowhere
+    P q = q.place ≡ None

@@ -1,8 +1,6 @@
 -- A day, replayed: the desk of its calls, moments of it, and what comes back of a tape that was torn off. Assumes nothing.
 use mathlib.Core.Path.{◌≡◌, refl, sym, ap, subst, ◌∙◌}
-use mathlib.Core.Logic.Iff
 use mathlib.Core.Logic.{◌↔◌}
-use mathlib.Core.Option.{none, some}
 use mathlib.Core.List.{List, [], ◌∷◌, ◌++◌, append_assoc, append-nil}
 use Prim.Native.Nat.{ℕ, ◌*◌, ◌/◌, ◌%◌, ◌≤◌}
 use native.Mathlib.Omega.{arith}
@@ -10,16 +8,14 @@ use lib.ListN.{length, take, length-append}
 use lib.Seq.{take-append_seam}
 use lib.Dec.{eqb}
 use borrow.Author.Tests.{eqb-true, eqb-false}
+use Rattle.std.proofs.Common.{Err, None, Ok, Result, Some}
 use Rattle.zvt_rules.specs.declared.Refusal.{Refusal}
 use Rattle.basics.specs.believed.Lists.{Bytes}
-use Rattle.basics.proofs.Tests.{by-test, never}
+use Rattle.basics.proofs.Tests.{by-test}
 use Rattle.desk_rules.specs.declared.Desk.{Desk}
 use Rattle.desk_rules.specs.declared.Line.{Line}
 use Rattle.desk_rules.specs.declared.Answer.{Answer}
-use Rattle.desk_rules.specs.declared.Reply.TheVariants.{Written}
 use Rattle.desk_rules.specs.declared.Opening.{Opening}
-use Rattle.desk_rules.specs.declared.OpeningAnswer.{OpeningAnswer}
-use Rattle.desk_rules.specs.declared.OpeningAnswer.TheVariants.{Nothing as no-opening, Opening as opened}
 use Rattle.desk_rules.specs.Openings.{command_bytes, opening_in}
 use Rattle.desk_rules.specs.Course.{Call, NumbersFit}
 use Rattle.desk_rules.specs.Desk.{State, fresh, step, Accepted, run}
@@ -29,8 +25,6 @@ use Rattle.desk_rules.proofs.Recognised.{opening-exactly}
 use Rattle.desk_rules.proofs.Lanes.{accepts-room, accepts-any}
 use Rattle.desk_rules.proofs.Runs.{run-append}
 use Rattle.desk_rules.proofs.Memory.{accepted-answer, fresh-valid, view-fresh}
-use Rattle.tape_rules.specs.declared.Ending.{Ending}
-use Rattle.tape_rules.specs.declared.Ending.TheVariants.{Whole, Refused}
 use Rattle.tape_rules.specs.Records.{Record, records_of_run, joined, recorded}
 use Rattle.tape_rules.specs.Tape.{pieces_of}
 use Rattle.tape_rules.specs.Good.{good_of}
@@ -47,20 +41,20 @@ use Rattle.replaying_rules.proofs.MeaningLaws.{opens-exactly, none-exactly}
 use Rattle.replaying_rules.proofs.Rows.{replays-exactly}
 use Rattle.replaying_rules.proofs.Days.{desk_run, next-view, next-valid, run-view, CutOff, records-cut}
 use Rattle.replaying_rules.proofs.Calls.{replay-leads, replay-torn, replay-day}
-use Rattle.promises.specs.Answers.{no, yes, reply_says, opening_says, replay_says}
+use Rattle.promises.specs.Answers.{replay_says}
 use Rattle.promises.specs.Days.{DeskTurn, calls_in, buffer, OfBytes, Taken, desk_after}
 use Rattle.promises.specs.TapeDays.{DeskAlone}
 use Rattle.promises.specs.Replays.{Back, CutAt, between_blocks, within_a_block, RefusedAt, at_a_record, at_a_block}
-use Rattle.promises.proofs.Answers.{no-yes, no_same, decided-yes}
+use Rattle.promises.proofs.Answers.{err-not-ok, err-same, decided-yes}
 use Rattle.promises.proofs.Turns as turns
 use Rattle.promises.proofs.TapeDays.{Known, placed, its-records, of_bytes}
 
 -- ---- the desk of a day is that of its calls
 -- what a call that was answered leaves does not depend on its room
-room-free : (d : Desk) (c : Call) (room k : ℕ) → (answer_of d c room).reply ≡ Written k → (answers d c).desk ≡ (answer_of d c room).desk
+room-free : (d : Desk) (c : Call) (room k : ℕ) → (answer_of d c room).reply ≡ Ok k → (answers d c).desk ≡ (answer_of d c room).desk
 unfolding view
 room-free d c room k e =
-    let h = (decided-yes d c room).0 (k, ap reply_says e) in
+    let h = (decided-yes d c room).0 (k, e) in
     let enough = accepts-room (view d) c 16 (accepts-any (view d) c room h) (writes_short (lane_for d c) c) in
     ap (λ (a : Answer). a.desk) (accepted-answer d c 16 enough) ∙ sym (ap (λ (a : Answer). a.desk) (accepted-answer d c room h))
 
@@ -168,7 +162,7 @@ module _ {us : List TapeTurn} {e : Day} {cs : List Call} {p : List ℕ} (played 
       let same = (records-exactly fresh cs k.accepted k.fit r.0).0 r.1 in
       rw same ((joined-exactly r.0 p).0 r.2).1
 
-  module _ (m : ℕ) (x : Ending) (c : CutOff fresh_desk cs m 0 x) where
+  module _ (m : ℕ) (x : Result (Unit {0}) Refusal) (c : CutOff fresh_desk cs m 0 x) where
     abbrev others : List Record
     others = records_of_run (view (desk_run fresh_desk c.before)) c.after
 
@@ -218,14 +212,14 @@ module _ {us : List TapeTurn} {e : Day} {cs : List Call} {p : List ℕ} (played 
         }
 
   -- whatever is left of the tape, its good blocks hold the first bytes of the day's payload
-  pub torn-back : (s : List ℕ) (m : ℕ) (x : Ending) → good_of s ≡ record { payload = take m p; ending = x } → Back us cs p m x (replay_of s)
+  pub torn-back : (s : List ℕ) (m : ℕ) (x : Result (Unit {0}) Refusal) → good_of s ≡ record { payload = take m p; ending = x } → Back us cs p m x (replay_of s)
   torn-back s m x g =
       let t = replay-torn cs k.accepted k.fit s m x (g ∙ rw (← k.payload)) in
       comes m x t.0 (replay_of s) t.1
 
   -- all of it
   pub whole_back : (q : List ℕ) × (n : ℕ) × DrawnTape q e.file n
-      × (replay_of e.file ≡ record { desk = e.taped.desk; place = length q; ending = Whole })
+      × (replay_of e.file ≡ record { desk = e.taped.desk; place = length q; ending = Ok tt })
   whole_back =
       let f = k.few in
       let all = replay-day cs k.accepted k.fit (rw k.payload (omega arith)) in
@@ -233,7 +227,7 @@ module _ {us : List TapeTurn} {e : Day} {cs : List Call} {p : List ℕ} (played 
 
   -- and its first bytes
   pub cut-back : (n : ℕ) → n ≤ length e.file → (q : List ℕ) × (j : ℕ) × DrawnTape q e.file j
-      × ((x : Ending) × CutAt n x × Back us cs q (n / 512 * 504) x (replay_of (take n e.file)))
+      × ((x : Result (Unit {0}) Refusal) × CutAt n x × Back us cs q (n / 512 * 504) x (replay_of (take n e.file)))
   cut-back n h =
       let f = k.few in
       let g = good-cut p n (omega arith) (rw k.file at h) in
@@ -243,7 +237,7 @@ module _ {us : List TapeTurn} {e : Day} {cs : List Call} {p : List ℕ} (played 
       cut-so = by-test (eqb (n % 512) 0) (λ t. rw t (between_blocks (eqb-true (n % 512) 0 t))) (λ t. rw t (within_a_block (eqb-false (n % 512) 0 t)))
 
   -- ---- lines are only added
-  pub front-lines : {q : List ℕ} {m : ℕ} {x : Ending} {r : Replayed} → Back us cs q m x r
+  pub front-lines : {q : List ℕ} {m : ℕ} {x : (Result (Unit {0}) Refusal)} {r : Replayed} → Back us cs q m x r
       → (j : ℕ) × (lines_of_desk r.desk ≡ take j (lines_of_desk e.taped.desk))
   front-lines {r = r} b =
       let before = b.before in
@@ -263,17 +257,17 @@ module _ {us : List TapeTurn} {e : Day} {cs : List Call} {p : List ℕ} (played 
 
 -- ---- every tape
 module _ (s : List ℕ) (b : Bytes s) where
-  refused-so : {r : Replayed} {f : Refusal} → Replays s r → replay_says r ≡ no f → RefusedAt s f r.desk r.place
-  refused-so (to_the_end (all_good n d) k last) h = absurd (no-yes (sym h))
-  refused-so (to_the_end (up_to n first d full) k last) h = at_a_block n first (no_same h) d full k last
-  refused-so (up_to_a_record g k begun stop) h = rw (← (no_same h)) (at_a_record g k begun stop)
+  refused-so : {r : Replayed} {f : Refusal} → Replays s r → replay_says r ≡ Err f → RefusedAt s f r.desk r.place
+  refused-so (to_the_end (all_good n d) k last) h = absurd (err-not-ok (sym h))
+  refused-so (to_the_end (up_to n first d full) k last) h = at_a_block n first (err-same h) d full k last
+  refused-so (up_to_a_record g k begun stop) h = rw (← (err-same h)) (at_a_record g k begun stop)
 
-  says_so : {f : Refusal} {d : Desk} {n : ℕ} → RefusedAt s f d n → replay_of s ≡ record { desk = d; place = n; ending = Refused f }
+  says_so : {f : Refusal} {d : Desk} {n : ℕ} → RefusedAt s f d n → replay_of s ≡ record { desk = d; place = n; ending = Err f }
   says_so (at_a_record g k begun stop) = (replays-exactly s b _).1 (up_to_a_record g k begun stop)
   says_so (at_a_block n first same d full k last) = (replays-exactly s b _).1 (rw (← same) (to_the_end (up_to n first d full) k last))
 
   pub refused-at : (f : Refusal) (d : Desk) (n : ℕ)
-      → ((replay_says (replay_of s) ≡ no f) × ((replay_of s).desk ≡ d) × ((replay_of s).place ≡ n)) ↔ RefusedAt s f d n
+      → ((replay_says (replay_of s) ≡ Err f) × ((replay_of s).desk ≡ d) × ((replay_of s).place ≡ n)) ↔ RefusedAt s f d n
   refused-at f d n = (
     λ (e, desk, place). rw (← desk, ← place) (refused-so ((replays-exactly s b _).0 refl) e),
     λ k. rw (says_so k) (refl, refl, refl),
@@ -290,19 +284,11 @@ module _ (s : List ℕ) (b : Bytes s) where
 
 -- ---- T26
 module _ (s : List ℕ) (b : Bytes s) where
-  pub known-opening : (o : Opening) → (opening_says (opening_in s) ≡ yes (some o)) ↔ Opens o s
-  known-opening o = Iff.trans (to (opening_in s), λ e. ap opening_says e) (opens-exactly o s b)
-    where
-      to : (x : OpeningAnswer) → opening_says x ≡ yes (some o) → x ≡ opened o
-      to no-opening e = never cc
-      to (opened q) e = cc
+  pub known-opening : (o : Opening) → (opening_in s ≡ Some o) ↔ Opens o s
+  known-opening o = opens-exactly o s b
 
   pub its-bytes : (o : Opening) → Opens o s → s ≡ command_bytes o
   its-bytes o k = ((opening-exactly s o).0 ((opens-exactly o s b).1 k)).0
 
-  pub known-none : (opening_says (opening_in s) ≡ yes none) ↔ ((o : Opening) → Opens o s → ⊥)
-  known-none = Iff.trans (to (opening_in s), λ e. ap opening_says e) (none-exactly s b)
-    where
-      to : (x : OpeningAnswer) → opening_says x ≡ yes none → x ≡ no-opening
-      to no-opening e = refl
-      to (opened q) e = never cc
+  pub known-none : (opening_in s ≡ None) ↔ ((o : Opening) → Opens o s → ⊥)
+  known-none = none-exactly s b

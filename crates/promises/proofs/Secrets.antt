@@ -7,6 +7,8 @@ use Prim.Native.Nat.{ℕ, ◌+◌, ◌-◌, ◌*◌}
 use lib.ListN.{length, take, drop}
 use lib.Seq.{take_at}
 use borrow.Author.Tests.{le-leb}
+use Rattle.std.specs.Prelude.{Ok}
+use Rattle.std.proofs.Common.{Option}
 use Rattle.zvt_rules.specs.Reading.{Reading, got, refused}
 use Rattle.zvt_rules.specs.Message.{Message, read_of}
 use Rattle.zvt_rules.specs.believed.Writing.{body_bytes, length_bytes, message_bytes}
@@ -20,7 +22,6 @@ use Rattle.desk_rules.specs.declared.Phase.TheVariants.{Idle, Waiting, Running}
 use Rattle.desk_rules.specs.declared.Lane.{Lane}
 use Rattle.desk_rules.specs.declared.Line.{Line}
 use Rattle.desk_rules.specs.declared.Opening.{Opening}
-use Rattle.desk_rules.specs.declared.Reference.{Reference}
 use Rattle.desk_rules.specs.Kinds.{booked}
 use Rattle.desk_rules.specs.Openings.{kind_of, refers_to, last_line, command_of, command_bytes, command_size, without_password}
 use Rattle.desk_rules.specs.Course.{opened_by, heard, Call, opening, message, lost, lane_of, needs_line, moves, reply_bytes, answered, writes, NumbersFit}
@@ -69,7 +70,7 @@ module _ (s : List ℕ) (b : Bytes s) where
 
   pub masked-field : (id : ℕ) → field_answer id (masked s) ≡ field_answer id s
   unfolding field_answer asked_of
-  masked-field id = of-masked (asked_of id) (λ m. ap (named_listed id) (alike-listed (mask_message m) m (mask-alike m))) s b
+  masked-field id = of-masked (asked_of id) (λ m. ap (λ ls. Ok (named_listed id ls)) (alike-listed (mask_message m) m (mask-alike m))) s b
 
   pub masked-ids : ids_listed (listed_message (read_of (masked s))) ≡ ids_listed (listed_message (read_of s))
   masked-ids = ap ids_listed masked-listed
@@ -145,7 +146,7 @@ agree (openings i o e a) =
     record {
       lane = refl;
       needs = ap booked w.2;
-      move = λ l ls. alike-opened a l (last_line i (refers_to o) ls) ∙ ap (λ (r : Reference). opened_by l e (last_line i r ls)) w.1;
+      move = λ l ls. alike-opened a l (last_line i (refers_to o) ls) ∙ ap (λ (r : Option ℕ). opened_by l e (last_line i r ls)) w.1;
       size = λ l. command-size o ∙ w.3 ∙ sym (command-size e);
       records = λ l. rw (opening-masked o, opening-masked e, w.0);
     }

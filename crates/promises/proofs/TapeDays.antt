@@ -9,18 +9,18 @@ use lib.ListN.{length, take, drop, replicate, length-append, length-replicate, l
 use lib.Seq.{take_at, take-take, take-add, drop-append_seam, length-take-le}
 use lib.Dec.{ltb}
 use borrow.Author.Tests.{ltb-true, ltb-false}
+use Rattle.std.proofs.Common.{Ok, Result}
 use Rattle.zvt_rules.specs.Reading.{got}
 use Rattle.zvt_rules.proofs.Readings.{got_same}
 use Rattle.basics.proofs.Tests.{by-test}
 use Rattle.desk_rules.specs.declared.Desk.{Desk}
-use Rattle.desk_rules.specs.declared.Reply.{Reply}
-use Rattle.desk_rules.specs.declared.Reply.TheVariants.{Written}
 use Rattle.desk_rules.specs.Course.{Call, NumbersFit}
 use Rattle.desk_rules.specs.Desk.{fresh, Decision, refuse, accept, Accepted}
 use Rattle.desk_rules.specs.Memory.{answer_of}
 use Rattle.tape_rules.specs.declared.Taped.{Taped}
 use Rattle.tape_rules.specs.declared.TapedAnswer.{TapedAnswer}
 use Rattle.tape_rules.specs.declared.ClosedAnswer.{ClosedAnswer}
+use Rattle.zvt_rules.specs.declared.Refusal.{Refusal}
 use Rattle.tape_rules.specs.Records.{Record, records_of_run, recorded}
 use Rattle.tape_rules.specs.Block.{most_number}
 use Rattle.tape_rules.specs.Tape.{pieces_of, tape_bytes}
@@ -36,10 +36,9 @@ use Rattle.tape_rules.proofs.TapeRows.{payload-drawn, read-tape-drawn}
 use Rattle.tape_rules.proofs.TailLaws.{tidy_of}
 use Rattle.tape_rules.proofs.Filing.{TurnFits, day-follows, file-follows, file-drawn, full-stays}
 use Rattle.tape_rules.proofs.Playing.{TurnOfBytes, fresh-whole, played-exactly}
-use Rattle.promises.specs.Answers.{yes, reply_says, closed_says}
 use Rattle.promises.specs.Days.{DeskTurn, calls_in, OfBytes, Taken, desk_after}
 use Rattle.promises.specs.TapeDays.{LentBytes, exchanges, DeskAlone, ClosedRow, still_open, all_ended}
-use Rattle.promises.proofs.Answers.{no-yes}
+use Rattle.promises.proofs.Answers.{err-not-ok}
 use Rattle.promises.proofs.Turns as turns
 
 -- ---- what is lent to a day is of bytes
@@ -145,9 +144,9 @@ module _ {e : Day} {cs : List Call} {p : List ℕ} (k : Known e cs p) where
   is-full j h = omega (arith, used-at j)
 
   -- T22: what closing says is what the file has
-  pub closing-tells : {a : ClosedAnswer} {n : ℕ} → ClosedRow e.taped a → closed_says a ≡ yes n
+  pub closing-tells : {a : ClosedAnswer} {n : ℕ} → ClosedRow e.taped a → a.reply ≡ Ok n
       → DrawnTape p e.file a.blocks × (length p ≡ a.bytes) × (a.taped ≡ fresh_taped)
-  closing-tells (still_open o) h = absurd (no-yes h)
+  closing-tells (still_open o) h = absurd (err-not-ok h)
   closing-tells (all_ended {blocks} {bytes} o held least most) h =
       let n : length (pieces_of p) ≡ blocks = omega arith in
       (rw n at k.drawn, omega arith, refl)
@@ -193,15 +192,15 @@ pub record Placed (t : Taped) (c : Call) (out : ℕ) (a : TapedAnswer) (left : L
   held : a.blocks * 512 ≤ length left
 
 pub placed : {t : Taped} {c : Call} {out : ℕ} {room : List ℕ} {a : TapedAnswer} {left : List ℕ} {k : ℕ}
-    → TapedRow t c out room a left → a.reply ≡ Written k → Placed t c out a left
-placed (own h) e = absurd (no-yes (ap reply_says e))
-placed (no_number h p l) e = absurd (no-yes (ap reply_says e))
-placed (no_space h p few l) e = absurd (no-yes (ap reply_says e))
+    → TapedRow t c out room a left → a.reply ≡ Ok k → Placed t c out a left
+placed (own h) e = absurd (err-not-ok e)
+placed (no_number h p l) e = absurd (err-not-ok e)
+placed (no_space h p few l) e = absurd (err-not-ok e)
 placed {t} {c} {out} {room} (taken {n} {q} {s} h p few l ends drawn) e =
     let r = some-records p.drawn.1 p.drawn.2 in
     let size = length-append (take t.tail.used t.tail.part) p.records in
     record {
-      alone = ap (λ (x : Reply). record { reply = x; desk = (answer_of t.desk c out).desk }) h;
+      alone = ap (λ (x : Result ℕ Refusal). record { reply = x; desk = (answer_of t.desk c out).desk }) h;
       first = refl;
       some = omega (arith, ap length p.behind);
       held = omega (arith, length-append s (drop (n * 512) room));
@@ -249,7 +248,7 @@ alone {cs} played k =
 
 -- ---- T23: where the blocks of an accepted call lie
 module _ {e : Day} {cs : List Call} {p : List ℕ} (k : Known e cs p) {c : Call} {out n : ℕ} {room left : List ℕ} {a : TapedAnswer}
-    (row : TapedRow e.taped c out room a left) (reply : a.reply ≡ Written n) where
+    (row : TapedRow e.taped c out room a left) (reply : a.reply ≡ Ok n) where
   -- a write that is torn off leaves each full block
   pub torn-off : (torn : List ℕ) → take ((a.first - 1) * 512) torn ≡ take ((a.first - 1) * 512) e.file → (j : ℕ)
       → used_of (block_at j e.file) ≡ 504 → block_at j torn ≡ block_at j e.file

@@ -10,8 +10,9 @@ use Prim.Native.Nat.{ℕ, ◌+◌, ◌-◌, ◌*◌, ◌<◌, ◌≤◌}
 use native.Mathlib.Omega.{arith}
 use lib.ListN.{length, get_or, take, drop, set, length-take, length-drop, drop_of_length-le}
 use lib.Seq.{ext_get_or}
+use Rattle.std.specs.Prelude.{Err}
+use Rattle.std.proofs.Common.{None, Ok}
 use Rattle.zvt_rules.specs.declared.Refusal.{Refusal}
-use Rattle.zvt_rules.specs.declared.Place.TheVariants.{Nowhere}
 use Rattle.zvt_rules.specs.Reading.{Reading, got, unplaced, written_leaves}
 use Rattle.zvt_rules.specs.Message.{Message, read_of}
 use Rattle.basics.specs.believed.Lists.{Bytes}
@@ -22,7 +23,6 @@ use Rattle.zvt_rules.proofs.Readings.{then-stop}
 use Rattle.zvt_rules.proofs.MessageBytes.{read-sound}
 use Rattle.desk_rules.specs.declared.Phase.TheVariants.{Idle}
 use Rattle.desk_rules.specs.declared.Lane.{Lane}
-use Rattle.desk_rules.specs.declared.Reply.TheVariants.{Written}
 use Rattle.desk_rules.specs.Course.{Call, lost, heard, NumbersFit}
 use Rattle.desk_rules.specs.Desk.{fresh}
 use Rattle.desk_rules.specs.Memory.{view, answer_of, leaves_of}
@@ -51,7 +51,6 @@ use Rattle.tape_rules.proofs.Unseen.{mask-heard}
 use Rattle.tape_rules.proofs.Taping.{taped-table, taped-valid, close-taped-valid}
 use Rattle.tape_rules.proofs.Playing.{fresh-whole}
 use Rattle.promises.specs.TapeDays.{LentBytes, exchanges, DeskAlone, ClosedRow, Hiding, AlikeDays}
-use Rattle.promises.specs.Answers.{no, yes, reply_says, answer_says, taped_says, closed_says, block_says}
 use Rattle.promises.proofs.TapeAnswers as answers
 use Rattle.promises.proofs.TapeDays as days
 use Rattle.promises.proofs.Secrets as secrets
@@ -60,7 +59,7 @@ use Rattle.promises.proofs.Secrets as secrets
 
 -- A block is written exactly where its number and its payload are within their limits and 512 bytes are lent for it.
 pub block-written-exactly : (number : ℕ) (p : List ℕ) (room k : ℕ)
-    → (reply_says (written_answer (write_block number p room)) ≡ yes k) ↔ ((Outside number p → ⊥) × (512 ≤ room) × (512 ≡ k))
+    → (written_answer (write_block number p room) ≡ Ok k) ↔ ((Outside number p → ⊥) × (512 ≤ room) × (512 ≡ k))
 block-written-exactly number p room k = (
   λ h.
       let w = (answers.written-size (write_block number p room) k).0 h in
@@ -79,7 +78,7 @@ block-laid-out = rows.written-drawn
 
 -- Of a block exactly the payload is read that is drawn in it, for the number due, a full one where another block follows.
 pub block-read-exactly : (due : ℕ) (last : Bool) (s : List ℕ) (k : ℕ)
-    → (block_says (block_answer (read_block due last s)) ≡ yes k)
+    → (block_answer (read_block due last s) ≡ Ok k)
     ↔ ((p : List ℕ) × (Drawn due p s × (Outside due p → ⊥) × (last ≡ false → length p ≡ 504)) × (length p ≡ k))
 block-read-exactly due last s k = (
   λ h. let r = (answers.block-holds (read_block due last s) k).0 h in (r.0, (rows.block-drawn due last s r.0).0 r.1, r.2),
@@ -88,7 +87,7 @@ block-read-exactly due last s k = (
 
 -- A written block reads back as its payload: nothing of a day is lost in a block.
 pub block-reads-back : (number : ℕ) (p : List ℕ) (room : ℕ) (s : List ℕ) (last : Bool) → number ≤ 4_294_967_295 → (last ≡ false → length p ≡ 504)
-    → write_block number p room ≡ got s → (block_says (block_answer (read_block number last s)) ≡ yes (length p)) × (take (length p) (drop 6 s) ≡ p)
+    → write_block number p room ≡ got s → (block_answer (read_block number last s) ≡ Ok (length p)) × (take (length p) (drop 6 s) ≡ p)
 block-reads-back number p room s last fits full h =
     let g = rows.block-got number p room s h in
     let w = rows.within number p g.0 in
@@ -98,7 +97,7 @@ block-reads-back number p room s last fits full h =
 -- T6: "A good block with one byte changed, whichever, is refused (20).": in every block, at every place, whatever the byte becomes and
 -- whatever block is due.
 pub one-changed-byte : (number : ℕ) (p : List ℕ) (room : ℕ) (s : List ℕ) (i v due : ℕ) (last : Bool) → Bytes p → write_block number p room ≡ got s
-    → i < 512 → v < 256 → (v ≡ get_or s i 0 → ⊥) → block_says (block_answer (read_block due last (set s i v))) ≡ no (unplaced 20)
+    → i < 512 → v < 256 → (v ≡ get_or s i 0 → ⊥) → block_answer (read_block due last (set s i v)) ≡ Err (unplaced 20)
 unfolding block_answer
 one-changed-byte number p room s i v due last b w h small other =
     let g = rows.block-got number p room s w in
@@ -106,8 +105,8 @@ one-changed-byte number p room s i v due last b w h small other =
     rw (e other)
 
 -- So is a whole tape that is read: whichever of its bytes is changed, whatever the byte becomes and whatever room is lent.
-pub one-changed-byte-of-a-tape : (s : List ℕ) (room k i v other : ℕ) → Bytes s → reply_says (written_answer (read_tape s room)) ≡ yes k
-    → i < length s → v < 256 → (v ≡ get_or s i 0 → ⊥) → reply_says (written_answer (read_tape (set s i v) other)) ≡ no (unplaced 20)
+pub one-changed-byte-of-a-tape : (s : List ℕ) (room k i v other : ℕ) → Bytes s → written_answer (read_tape s room) ≡ Ok k
+    → i < length s → v < 256 → (v ≡ get_or s i 0 → ⊥) → written_answer (read_tape (set s i v) other) ≡ Err (unplaced 20)
 unfolding read_tape written_answer
 one-changed-byte-of-a-tape s room k i v other b h l small new =
     let w = (answers.written-size (read_tape s room) k).0 h in
@@ -119,7 +118,7 @@ one-changed-byte-of-a-tape s room k i v other b h l small new =
 
 -- A tape is written exactly where the numbers of its blocks fit four bytes and all of them have room: one for each piece of its payload.
 pub tape-written-exactly : (p : List ℕ) (room k : ℕ)
-    → (reply_says (written_answer (write_tape p room)) ≡ yes k) ↔ ((n : ℕ) × Pieces p n × (n ≤ 4_294_967_295) × (n * 512 ≤ room) × (n * 512 ≡ k))
+    → (written_answer (write_tape p room) ≡ Ok k) ↔ ((n : ℕ) × Pieces p n × (n ≤ 4_294_967_295) × (n * 512 ≤ room) × (n * 512 ≡ k))
 tape-written-exactly p room k =
     let says = answers.written-size (write_tape p room) k in (
       λ h.
@@ -141,7 +140,7 @@ pub only-last-short : (p : List ℕ) (n k : ℕ) → Pieces p n → 1 + k < n �
 only-last-short p n k h l = omega (arith, h.1, length-take 504 (drop (k * 504) p), length-drop (k * 504) p)
 
 -- No payload is no block, and no block is no payload. T1: "the empty tape has none".
-pub no-payload-no-block : (p : List ℕ) (room : ℕ) → (reply_says (written_answer (write_tape p room)) ≡ yes 0) ↔ (p ≡ [])
+pub no-payload-no-block : (p : List ℕ) (room : ℕ) → (written_answer (write_tape p room) ≡ Ok 0) ↔ (p ≡ [])
 no-payload-no-block p room = (
   λ h. let k = (tape-written-exactly p room 0).0 h in drop_of_length-le p {i = 0} (omega (arith, k.1.0, k.4)),
   λ e. rw e ((tape-written-exactly [] room 0).1 (0, omega arith, omega arith, omega arith, refl)),
@@ -168,15 +167,15 @@ pub taped-answered-exactly : (t : Taped) (c : Call) (out room : List ℕ) → Nu
 taped-answered-exactly t c out room n = taped-table t c n (length out) room
 
 -- R46: a refusal of its own for the tape, 16 or 11, names no place; every other is the desk's, with the desk's place.
-pub taped-placed : (t : Taped) (c : Call) (out room : List ℕ) (r : Refusal) → taped_says (taped_answer t c (length out) (length room)) ≡ no r
-    → (answer_says (answer_of t.desk c (length out)) ≡ no r) ⊎ (r.place ≡ Nowhere)
+pub taped-placed : (t : Taped) (c : Call) (out room : List ℕ) (r : Refusal) → (taped_answer t c (length out) (length room)).reply ≡ Err r
+    → ((answer_of t.desk c (length out)).reply ≡ Err r) ⊎ (r.place ≡ None)
 taped-placed = answers.taped-own
 
 module _ (t : Taped) (c : Call) (out room : List ℕ) where
   -- With an accepted call a desk with its tape does what the desk alone does.
   pub as-without-tape : (k : ℕ) → let a = taped_answer t c (length out) (length room) in
       let b = answer_of t.desk c (length out) in
-      taped_says a ≡ yes k → (a.reply ≡ b.reply) × (a.taped.desk ≡ b.desk) × (taped_out t c (length room) out ≡ leaves_of t.desk c out)
+      a.reply ≡ Ok k → (a.reply ≡ b.reply) × (a.taped.desk ≡ b.desk) × (taped_out t c (length room) out ≡ leaves_of t.desk c out)
   as-without-tape = answers.taped-as-desk t c out room
 
   module _ (v : ValidTaped t) (n : NumbersFit c) where
@@ -193,7 +192,7 @@ module _ (t : Taped) (c : Call) (out room : List ℕ) where
 -- So no payment stays open for its tape's sake: a lost link on an open lane is taken, and the lane is idle then.
 pub lost-link-taken : (t : Taped) → ValidTaped t → (i : ℕ) (room : List ℕ) → i < 8 → (phase_at (view t.desk) i ≡ Idle → ⊥)
     → t.tail.full + 10 ≤ 4_294_967_295 → 5_120 ≤ length room → let a = taped_answer t (lost i) 0 (length room) in
-    (taped_says a ≡ yes 0) × (phase_at (view a.taped.desk) i ≡ Idle)
+    (a.reply ≡ Ok 0) × (phase_at (view a.taped.desk) i ≡ Idle)
 lost-link-taken = answers.lost-taken
 
 -- ---- T12, T13, T23: a day and its file
@@ -229,7 +228,7 @@ module _ (day : List TapeTurn) (b : LentBytes day) (at_end : Day) (calls : List 
 
   -- One more call that is accepted, and what the till's file is after it.
   module _ (u : TapeTurn) (a : TapedAnswer) (left : List ℕ) (n : ℕ) (row : TapedRow at_end.taped u.call u.out u.room a left)
-      (reply : a.reply ≡ Written n) where
+      (reply : a.reply ≡ Ok n) where
     -- Its blocks are the last of the file, from the first that changed on. All before them stay, and at most one of them was there already:
     -- a short one.
     pub where-blocks-lie : (after : List ℕ) → Filed a left at_end.file after
@@ -246,7 +245,7 @@ module _ (day : List TapeTurn) (b : LentBytes day) (at_end : Day) (calls : List 
 
   -- What closing says of the day's tape, its blocks and the bytes that they hold, is what the file has; and a new, empty one begins.
   pub closing-says : (n : ℕ) → let a = close_taped at_end.taped in
-      closed_says a ≡ yes n → (p : List ℕ) × DrawnTape p at_end.file a.blocks × (length p ≡ a.bytes) × (a.taped ≡ fresh_taped)
+      a.reply ≡ Ok n → (p : List ℕ) × DrawnTape p at_end.file a.blocks × (length p ≡ a.bytes) × (a.taped ≡ fresh_taped)
   closing-says n h =
       let k = days.closing-tells known ((answers.close-exactly at_end.taped known.valid _).0 refl) h in
       (recorded fresh calls, k.0, k.1, k.2)
@@ -308,32 +307,32 @@ alike-days-one-tape day other b c a d e cs ds p q =
 
 -- R45: "Writing one: 16, 11."
 pub block-write-refused-exactly : (number : ℕ) (p : List ℕ) (room : ℕ) (r : Refusal)
-    → (reply_says (written_answer (write_block number p room)) ≡ no r) ↔ Unplaced (WriteNo number p room) r
+    → (written_answer (write_block number p room) ≡ Err r) ↔ Unplaced (WriteNo number p room) r
 block-write-refused-exactly number p room r = Iff.trans (answers.written-says (write_block number p room) r) (rows.write-no number p room r)
 
 -- R45: "Reading a block: 1, 3, 20, 21."
 pub block-read-refused-exactly : (due : ℕ) (last : Bool) (s : List ℕ) (r : Refusal)
-    → (block_says (block_answer (read_block due last s)) ≡ no r) ↔ Unplaced (BlockNo due last s) r
+    → (block_answer (read_block due last s) ≡ Err r) ↔ Unplaced (BlockNo due last s) r
 block-read-refused-exactly due last s r = Iff.trans (answers.block-says (read_block due last s) r) (rows.block_no due last s r)
 
 -- T20: "Writing a whole tape gives 16 where a block number needs more than four bytes, then 11."
 pub tape-write-refused-exactly : (p : List ℕ) (room : ℕ) (r : Refusal)
-    → (reply_says (written_answer (write_tape p room)) ≡ no r) ↔ Unplaced (TapeWriteNo p room) r
+    → (written_answer (write_tape p room) ≡ Err r) ↔ Unplaced (TapeWriteNo p room) r
 tape-write-refused-exactly p room r = Iff.trans (answers.written-says (write_tape p room) r) (tapes.write-tape-no p room r)
 
 -- T20: "Reading one gives the refusal of the first refused block, then 11."
 pub tape-read-refused-exactly : (s : List ℕ) (room : ℕ) (r : Refusal)
-    → (reply_says (written_answer (read_tape s room)) ≡ no r) ↔ Unplaced (TapeReadNo s room) r
+    → (written_answer (read_tape s room) ≡ Err r) ↔ Unplaced (TapeReadNo s room) r
 tape-read-refused-exactly s room r = Iff.trans (answers.written-says (read_tape s room) r) (tapes.read-tape-no s room r)
 
 -- ---- R32: "A refusal leaves the desk and all lent buffers as they were."
 
 -- Where writing a block or a tape, or reading a tape, is refused, the buffer stays as it was.
-pub write-unchanged : (x : Reading (List ℕ)) (out : List ℕ) (r : Refusal) → reply_says (written_answer x) ≡ no r → written_leaves x out ≡ out
+pub write-unchanged : (x : Reading (List ℕ)) (out : List ℕ) (r : Refusal) → written_answer x ≡ Err r → written_leaves x out ≡ out
 write-unchanged = answers.written_same
 
 -- A refused call leaves desk, tape and both buffers as they were: it can be made again.
-pub taped-unchanged : (t : Taped) (c : Call) (out room : List ℕ) (r : Refusal) → taped_says (taped_answer t c (length out) (length room)) ≡ no r
+pub taped-unchanged : (t : Taped) (c : Call) (out room : List ℕ) (r : Refusal) → (taped_answer t c (length out) (length room)).reply ≡ Err r
     → ((taped_answer t c (length out) (length room)).taped ≡ t) × (taped_out t c (length room) out ≡ out) × (taped_room t c (length out) room ≡ room)
 taped-unchanged = answers.taped-same
 
@@ -341,11 +340,11 @@ taped-unchanged = answers.taped-same
 
 -- What is written is put first into the buffer, and the answer is its length: `got w` says just that.
 pub got-is-written : (x : Reading (List ℕ)) (out w : List ℕ)
-    → (x ≡ got w) ↔ ((reply_says (written_answer x) ≡ yes (length w)) × (take (length w) (written_leaves x out) ≡ w))
+    → (x ≡ got w) ↔ ((written_answer x ≡ Ok (length w)) × (take (length w) (written_leaves x out) ≡ w))
 got-is-written = answers.written-got
 
 -- Beyond it the buffer stays as it was; of a call, as-without-tape and taped-answered-exactly say so.
-pub write-beyond-unchanged : (x : Reading (List ℕ)) (out : List ℕ) (k : ℕ) → reply_says (written_answer x) ≡ yes k
+pub write-beyond-unchanged : (x : Reading (List ℕ)) (out : List ℕ) (k : ℕ) → written_answer x ≡ Ok k
     → drop k (written_leaves x out) ≡ drop k out
 write-beyond-unchanged = answers.written-beyond
 

@@ -3,6 +3,8 @@ use mathlib.Core.Path.{◌≡◌, refl, sym, ap, ap₂, subst, ◌∙◌}
 use mathlib.Core.List.{List, [], ◌∷◌}
 use Prim.Native.Nat.{ℕ}
 use lib.ListN.{length}
+use Rattle.std.specs.Prelude.{Result}
+use Rattle.zvt_rules.specs.declared.Refusal.{Refusal}
 use Rattle.desk_rules.specs.declared.Desk.{Desk}
 use Rattle.desk_rules.specs.Course.{lane_of}
 use Rattle.desk_rules.specs.Desk.{State, fresh, Accepted, run, wrote}
@@ -11,7 +13,6 @@ use Rattle.desk_rules.specs.Runs.{having, replies}
 use Rattle.desk_rules.proofs.Lanes.{accepts-any}
 use Rattle.desk_rules.proofs.Runs.{replies_to}
 use Rattle.desk_rules.proofs.Memory.{follows, fresh-valid, answer-valid, view-fresh}
-use Rattle.promises.specs.Answers.{Said}
 use Rattle.promises.specs.Days.{DeskTurn, calls_in, OfBytes, answer_in, Taken, desk_after, bytes_by, written_in, replies_at}
 use Rattle.promises.proofs.Answers.{decided-yes, call-wrote}
 
@@ -37,7 +38,7 @@ goes (x ∷ ts) d v b t =
       leaves = r.leaves ∙ ap (λ (s : State). run s (calls_in ts)) same;
       wrote_same =
           ap₂ (λ (w : List ℕ) (ws : List (List ℕ)). w ∷ ws)
-          (ap (λ (r : Said ℕ). bytes_by r (leaves_of d c x.out)) t.0.1 ∙ call-wrote d c x.out t.0.0 t.0.1)
+          (ap (λ (r : Result ℕ Refusal). bytes_by r (leaves_of d c x.out)) t.0.1 ∙ call-wrote d c x.out t.0.0 t.0.1)
           (r.wrote_same ∙ ap (λ (s : State). wrote s (calls_in ts)) same);
       fit = r.fit;
     }

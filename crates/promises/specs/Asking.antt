@@ -1,5 +1,6 @@
 -- What a case asks and answers, and how it is judged: by the definitions that the functions' contracts cite. Definitions only.
-use Rattle.std.specs.Prelude.{ℕ, ◌*◌, ◌+◌, Bool, List, [], ◌∷◌, ℤ, length, take, replicate}
+use Rattle.std.specs.Prelude.{ℕ, ◌*◌, ◌+◌, Bool, List, [], ◌∷◌, ℤ, length, take, replicate, Err, Ok, Result}
+use Rattle.zvt_rules.specs.declared.Refusal.{Refusal}
 use Rattle.zvt_rules.specs.Reading.{Reading, got, refused}
 use Rattle.zvt_rules.specs.Fields.{Field}
 use Rattle.zvt_rules.specs.Message.{Message, read_of}
@@ -12,7 +13,6 @@ use Rattle.desk_rules.specs.declared.Desk.{Desk}
 use Rattle.desk_rules.specs.Course.{Call}
 use Rattle.desk_rules.specs.Memory.{fresh_desk, lines_of_desk, answer_of, leaves_of}
 use Rattle.desk_rules.specs.Turnover.{net_of}
-use Rattle.promises.specs.Answers.{Said, no, yes, read_says, short_says, answer_says}
 use Rattle.promises.specs.Days.{buffer}
 
 -- ---- a row: what is asked, and what the rules answer
@@ -41,9 +41,9 @@ pub data CaseRow : Type 0 where
 -- ---- what the definitions answer
 
 -- a refusal by its number, wherever its place is, and values as a row states them
-unfoldable pub shown : {A : Type 0} → Said A → (A → CaseAnswer) → CaseAnswer
-shown (no r) f = refusal r.number
-shown (yes a) f = f a
+unfoldable pub shown : {A : Type 0} → Result A Refusal → (A → CaseAnswer) → CaseAnswer
+shown (Err r) f = refusal r.number
+shown (Ok a) f = f a
 
 abbrev pub message_shown : Outline → CaseAnswer
 message_shown m = accepted (m.class * 256 + m.instruction) m.length m.shortest m.objects
@@ -64,15 +64,15 @@ unfoldable pub after_day : Desk → List Call → (Desk → CaseAnswer) → Case
 after_day d [] ask = ask d
 after_day d (c ∷ cs) ask =
     let a = answer_of d c (length buffer) in
-    shown (answer_says a) λ k. after_day a.desk cs ask
+    shown a.reply λ k. after_day a.desk cs ask
 
 -- bytes are those first in the output, as many as were written
 unfoldable pub answer_to : Question → CaseAnswer
-answer_to (read s) = shown (read_says (read_answer s)) message_shown
+answer_to (read s) = shown (read_answer s) message_shown
 answer_to (list s) = list_shown (read_of (status s))
 answer_to (name s) = gives (card_name (status s) [])
-answer_to (short s) = shown (short_says (shorten_answer (length s) s)) λ k. gives (take k (shorten_leaves s (output s)))
-answer_to (call cs c) = after_day fresh_desk cs λ d. shown (answer_says (answer_of d c (length buffer))) λ k. gives (take k (leaves_of d c buffer))
+answer_to (short s) = shown (shorten_answer (length s) s) λ k. gives (take k (shorten_leaves s (output s)))
+answer_to (call cs c) = after_day fresh_desk cs λ d. shown (answer_of d c (length buffer)).reply λ k. gives (take k (leaves_of d c buffer))
 answer_to (day cs) = after_day fresh_desk cs λ d. book (lines_of_desk d) (net_of (lines_of_desk d))
 
 -- the answers that the definitions give to a table's rows, and those that stand in them

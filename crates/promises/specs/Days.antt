@@ -1,7 +1,8 @@
 -- A day at the desk: calls one after another, each with the buffer that it is lent, answered as the functions' contracts state.
 -- Definitions only.
-use Rattle.std.specs.Prelude.{◌≡◌, ℕ, List, [], ◌∷◌, length, take, replicate}
+use Rattle.std.specs.Prelude.{◌≡◌, ℕ, List, [], ◌∷◌, length, take, replicate, Err, Ok, Result}
 use Rattle.basics.specs.Choice.{pick}
+use Rattle.zvt_rules.specs.declared.Refusal.{Refusal}
 use Rattle.desk_rules.specs.declared.Desk.{Desk}
 use Rattle.desk_rules.specs.declared.Answer.{Answer}
 use Rattle.desk_rules.specs.declared.Line.{Line}
@@ -10,7 +11,7 @@ use Rattle.desk_rules.specs.Course.{Call, lane_of, opens, NumbersFit}
 use Rattle.desk_rules.specs.Memory.{fresh_desk, lines_of_desk, answer_of, leaves_of}
 use Rattle.desk_rules.specs.Runs.{having, Exchange, replies}
 use Rattle.desk_rules.specs.Payments.{one_by_one}
-use Rattle.promises.specs.Answers.{Said, no, yes, Takes, answer_says}
+use Rattle.promises.specs.Answers.{Takes}
 
 -- a call, and what it is lent for its command or reply; a lost link needs none
 pub record DeskTurn : Type 0 where
@@ -36,7 +37,7 @@ answer_in d t = answer_of d t.call (length t.out)
 -- every call is taken
 unfoldable pub Taken : Desk → List DeskTurn → Type 0
 Taken d [] = Unit {0}
-Taken d (t ∷ ts) = Takes (answer_says (answer_in d t)) × Taken (answer_in d t).desk ts
+Taken d (t ∷ ts) = Takes (answer_in d t).reply × Taken (answer_in d t).desk ts
 
 -- the desk that is left
 unfoldable pub desk_after : Desk → List DeskTurn → Desk
@@ -44,13 +45,13 @@ desk_after d [] = d
 desk_after d (t ∷ ts) = desk_after (answer_in d t).desk ts
 
 -- and the bytes that each call wrote
-unfoldable pub bytes_by : Said ℕ → List ℕ → List ℕ
-bytes_by (yes k) out = take k out
-bytes_by (no r) out = []
+unfoldable pub bytes_by : Result ℕ Refusal → List ℕ → List ℕ
+bytes_by (Ok k) out = take k out
+bytes_by (Err r) out = []
 
 unfoldable pub written_in : Desk → List DeskTurn → List (List ℕ)
 written_in d [] = []
-written_in d (t ∷ ts) = bytes_by (answer_says (answer_in d t)) (leaves_of d t.call t.out) ∷ written_in (answer_in d t).desk ts
+written_in d (t ∷ ts) = bytes_by (answer_in d t).reply (leaves_of d t.call t.out) ∷ written_in (answer_in d t).desk ts
 
 -- the openings among calls, and the first calls of payments
 unfoldable pub openings_in : List Call → List Call

@@ -1,5 +1,5 @@
--- What the promises speak of, beside the rules' second writing in the crates below: the cases and how they are judged; what an answer
--- says, which bytes count a line, that a function's calls end, and what one answer of it is; a day at the desk, and one with its
+-- What the promises speak of, beside the rules' second writing in the crates below: the cases and how they are judged; what is
+-- said of answers, which bytes count a line, that a function's calls end, and what one answer of it is; a day at the desk, and one with its
 -- tape; a tape that was torn off, and what comes back of its day.
 pub mod Cases
 pub mod Asking

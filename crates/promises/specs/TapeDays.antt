@@ -1,11 +1,10 @@
 -- A day on a desk with its tape: its turns, the day of the desk alone, its closing; and days that differ only in what must not be on a tape.
 -- T15: "A password is recorded as three zero bytes." T16: "Each byte of the value of fields 22, 23, 24 and 2D of a list is recorded as EE".
 -- Definitions only.
-use Rattle.std.specs.Prelude.{◌≡◌, ◌⊎◌, ℕ, ◌+◌, ◌*◌, ◌<◌, ◌≤◌, List, [], ◌∷◌, length}
+use Rattle.std.specs.Prelude.{◌≡◌, ◌⊎◌, ℕ, ◌+◌, ◌*◌, ◌<◌, ◌≤◌, List, [], ◌∷◌, length, Err, Ok}
 use Rattle.zvt_rules.specs.Reading.{unplaced}
 use Rattle.basics.specs.believed.Lists.{Bytes}
 use Rattle.desk_rules.specs.declared.Desk.{Desk}
-use Rattle.desk_rules.specs.declared.Reply.TheVariants.{Written, Refused}
 use Rattle.desk_rules.specs.declared.Opening.{Opening}
 use Rattle.desk_rules.specs.declared.Opening.TheVariants.{Refund as refund, Reversal as reversal}
 use Rattle.desk_rules.specs.Course.{Call, opening, message, NumbersFit}
@@ -42,9 +41,9 @@ pub record DeskAlone (calls : List Call) (desk : Desk) : Type 0 where
 -- R19: "a payment is open at closing". T22: "Closing says how many blocks the day's tape has and how many bytes they hold, and begins a new,
 -- empty one.": what is answered, and left
 pub data ClosedRow (t : Taped) : ClosedAnswer → Type 0 where
-  still_open : Open t.desk → ClosedRow t (record { reply = Refused (unplaced 19); blocks = 0; bytes = 0; taped = t })
+  still_open : Open t.desk → ClosedRow t (record { reply = Err (unplaced 19); blocks = 0; bytes = 0; taped = t })
   all_ended : {blocks bytes : ℕ} → (Open t.desk → ⊥) → bytes ≡ t.tail.full * 504 + t.tail.used → bytes ≤ blocks * 504
-      → blocks * 504 < bytes + 504 → ClosedRow t (record { reply = Written 0; blocks = blocks; bytes = bytes; taped = fresh_taped })
+      → blocks * 504 < bytes + 504 → ClosedRow t (record { reply = Ok 0; blocks = blocks; bytes = bytes; taped = fresh_taped })
 
 -- records that hold no bytes, as of a lost link, or a message in which nothing is left to hide: it would be recorded as it is
 unfoldable pub Hiding : List Record → Type 0

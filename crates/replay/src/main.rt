@@ -17,8 +17,7 @@ fn print(input: &mut [u8]) {
     }
     let mut text = [0u8; desks::BOOK];
     let r = replaying::replay(&input[..n]);
-    let ending = r.ending;
-    let size = desks::replayed(r.desk, r.place, ending, &mut text);
+    let size = desks::replayed(r.desk, r.place, r.ending, &mut text);
     io::write_all(STDOUT_FILENO, &text[..size]);
 }
 

@@ -2,11 +2,10 @@
 // one starts with a fresh desk. The word `added`, in a line or in an answer, stands for the bytes that the lines `add` put together.
 ghost use Rattle.tape_rules.specs.Recording.{ValidTaped};
 
+use crate::calls::Rooms;
 use crate::turns::{BYTES, TEXT, Turn};
 use crate::{files, turns};
 use buffers::upto;
-use check::same;
-use std::num::wrapping_add_u64;
 use system::STDOUT_FILENO;
 use words::Script;
 
@@ -29,14 +28,7 @@ struct Spot {
 const LINE: usize = BYTES * 2 + 256;
 
 // The next line of a file. One that is blank ends a case, and behind it stands a fresh desk.
-fn passed(
-    turn: Turn,
-    s: &[u8],
-    file: &mut [u8],
-    room: &mut [u8],
-    added: &mut [u8],
-    out: &mut [u8],
-) -> Turn
+fn passed(turn: Turn, s: &[u8], rooms: &mut Rooms) -> Turn
     requires { ValidTaped turn.taped }
     ensures { ValidTaped result.taped }
 {
@@ -44,30 +36,30 @@ fn passed(
         return turns::fresh(true);
     }
     let mut full = [0u8; LINE];
-    let at = turn.at;
-    let n = files::full_line(s, at.added, added, &mut full);
-    turns::line(turn, &full[..n], file, room, added, out)
+    let n = files::full_line(s, turn.at.added, rooms.added, &mut full);
+    turns::line(turn, &full[..n], rooms)
 }
 
 // An answer is compared with what the file has for it, counted, and told where it differs.
 fn told(tally: Tally, name: &[u8], spot: Spot, text: &[u8], want: &[u8]) -> Tally {
     let n = upto(spot.size, text);
     let m = upto(spot.due, want);
-    let mut t = tally;
     if n == 0 && m == 0 {
-        return t;
+        return tally;
     }
-    t.answers = wrapping_add_u64(t.answers, 1);
-    if same(&text[..n], &want[..m]) {
-        return t;
+    let answers = tally.answers.wrapping_add(1);
+    if text[..n] == want[..m] {
+        return Tally { answers, ..tally };
     }
-    t.differ = wrapping_add_u64(t.differ, 1);
     io::write_all(STDOUT_FILENO, name);
     io::write_all(STDOUT_FILENO, b" line ");
     io::print_decimal(STDOUT_FILENO, spot.number);
     io::write_all(STDOUT_FILENO, b" answers\n");
     io::write_all(STDOUT_FILENO, &text[..n]);
-    t
+    Tally {
+        answers,
+        differ: tally.differ.wrapping_add(1),
+    }
 }
 
 // Plays the cases of the file s. What is answered otherwise than the file says goes to standard output, with the file's name and the line.
@@ -77,22 +69,17 @@ pub fn check(name: &[u8], s: &[u8]) -> Tally {
     let mut added = [0u8; BYTES];
     let mut want = [0u8; TEXT];
     let mut text = [0u8; TEXT];
-    check_in(
-        name, s, &mut file, &mut room, &mut added, &mut want, &mut text,
-    )
+    let mut rooms = Rooms {
+        file: &mut file,
+        room: &mut room,
+        added: &mut added,
+        text: &mut text,
+    };
+    check_in(name, s, &mut rooms, &mut want)
 }
 
-// The same with buffers for the tape's file, for what a call writes, for the bytes added, and for the text of an answer as it should be
-// and as it is.
-fn check_in(
-    name: &[u8],
-    s: &[u8],
-    file: &mut [u8],
-    room: &mut [u8],
-    added: &mut [u8],
-    want: &mut [u8],
-    text: &mut [u8],
-) -> Tally {
+// The same with these buffers, and with one for the text of an answer as it should be.
+fn check_in(name: &[u8], s: &[u8], rooms: &mut Rooms, want: &mut [u8]) -> Tally {
     let mut turn = turns::fresh(true);
     let mut tally = Tally {
         answers: 0,
@@ -100,18 +87,17 @@ fn check_in(
     };
     let mut number: u64 = 1;
     let mut from: usize = 0;
+    // A line, and the answers behind it: no iterator steps so.
     while from < s.len() {
-        let at = turn.at;
-        let e = files::next_of(from, s, at.added, added, want);
-        let end = e.end;
-        turn = passed(turn, &s[from..end], file, room, added, text);
+        let e = files::next_of(from, s, turn.at.added, rooms.added, want);
+        turn = passed(turn, &s[from..e.end], rooms);
         let spot = Spot {
             number,
             size: turn.size,
             due: e.due,
         };
-        tally = told(tally, name, spot, text, want);
-        number = wrapping_add_u64(number, e.lines);
+        tally = told(tally, name, spot, rooms.text, want);
+        number = number.wrapping_add(e.lines);
         from = e.next;
     }
     tally

@@ -1,45 +1,23 @@
 // What becomes of bytes that are changed: a message with every value for one of its bytes, a block with every change of a digit.
-ghost use Rattle.std.specs.Prelude.{◌≡◌, ◌<◌, ◌≤◌, length};
+ghost use Rattle.std.specs.Prelude.{◌≡◌, ◌<◌, length};
 
 use buffers::{add, add_all, add_decimal, add_hex};
 use printing::answers;
-use tape_rules::{Block, BlockAnswer};
-use zvt_rules::{ReadAnswer, Refusal};
+use tape_rules::Block;
+use zvt_rules::Refusal;
 
 // 1,024 digits of a block, each with 15 other values; so many changes of one byte.
 const CHANGES: usize = 15360;
 
 const OF_BYTE: usize = 30;
 
-// What reading bytes comes to.
-#[derive(Clone, Copy)]
-enum Verdict {
-    Accepted,
-    Refused(u8),
-}
-
-// What reading s comes to with that value for its byte at place.
-fn judged_with(value: u8, place: usize, s: &mut [u8]) -> Verdict
+// What reading s comes to with that value for its byte at place: accepted, or the number of its refusal.
+fn judged_with(value: u8, place: usize, s: &mut [u8]) -> Result<(), u8>
     requires { place < length s.old }
 {
     s[place] = value;
-    match zvt::read(s) {
-        ReadAnswer::Refused(f) => Verdict::Refused(f.number),
-        ReadAnswer::Accepted(_) => Verdict::Accepted,
-    }
-}
-
-fn agree(a: Verdict, b: Verdict) -> bool {
-    match a {
-        Verdict::Accepted => match b {
-            Verdict::Accepted => true,
-            Verdict::Refused(_) => false,
-        },
-        Verdict::Refused(n) => match b {
-            Verdict::Accepted => false,
-            Verdict::Refused(m) => n == m,
-        },
-    }
+    zvt::read(s).map_err(|f| f.number)?;
+    Ok(())
 }
 
 fn add_span(first: u8, last: u8, at: usize, out: &mut [u8]) -> usize {
@@ -52,11 +30,11 @@ fn add_span(first: u8, last: u8, at: usize, out: &mut [u8]) -> usize {
 }
 
 // The values from first up to last, which all came to the same.
-fn add_range(first: u8, last: u8, v: Verdict, at: usize, out: &mut [u8]) -> usize {
+fn add_range(first: u8, last: u8, v: Result<(), u8>, at: usize, out: &mut [u8]) -> usize {
     let to = add_span(first, last, at, out);
     match v {
-        Verdict::Accepted => add_all(b":ok", to, out),
-        Verdict::Refused(n) => {
+        Ok(()) => add_all(b":ok", to, out),
+        Err(n) => {
             let end = add(b':', to, out);
             add_decimal(n as u64, end, out)
         }
@@ -70,20 +48,17 @@ pub(crate) fn each(place: usize, s: &mut [u8], out: &mut [u8]) -> usize {
     }
     let mut to: usize = 0;
     let mut first: u8 = 0;
-    let mut value: u8 = 0;
     let mut v = judged_with(0, place, s);
-    while value < 255 {
-        let last = value;
-        value += 1;
+    for value in 1..=u8::MAX {
         let next = judged_with(value, place, s);
-        if !agree(v, next) {
-            to = add_range(first, last, v, to, out);
+        if next != v {
+            to = add_range(first, value - 1, v, to, out);
             to = add(b' ', to, out);
             first = value;
             v = next;
         }
     }
-    to = add_range(first, value, v, to, out);
+    to = add_range(first, u8::MAX, v, to, out);
     add(b'\n', to, out)
 }
 
@@ -99,19 +74,9 @@ fn changed(b: u8, k: u8) -> u8
     high * 16 + (low + k - 14) % 16
 }
 
-// 1 where reading the block is refused with 20, else 0.
-fn seen_in(due: Block, s: &[u8]) -> u64
-    ensures { result ≤ 1 }
-{
-    match tape::read_block(due, s) {
-        BlockAnswer::Payload(_) => 0,
-        BlockAnswer::Refused(f) => {
-            if f.number == Refusal::WRONG_CHECK {
-                return 1;
-            }
-            0
-        }
-    }
+// Whether reading the block is refused with 20.
+fn is_seen(due: Block, s: &[u8]) -> bool {
+    tape::read_block(due, s).is_err_and(|f| f.number == Refusal::WRONG_CHECK)
 }
 
 // How many changes of one digit of a block are refused with 20. The block is then what it was.
@@ -119,14 +84,12 @@ fn seen_of(due: Block, s: &mut [u8]) -> u64
     requires { length s.old ≡ 512 }
 {
     let mut seen: u64 = 0;
-    let mut i: usize = 0;
-    while i < CHANGES {
+    for i in 0..CHANGES {
         let at = i / OF_BYTE;
         let was = s[at];
         s[at] = changed(was, (i % OF_BYTE) as u8);
-        seen += seen_in(due, s);
+        seen += is_seen(due, s) as u64;
         s[at] = was;
-        i += 1;
     }
     seen
 }

@@ -4,8 +4,6 @@ ghost use Rattle.std.specs.Prelude.{◌≡◌, ◌+◌, ◌<◌, ◌≤◌, min,
 ghost use Rattle.io.specs.Counts.{IsPrefixLen};
 
 use buffers::{add, add_all, add_bytes, upto};
-use check::same;
-use std::num::wrapping_add_u64;
 
 // The answer that a file has for a line: where it ends in the file, on how many lines it stands, and how long its text is.
 #[derive(Clone, Copy)]
@@ -30,32 +28,25 @@ pub(crate) fn behind(end: usize, s: &[u8]) -> usize
     requires { end ≤ length s.now }
     ensures { result ≡ min (end + 1) (length s.now) }
 {
-    if end == s.len() {
-        return end;
-    }
-    end + 1
+    (end + 1).min(s.len())
 }
 
 // The word w; for `added` the digits of these bytes.
 fn add_word(w: &[u8], bytes: &[u8], at: usize, out: &mut [u8]) -> usize {
-    if same(w, b"added") {
-        return add_bytes(bytes, at, out);
+    match w {
+        b"added" => add_bytes(bytes, at, out),
+        _ => add_all(w, at, out),
     }
-    add_all(w, at, out)
 }
 
 // The line s with the digits of these bytes for each word `added`, as text behind the first at bytes of out.
 fn add_expanded(s: &[u8], bytes: &[u8], at: usize, out: &mut [u8]) -> usize {
     let mut to = at;
-    let mut from: usize = 0;
-    while from < s.len() {
-        let end = buffers::find(s, from, b' ');
-        to = add_word(&s[from..end], bytes, to, out);
-        if end == s.len() {
-            return to;
+    for (k, word) in s.split(|b| *b == b' ').enumerate() {
+        if 0 < k {
+            to = add(b' ', to, out);
         }
-        to = add(b' ', to, out);
-        from = end + 1;
+        to = add_word(word, bytes, to, out);
     }
     to
 }
@@ -68,19 +59,15 @@ fn wants(at: usize, s: &[u8], bytes: &[u8], out: &mut [u8]) -> Wanted
     let mut size: usize = 0;
     let mut lines: u64 = 0;
     let mut from = at;
+    // Where the answers end is asked for, too, and an iterator of lines does not say it.
     while from < s.len() {
         let end = buffers::find(s, from, b'\n');
-        if end - from < 2 || s[from] != b'=' {
-            return Wanted {
-                end: from,
-                lines,
-                size,
-            };
-        }
-        let start = from + 2;
-        size = add_expanded(&s[start..end], bytes, size, out);
+        let [b'=', _, answer @ ..] = &s[from..end] else {
+            break;
+        };
+        size = add_expanded(answer, bytes, size, out);
         size = add(b'\n', size, out);
-        lines = wrapping_add_u64(lines, 1);
+        lines = lines.wrapping_add(1);
         from = behind(end, s);
     }
     Wanted {
@@ -102,7 +89,7 @@ pub(crate) fn next_of(from: usize, s: &[u8], count: usize, added: &[u8], want: &
         end,
         due: w.size,
         next: w.end,
-        lines: wrapping_add_u64(w.lines, 1),
+        lines: w.lines.wrapping_add(1),
     }
 }
 

@@ -11,6 +11,7 @@ mod standing;
 mod taping;
 mod turns;
 
+use crate::calls::Rooms;
 use buffers::upto;
 use system::STDOUT_FILENO;
 use words::Script;
@@ -28,18 +29,21 @@ pub fn play(script: &[u8]) {
     let mut room = [0u8; Script::ROOM];
     let mut added = [0u8; 1];
     let mut text = [0u8; turns::TEXT];
-    play_in(script, &mut file, &mut room, &mut added, &mut text);
+    let mut rooms = Rooms {
+        file: &mut file,
+        room: &mut room,
+        added: &mut added,
+        text: &mut text,
+    };
+    play_in(script, &mut rooms);
 }
 
-// The same with buffers for the tape's file, for what a call writes, for added bytes and for the text of an answer.
-fn play_in(script: &[u8], file: &mut [u8], room: &mut [u8], added: &mut [u8], text: &mut [u8]) {
+// The same with these buffers. Behind the last line end stands one line more, which is blank and has no answer.
+fn play_in(script: &[u8], rooms: &mut Rooms) {
     let mut turn = turns::fresh(false);
-    let mut from: usize = 0;
-    while from < script.len() {
-        let to = buffers::find(script, from, b'\n');
-        turn = turns::line(turn, &script[from..to], file, room, added, text);
-        let end = upto(turn.size, text);
-        io::write_all(STDOUT_FILENO, &text[..end]);
-        from = files::behind(to, script);
+    for s in script.split(|b| *b == b'\n') {
+        turn = turns::line(turn, s, rooms);
+        let end = upto(turn.size, rooms.text);
+        io::write_all(STDOUT_FILENO, &rooms.text[..end]);
     }
 }

@@ -1,13 +1,11 @@
 // What a line does to a desk with its tape, and its answer.
-ghost use Rattle.std.specs.Prelude.{◌≤◌, length};
 ghost use Rattle.tape_rules.specs.Recording.{ValidTaped};
 
-use crate::calls::{BYTE, at_most, opening_of};
+use crate::calls::{Rooms, at_most, opening_of};
 use crate::plain;
 use crate::taping::{open_at, tape_in};
 use buffers::{fill, upto};
 use printing::{answers, desks};
-use std::num::wrapping_add_u64;
 use tape_rules::{Taped, TapedAnswer};
 use words::{Order, Script, What, order_of};
 
@@ -45,33 +43,29 @@ fn made(taped: Taped, o: Order, s: &[u8], lent: &mut [u8], file: &mut [u8]) -> T
     requires { ValidTaped taped }
     ensures { ValidTaped result.taped }
 {
-    let what = o.what;
-    let lane = at_most(o.first, BYTE) as u8;
+    let lane = at_most(o.first, u8::MAX);
     let at = open_at(taped.tail, file);
-    let room = &mut file[at..];
-    match what {
-        What::Terminal => tape::terminal(taped, lane, s, lent, room),
-        What::Lost => tape::link_lost(taped, lane, room),
-        _ => tape::open(taped, lane, opening_of(o), lent, room),
+    let blocks = &mut file[at..];
+    match o.what {
+        What::Terminal => tape::terminal(taped, lane, s, lent, blocks),
+        What::Lost => tape::link_lost(taped, lane, blocks),
+        _ => tape::open(taped, lane, opening_of(o), lent, blocks),
     }
 }
 
 // The call and its answer, with so much of the room lent as the script says.
-fn call(turn: Turn, o: Order, s: &[u8], file: &mut [u8], room: &mut [u8], out: &mut [u8]) -> Turn
+fn call(turn: Turn, o: Order, s: &[u8], rooms: &mut Rooms) -> Turn
     requires { ValidTaped turn.taped }
     ensures { ValidTaped result.taped }
 {
-    let at = turn.at;
-    let n = upto(at.room, room);
-    let part = &mut room[..n];
-    fill(part, answers::BLANK);
-    let a = made(turn.taped, o, s, part, file);
-    let r = a.reply;
-    let taped = a.taped;
+    let n = upto(turn.at.room, rooms.room);
+    let lent = &mut rooms.room[..n];
+    fill(lent, answers::BLANK);
+    let a = made(turn.taped, o, s, lent, rooms.file);
     Turn {
-        taped,
-        at,
-        size: answers::reply(r, part, out),
+        taped: a.taped,
+        size: answers::reply(a.reply, lent, rooms.text),
+        ..turn
     }
 }
 
@@ -80,19 +74,17 @@ fn closed(turn: Turn, out: &mut [u8]) -> Turn
     requires { ValidTaped turn.taped }
     ensures { ValidTaped result.taped }
 {
-    let at = turn.at;
     let a = tape::close(turn.taped);
-    let r = a.reply;
-    let taped = a.taped;
     Turn {
-        taped,
-        at,
-        size: answers::reply(r, b"", out),
+        taped: a.taped,
+        size: answers::reply(a.reply, b"", out),
+        ..turn
     }
 }
 
-// What is asked about the desk: the book, the lanes, the net turnover; or about its tape: what a replay of it gives, or its blocks.
-fn question(taped: Taped, what: What, file: &[u8], out: &mut [u8]) -> usize
+// What is asked about the desk: the book, the lanes, the net turnover; or about its tape: what a replay of it gives, or its blocks. The
+// file is only read, but lent as each of the rooms is that is lent beside another.
+fn question(taped: Taped, what: What, file: &mut [u8], out: &mut [u8]) -> usize
     requires { ValidTaped taped }
 {
     let desk = taped.desk;
@@ -106,73 +98,52 @@ fn question(taped: Taped, what: What, file: &[u8], out: &mut [u8]) -> usize
 }
 
 // A question leaves all as it is.
-fn asked(turn: Turn, what: What, file: &[u8], out: &mut [u8]) -> Turn
+fn asked(turn: Turn, what: What, rooms: &mut Rooms) -> Turn
     requires { ValidTaped turn.taped }
     ensures { ValidTaped result.taped }
 {
-    let mut after = turn;
-    after.size = question(turn.taped, what, file, out);
-    after
-}
-
-// A line that leaves the desk alone.
-fn aside(turn: Turn, o: Order, bytes: &mut [u8], added: &mut [u8], out: &mut [u8]) -> Turn
-    requires { ValidTaped turn.taped × (o.size ≤ o.end) × (o.end ≤ length bytes.old) }
-    ensures { ValidTaped result.taped }
-{
-    let said = plain::answered(turn.at, o, bytes, added, out);
-    let taped = turn.taped;
-    let at = said.at;
     Turn {
-        taped,
-        at,
-        size: said.size,
+        size: question(turn.taped, what, rooms.file, rooms.text),
+        ..turn
     }
 }
 
-// What a line with this order does; its bytes stand at the start of bytes.
-fn done(
-    turn: Turn,
-    o: Order,
-    bytes: &mut [u8],
-    file: &mut [u8],
-    room: &mut [u8],
-    added: &mut [u8],
-    out: &mut [u8],
-) -> Turn
-    requires { ValidTaped turn.taped × (o.size ≤ o.end) × (o.end ≤ length bytes.old) }
+// A line that leaves the desk alone.
+fn aside(turn: Turn, o: Order, s: &mut [u8], name: &[u8], rooms: &mut Rooms) -> Turn
+    requires { ValidTaped turn.taped }
     ensures { ValidTaped result.taped }
 {
-    let what = o.what;
-    let size = o.size;
-    match what {
+    let (at, size) = plain::answered(turn.at, o, s, name, rooms);
+    Turn { at, size, ..turn }
+}
+
+// What a line with this order does, with the bytes of its message and the till's own name.
+fn done(turn: Turn, o: Order, s: &mut [u8], name: &[u8], rooms: &mut Rooms) -> Turn
+    requires { ValidTaped turn.taped }
+    ensures { ValidTaped result.taped }
+{
+    match o.what {
         What::Sale | What::Refund | What::Reversal | What::Terminal | What::Lost => {
-            call(turn, o, &bytes[..size], file, room, out)
+            call(turn, o, s, rooms)
         }
-        What::Close => closed(turn, out),
+        What::Close => closed(turn, rooms.text),
         What::Book | What::Lanes | What::Net | What::Tape | What::Replay => {
-            asked(turn, what, file, out)
+            asked(turn, o.what, rooms)
         }
-        _ => aside(turn, o, bytes, added, out),
+        _ => aside(turn, o, s, name, rooms),
     }
 }
 
 // The next line of a script.
-pub(crate) fn line(
-    turn: Turn,
-    s: &[u8],
-    file: &mut [u8],
-    room: &mut [u8],
-    added: &mut [u8],
-    out: &mut [u8],
-) -> Turn
+pub(crate) fn line(turn: Turn, s: &[u8], rooms: &mut Rooms) -> Turn
     requires { ValidTaped turn.taped }
     ensures { ValidTaped result.taped }
 {
     let mut bytes = [0u8; BYTES];
-    let number = wrapping_add_u64(turn.at.number, 1);
-    let mut begun = turn;
-    begun.at.number = number;
-    let o = order_of(begun.at, s, &mut bytes);
-    done(begun, o, &mut bytes, file, room, added, out)
+    let number = turn.at.number.wrapping_add(1);
+    let at = Script { number, ..turn.at };
+    let o = order_of(at, s, &mut bytes);
+    let (message, behind) = bytes.split_at_mut(o.size);
+    let name = &behind[..o.end - o.size];
+    done(Turn { at, ..turn }, o, message, name, rooms)
 }

@@ -1,7 +1,7 @@
 // A refusal told in words: the first that docs/RULES.md has for its number (R1 to R23), without the other rules named there. What to do
 // next is said in docs/REFUSALS.md.
 use system::STDERR_FILENO;
-use zvt_rules::{Place, Refusal};
+use zvt_rules::Refusal;
 
 fn say(text: &[u8]) {
     io::write_all(STDERR_FILENO, text);
@@ -47,8 +47,7 @@ fn say_meaning(number: u8) {
 pub fn tell(r: Refusal) {
     say(b"shop: refused ");
     io::print_decimal(STDERR_FILENO, r.number as u64);
-    let place = r.place;
-    if let Place::At(p) = place {
+    if let Some(p) = r.place {
         say(b" at ");
         io::print_decimal(STDERR_FILENO, p as u64);
     }

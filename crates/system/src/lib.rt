@@ -28,21 +28,15 @@ const MOST_SAID: usize = 128;
 // Whether there is an argument of that number; one that does not fit is there, too.
 fn is_there(rt: &impl Env, k: usize) -> bool {
     let mut first = [0u8; 1];
-    match rt.arg(k, &mut first) {
-        Err(FillError::NotPresent) => false,
-        _ => true,
-    }
+    !matches!(rt.arg(k, &mut first), Err(FillError::NotPresent))
 }
 
 // How many arguments the program was started with, its own name among them.
 pub fn arg_count(rt: &impl Env) -> usize {
-    for k in 0..usize::MAX {
-        if !is_there(rt, k) {
-            return k;
-        }
-    }
-    // No program has so many.
-    usize::MAX
+    // No program has so many that none is missing.
+    (0..usize::MAX)
+        .find(|k| !is_there(rt, *k))
+        .unwrap_or(usize::MAX)
 }
 
 // A path as std takes it: bytes that are no UTF-8 name no file.
@@ -50,10 +44,7 @@ fn name(path: &[u8]) -> Result<&str, Error>
     ensures valid { IsOk result ↔ IsUtf8 path.now }
     ensures same { IfOk result (λ s. s.now ≡ path.now) }
 {
-    match from_utf8(path) {
-        Ok(s) => Ok(s),
-        Err(_) => Err(Error::from_raw_os_error(EILSEQ)),
-    }
+    from_utf8(path).map_err(|_| Error::from_raw_os_error(EILSEQ))
 }
 
 // Opens the file for reading.
@@ -82,10 +73,8 @@ pub fn unlink(rt: &impl Files, path: &[u8]) -> Result<(), Error>
 
 // The system's words, without the number that std puts behind them.
 fn words(said: &str) -> &str {
-    match said.split_once(" (os error ") {
-        Some((words, _)) => words,
-        None => said,
-    }
+    said.split_once(" (os error ")
+        .map_or(said, |(words, _)| words)
 }
 
 // Writes a line to standard error: what failed, as the caller names it, a colon and the words for the error.

@@ -4,7 +4,6 @@
 
 use script::cases::Tally;
 use std::fs::File;
-use std::num::wrapping_add_u64;
 use std::os::fd::AsRawFd;
 use std::rt::{Env, Files};
 use system::STDOUT_FILENO;
@@ -38,13 +37,11 @@ fn files(rt: &(impl Env + Files<File = File>), count: usize) -> Tally {
     let mut path = io::buffer();
     let mut answers: u64 = 0;
     let mut differ: u64 = 0;
-    let mut k: usize = 1;
-    while k < count {
+    for k in 1..count {
         let n = rt.arg(k, &mut path).unwrap_or(0);
         let t = file(rt, &path[..n]);
-        answers = wrapping_add_u64(answers, t.answers);
-        differ = wrapping_add_u64(differ, t.differ);
-        k += 1;
+        answers = answers.wrapping_add(t.answers);
+        differ = differ.wrapping_add(t.differ);
     }
     Tally { answers, differ }
 }

@@ -1,5 +1,4 @@
--- The laws of words, of numbers and bytes, of shapes and of lines.
+-- The laws of words, of numbers and bytes, and of shapes.
 pub mod SplitLaws
 pub mod NotationLaws
 pub mod ShapeLaws
-pub mod LineLaws

@@ -1,43 +1,51 @@
--- Laws of the shapes of lines: a table of words and one of shapes, row by row. Assumes nothing.
-use mathlib.Core.Path.{◌≡◌, refl}
-use mathlib.Core.List.{List, [], ◌∷◌, ◌++◌, map}
-use Prim.Native.Nat.{ℕ, suc, ◌≤◌, ◌<◌}
-use native.Mathlib.Omega.{arith}
-use lib.ListN.{length, get_or}
+-- Laws of the shapes of lines: a word of a table of the code. Assumes nothing.
+use Rattle.std.proofs.Common.{◌≡◌, ◌∙◌, ℕ, Bool, List, [], ◌∷◌, ◌++◌, refl, ap}
+use Rattle.std.specs.Prelude.{Option, Some, None}
+use Rattle.std.specs.Option.{option_map, unwrap_or}
+use Rattle.std.specs.List.{find}
+use Rattle.std.specs.Borrow.{Bor}
+use Rattle.std.specs.Str.{bytes_eq}
+use Rattle.basics.specs.Choice.{pick}
 use Rattle.basics.proofs.Tests.{by-test}
-use Rattle.words.specs.Split.{alike}
-use Rattle.words.specs.Shapes.{Row, shape_in}
-use Rattle.words.specs.Steps.{nth_in, shape}
+use Rattle.words.specs.Shapes.{Row, script_rows, case_rows, shape_of}
+use Rattle.words.specs.Shapes.{shape_in as shape_among}
+use Rattle.words.specs.Steps.{shape_in, rows}
+use Rattle.words.specs.declared.What.{What}
 use Rattle.words.specs.declared.What.TheVariants as what
-use Rattle.words.specs.declared.shapes.Shaped.{Shaped}
+use Rattle.words.specs.declared.shapes.Shape.{Shape}
 
-abbrev pub words_in : List Row → List (List ℕ)
-words_in rs = map (λ r. r.word) rs
+abbrev CodeRow : Type 0
+CodeRow = Bor (List ℕ) × What × ℕ × ℕ × ℕ
 
--- the table of the code
-abbrev pub shaped_in : List Row → List Shaped
-shaped_in rs = map (λ r. (r.shape.what, r.shape.numbers, r.shape.runs, r.shape.ids)) rs
+abbrev pub shaped : CodeRow → Shape
+shaped (word, w, numbers, runs, ids) = record { what = w; numbers = numbers; runs = runs; ids = ids }
 
-abbrev pub no_shape : Shaped
-no_shape = (what.Bad, 0, 0, 0)
+first_row : (table : List CodeRow) (name : List ℕ) → option_map shaped (find (λ r. bytes_eq r.0.now name) table) ≡ shape_in (rows table) name
+unfolding shape_in
+first_row [] name = refl
+first_row ((word, w, numbers, runs, ids) ∷ rs) name =
+    by-test (bytes_eq word.now name) (λ t. rw t) (λ t. rw t (first_row rs name))
 
-in_table : (rs more : List Row) (name : List ℕ) → nth_in (words_in rs) name < length rs
-    → shape (get_or (shaped_in rs) (nth_in (words_in rs) name) no_shape) ≡ shape_in (rs ++ more) name
-unfolding nth_in shape_in
-in_table [] more name h = absurd (omega arith)
-in_table (r ∷ rs) more name h =
-    by-test (alike r.word name) (λ t. rw t)
-    (λ t. let less : suc (nth_in (words_in rs) name) < length (r ∷ rs) = rw t at h in rw t (in_table rs more name (omega arith)))
+-- what the code's search found
+pub found : (table : List CodeRow) (name : List ℕ) (r : Option (Bor CodeRow))
+    → option_map (λ x. x.now) r ≡ find (λ r. bytes_eq r.0.now name) table → option_map (λ x. shaped x.now) r ≡ shape_in (rows table) name
+found table name None e = ap (option_map shaped) e ∙ first_row table name
+found table name (Some x) e = ap (option_map shaped) e ∙ first_row table name
 
--- a word of the table, and one that is none of its words
-pub known : (rs more : List Row) (name : List ℕ) (k : ℕ) → k ≡ nth_in (words_in rs) name → k < length rs
-    → shape (get_or (shaped_in rs) k no_shape) ≡ shape_in (rs ++ more) name
-known rs more name k p h = rw p (in_table rs more name (rw p at h))
+abbrev bad : Shape
+bad = record { what = what.Bad; numbers = 0; runs = 0; ids = 0 }
 
-pub unknown : (rs more : List Row) (name : List ℕ) (k : ℕ) → k ≡ nth_in (words_in rs) name → length rs ≤ k
-    → shape_in (rs ++ more) name ≡ shape_in more name
-unfolding nth_in shape_in
-unknown [] more name k p h = refl
-unknown (r ∷ rs) more name k p h =
-    by-test (alike r.word name) (λ t. let z : k ≡ 0 = rw t at p in absurd (omega arith))
-    (λ t. let s : k ≡ suc (nth_in (words_in rs) name) = rw t at p in rw t (unknown rs more name _ refl (omega arith)))
+-- a table, and others behind it
+or_else : (rs more : List Row) (name : List ℕ) → shape_among (rs ++ more) name ≡ unwrap_or (shape_in rs name) (shape_among more name)
+unfolding shape_in shape_among
+or_else [] more name = refl
+or_else (r ∷ rs) more name = by-test (bytes_eq r.word name) (λ t. rw t) (λ t. rw t (or_else rs more name))
+
+-- the words of a script come before the further words
+pub script_first : (further : Bool) (name : List ℕ) → shape_of further name ≡ unwrap_or (shape_in script_rows name) (shape_among (pick further case_rows []) name)
+unfolding shape_of
+script_first further name = or_else script_rows (pick further case_rows []) name
+
+pub cases_alone : (name : List ℕ) → shape_among case_rows name ≡ unwrap_or (shape_in case_rows name) bad
+unfolding shape_among
+cases_alone name = or_else case_rows [] name

@@ -1,12 +1,13 @@
 -- What a line asks for: its order, and its bytes. Definitions only.
-use Rattle.std.specs.Prelude.{ℕ, ◌+◌, ◌≡◌, Bool, true, not, ◌||◌, List, [], ◌∷◌, ◌++◌, length, leb, ltb, eqb}
-use Rattle.std.proofs.Math.Option.{Option, none, some}
+use Rattle.std.specs.Prelude.{ℕ, ◌+◌, ◌≡◌, Bool, true, not, ◌||◌, List, [], ◌∷◌, ◌++◌, length, leb, ltb, eqb, Option, Some, None}
 use Rattle.basics.specs.Choice.{pick}
 use Rattle.basics.specs.Buffers.{front}
 use Rattle.words.specs.Split.{following, word_of}
 use Rattle.words.specs.Notation.{word_number, bytes_of, id_of}
-use Rattle.words.specs.Shapes.{Shape, shape_of}
+use Rattle.words.specs.Shapes.{shape_of}
 use Rattle.words.specs.declared.Script.{Script}
+use Rattle.words.specs.declared.Values.{Values}
+use Rattle.words.specs.declared.shapes.Shape.{Shape}
 use Rattle.words.specs.declared.What.{What}
 use Rattle.words.specs.declared.What.TheVariants as what
 use Rattle.words.specs.declared.Order.{Order}
@@ -17,34 +18,29 @@ begun further = record { further = further; more = true; room = 4101; number = 0
 
 -- what is out of form in a part is out of form as a whole
 unfoldable pub if_some : {A B : Type 0} → Option A → (A → Option B) → Option B
-if_some none f = none
-if_some (some a) f = f a
+if_some None f = None
+if_some (Some a) f = f a
 
 -- ---- numbers
 
 -- number k of a line that has so many; 0 where there is none
 unfoldable pub number_at : ℕ → ℕ → List ℕ → Option ℕ
-number_at numbers k s = pick (ltb numbers k) (some 0) (word_number (word_of k s))
+number_at numbers k s = pick (ltb numbers k) (Some 0) (word_number (word_of k s))
 
 -- the first number, or the id, the last word of its line
 unfoldable pub first_number : Shape → List ℕ → Option ℕ
 first_number f s = pick (eqb f.ids 0) (number_at f.numbers 1 s) (id_of (word_of (following s) s))
 
-pub record Values : Type 0 where
-  pub first : ℕ
-  pub second : ℕ
-  pub third : ℕ
-
 unfoldable pub values_of : Shape → List ℕ → Option Values
 values_of f s =
     if_some (first_number f s) λ first. if_some (number_at f.numbers 2 s) λ second. if_some (number_at f.numbers 3 s) λ third.
-    some (record { first = first; second = second; third = third })
+    Some (record { first = first; second = second; third = third })
 
 -- ---- bytes
 
 -- run k of the bytes, which stand behind the numbers; no bytes where there is none
 unfoldable pub bytes_at : Shape → ℕ → List ℕ → Option (List ℕ)
-bytes_at f k s = pick (ltb f.runs k) (some []) (bytes_of (word_of (f.numbers + k) s))
+bytes_at f k s = pick (ltb f.runs k) (Some []) (bytes_of (word_of (f.numbers + k) s))
 
 -- a message, and the till's own name
 pub record Runs : Type 0 where
@@ -55,7 +51,7 @@ pub record Runs : Type 0 where
 unfoldable pub runs_of : Shape → ℕ → List ℕ → Option Runs
 runs_of f room s =
     if_some (bytes_at f 1 s) λ message. if_some (bytes_at f 2 s) λ name.
-    pick (leb (length message + length name) room) (some (record { message = message; name = name })) none
+    pick (leb (length message + length name) room) (Some (record { message = message; name = name })) None
 
 -- ---- lines
 
@@ -81,7 +77,7 @@ line_with w n r = record {
 unfoldable pub read_as : Shape → ℕ → List ℕ → Option OrderLine
 read_as f room s =
     pick (eqb (following s) (f.numbers + f.runs + f.ids))
-    (if_some (values_of f s) λ n. if_some (runs_of f room s) λ r. some (line_with f.what n r)) none
+    (if_some (values_of f s) λ n. if_some (runs_of f room s) λ r. Some (line_with f.what n r)) None
 
 -- a line with neither numbers nor bytes
 abbrev pub bare : What → OrderLine
@@ -89,8 +85,8 @@ bare w = line_with w (record { first = 0; second = 0; third = 0 }) (record { mes
 
 -- "A line that .. has .. a number, hex or an id out of form .. is answered with `line N not understood`"
 abbrev pub or_bad : Option OrderLine → OrderLine
-or_bad none = bare what.Bad
-or_bad (some l) = l
+or_bad None = bare what.Bad
+or_bad (Some l) = l
 
 -- "A line with no bytes, and one that begins with `#`, is passed over without an answer"
 unfoldable pub passed_over : List ℕ → Bool

@@ -1,18 +1,12 @@
 -- How lines are written: which words there are, and what follows each. Definitions only.
 use Rattle.std.specs.Prelude.{ℕ, Bool, List, [], ◌∷◌, ◌++◌}
 use Prim.Native.String.{String}
+use Rattle.std.specs.Str.{bytes_eq}
 use Rattle.basics.specs.Choice.{pick}
 use Rattle.basics.specs.believed.Text.{ascii}
-use Rattle.words.specs.Split.{alike}
+use Rattle.words.specs.declared.shapes.Shape.{Shape}
 use Rattle.words.specs.declared.What.{What}
 use Rattle.words.specs.declared.What.TheVariants as what
-
--- behind the word of a line stand so many numbers, behind them so many runs of bytes, and behind those so many ids
-pub record Shape : Type 0 where
-  pub what : What
-  pub numbers : ℕ
-  pub runs : ℕ
-  pub ids : ℕ
 
 pub record Row : Type 0 where
   pub word : List ℕ
@@ -68,7 +62,7 @@ case_rows =
 -- the shape of a line with that first word; where the word is none of these, it is bad
 unfoldable pub shape_in : List Row → List ℕ → Shape
 shape_in [] name = record { what = what.Bad; numbers = 0; runs = 0; ids = 0 }
-shape_in (r ∷ rs) name = pick (alike r.word name) r.shape (shape_in rs name)
+shape_in (r ∷ rs) name = pick (bytes_eq r.word name) r.shape (shape_in rs name)
 
 -- "In a script, as `trial` plays it, none of these words is understood."
 unfoldable pub shape_of : Bool → List ℕ → Shape

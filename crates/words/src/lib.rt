@@ -7,11 +7,12 @@ mod shapes;
 mod split;
 
 ghost use Rattle.std.specs.Prelude.{◌≡◌, ◌≤◌, length};
-ghost use Rattle.words.specs.Lines.{begun, number_at, first_number, values_of, bytes_at, runs_of, bare, read_as, or_bad, line_of, Ordered};
-ghost use Rattle.words.specs.Steps.{number_or_bad, as_size, Fits, put, shape, as_numbers, as_sizes, Sized, put_both};
+ghost use Rattle.std.specs.Option.{option_map, IfSome};
+ghost use Rattle.words.specs.Lines.{begun, number_at, first_number, values_of, bytes_at, runs_of, bare, read_as, line_of, Ordered};
+ghost use Rattle.words.specs.Steps.{Fits, put, ends, Sized, put_both, Told};
 
-use crate::notation::{Number, Size, id_of, put_bytes, size_of, word_number};
-use crate::shapes::{Shaped, shape_of};
+use crate::notation::{id_of, put_bytes, size_of, word_number};
+use crate::shapes::{Shape, shape_of};
 use crate::split::{following, word};
 
 // Where a script stands, but for its desk: whether the further words are understood, whether it goes on, how many bytes are lent to a
@@ -97,16 +98,17 @@ pub struct Order {
 
 // The numbers of a line.
 #[derive(Clone, Copy)]
-enum Numbers {
-    Bad,
-    Given(u64, u64, u64),
+struct Values {
+    first: u64,
+    second: u64,
+    third: u64,
 }
 
 // Where the message of a line ends, and where the till's own name does behind it.
 #[derive(Clone, Copy)]
-enum Sizes {
-    Bad,
-    Ends(usize, usize),
+struct Ends {
+    size: usize,
+    end: usize,
 }
 
 // An order without numbers and bytes.
@@ -124,129 +126,118 @@ fn empty(what: What) -> Order
 }
 
 // Number k of a line that has so many; 0 where there is none.
-fn number_at(numbers: u8, k: u8, s: &[u8]) -> Number
-    ensures { result ≡ number_or_bad (number_at numbers k s.now) }
+#[tactic(auto, unfolding(crate::specs::Lines::number_at))]
+fn number_at(numbers: u8, k: u8, s: &[u8]) -> Option<u64>
+    ensures { result ≡ number_at numbers k s.now }
 {
     if numbers < k {
-        return Number::Value(0);
+        return Some(0);
     }
-    word_number(word(s, k as usize))
+    word_number(word(s, usize::from(k)))
 }
 
 // The first number, which is the id where a field is asked for.
-fn first_number(row: Shaped, s: &[u8]) -> Number
-    ensures { result ≡ number_or_bad (first_number (shape row) s.now) }
+#[tactic(auto, unfolding(crate::specs::Lines::first_number))]
+fn first_number(shape: Shape, s: &[u8]) -> Option<u64>
+    ensures { result ≡ first_number shape s.now }
 {
-    if row.3 == 0 {
-        return number_at(row.1, 1, s);
+    if shape.ids == 0 {
+        return number_at(shape.numbers, 1, s);
     }
     id_of(word(s, following(s)))
 }
 
 // How many bytes run k of a line of that shape has; 0 where there is none.
-fn size_at(row: Shaped, k: u8, s: &[u8]) -> Size
-    ensures { result ≡ as_size (bytes_at (shape row) k s.now) }
+#[tactic(auto, unfolding(crate::specs::Lines::bytes_at))]
+fn size_at(shape: Shape, k: u8, s: &[u8]) -> Option<usize>
+    ensures { result ≡ option_map length (bytes_at shape k s.now) }
 {
-    if row.2 < k {
-        return Size::Bytes(0);
+    if shape.runs < k {
+        return Some(0);
     }
-    size_of(word(s, row.1 as usize + k as usize))
+    size_of(word(s, usize::from(shape.numbers) + usize::from(k)))
 }
 
 // Its bytes go to the start of out.
-fn put_at(row: Shaped, k: u8, s: &[u8], out: &mut [u8])
-    requires { Fits (bytes_at (shape row) k s.now) out.old }
-    ensures { out.new ≡ put (bytes_at (shape row) k s.now) out.old }
+#[tactic(auto, unfolding(crate::specs::Lines::bytes_at))]
+fn put_at(shape: Shape, k: u8, s: &[u8], out: &mut [u8])
+    requires { Fits (bytes_at shape k s.now) out.old }
+    ensures { out.new ≡ put (bytes_at shape k s.now) out.old }
 {
-    if row.2 < k {
+    if shape.runs < k {
         return;
     }
-    put_bytes(word(s, row.1 as usize + k as usize), out);
+    put_bytes(word(s, usize::from(shape.numbers) + usize::from(k)), out);
 }
 
 // The numbers of a line of that shape.
-fn numbers_of(row: Shaped, s: &[u8]) -> Numbers
-    ensures { result ≡ as_numbers (values_of (shape row) s.now) }
+#[tactic(auto, unfolding(crate::specs::Lines::values_of, crate::specs::Lines::if_some))]
+fn numbers_of(shape: Shape, s: &[u8]) -> Option<Values>
+    ensures { result ≡ values_of shape s.now }
 {
-    let Number::Value(first) = first_number(row, s) else {
-        return Numbers::Bad;
-    };
-    let Number::Value(second) = number_at(row.1, 2, s) else {
-        return Numbers::Bad;
-    };
-    let Number::Value(third) = number_at(row.1, 3, s) else {
-        return Numbers::Bad;
-    };
-    Numbers::Given(first, second, third)
-}
-
-// Where the runs of bytes of a line of that shape end, in so much room.
-fn sizes_of(row: Shaped, room: usize, s: &[u8]) -> Sizes
-    ensures { result ≡ as_sizes (runs_of (shape row) room s.now) }
-{
-    let Size::Bytes(size) = size_at(row, 1, s) else {
-        return Sizes::Bad;
-    };
-    let Size::Bytes(other) = size_at(row, 2, s) else {
-        return Sizes::Bad;
-    };
-    if room < size {
-        return Sizes::Bad;
-    }
-    if room - size < other {
-        return Sizes::Bad;
-    }
-    Sizes::Ends(size, size + other)
-}
-
-// The runs of bytes, of which the first has that size, go to the start of bytes.
-fn put_runs(row: Shaped, size: usize, s: &[u8], bytes: &mut [u8])
-    requires { Sized (runs_of (shape row) (length bytes.old) s.now) size }
-    ensures { bytes.new ≡ put_both (runs_of (shape row) (length bytes.old) s.now) bytes.old }
-{
-    put_at(row, 1, s, bytes);
-    put_at(row, 2, s, &mut bytes[size..]);
-}
-
-// A line of that shape.
-fn read_as(row: Shaped, s: &[u8], bytes: &mut [u8]) -> Order
-    ensures { Ordered (or_bad (read_as (shape row) (length bytes.old) s.now)) result bytes.old bytes.new }
-{
-    let count = row.1 as usize + row.2 as usize + row.3 as usize;
-    if following(s) != count {
-        return empty(What::Bad);
-    }
-    let Numbers::Given(first, second, third) = numbers_of(row, s) else {
-        return empty(What::Bad);
-    };
-    let Sizes::Ends(size, end) = sizes_of(row, bytes.len(), s) else {
-        return empty(What::Bad);
-    };
-    put_runs(row, size, s, bytes);
-    let what = row.0;
-    Order {
-        what,
+    let first = first_number(shape, s)?;
+    let second = number_at(shape.numbers, 2, s)?;
+    let third = number_at(shape.numbers, 3, s)?;
+    Some(Values {
         first,
         second,
         third,
-        size,
-        end,
+    })
+}
+
+// Where the runs of bytes of a line of that shape end, in so much room.
+#[tactic(auto, unfolding(crate::specs::Lines::runs_of, crate::specs::Lines::if_some))]
+fn sizes_of(shape: Shape, room: usize, s: &[u8]) -> Option<Ends>
+    ensures runs { result ≡ option_map ends (runs_of shape room s.now) }
+    ensures inside { IfSome result (λ e. (e.size ≤ e.end) × (e.end ≤ room)) }
+{
+    let size = size_at(shape, 1, s)?;
+    let end = size.checked_add(size_at(shape, 2, s)?)?;
+    (end <= room).then_some(Ends { size, end })
+}
+
+// The runs of bytes, of which the first has that size, go to the start of bytes.
+#[tactic(auto, unfolding(crate::specs::Lines::runs_of, crate::specs::Lines::if_some))]
+fn put_runs(shape: Shape, size: usize, s: &[u8], bytes: &mut [u8])
+    requires { Sized (runs_of shape (length bytes.old) s.now) size }
+    ensures { bytes.new ≡ put_both (runs_of shape (length bytes.old) s.now) bytes.old }
+{
+    put_at(shape, 1, s, bytes);
+    put_at(shape, 2, s, &mut bytes[size..]);
+}
+
+// A line of that shape.
+#[tactic(auto, unfolding(crate::specs::Lines::read_as, crate::specs::Lines::if_some))]
+fn read_as(shape: Shape, s: &[u8], bytes: &mut [u8]) -> Option<Order>
+    ensures told { Told (read_as shape (length bytes.old) s.now) result bytes.old bytes.new }
+    ensures inside { IfSome result (λ o. (o.size ≤ o.end) × (o.end ≤ length bytes.new)) }
+{
+    let count = usize::from(shape.numbers) + usize::from(shape.runs) + usize::from(shape.ids);
+    if following(s) != count {
+        return None;
     }
+    let values = numbers_of(shape, s)?;
+    let ends = sizes_of(shape, bytes.len(), s)?;
+    put_runs(shape, ends.size, s, bytes);
+    Some(Order {
+        what: shape.what,
+        first: values.first,
+        second: values.second,
+        third: values.third,
+        size: ends.size,
+        end: ends.end,
+    })
 }
 
 // The order of a line; its bytes go to the start of bytes. A line that is not understood leaves them as they were.
+#[tactic(auto, unfolding(crate::specs::Lines::line_of, crate::specs::Lines::passed_over))]
 pub fn order_of(at: Script, s: &[u8], bytes: &mut [u8]) -> Order
     ensures ordered { Ordered (line_of at (length bytes.old) s.now) result bytes.old bytes.new }
     ensures inside { (result.size ≤ result.end) × (result.end ≤ length bytes.new) }
 {
-    if !at.more {
+    if !at.more || s.first().is_none_or(|b| *b == b'#') {
         return empty(What::Pass);
     }
-    if s.len() == 0 {
-        return empty(What::Pass);
-    }
-    if s[0] == b'#' {
-        return empty(What::Pass);
-    }
-    read_as(shape_of(at.further, word(s, 0)), s, bytes)
+    let shape = shape_of(at.further, word(s, 0));
+    read_as(shape, s, bytes).unwrap_or(empty(What::Bad))
 }

@@ -1,81 +1,93 @@
 // How lines are written, by their first word.
 ghost use Rattle.std.specs.Prelude.{◌≡◌};
-ghost use Rattle.words.specs.Shapes.{case_rows, shape_in, shape_of};
-ghost use Rattle.words.specs.Steps.{shape};
+ghost use Rattle.words.specs.Shapes.{shape_of};
+ghost use Rattle.words.specs.Steps.{rows, shape_in};
 
 use crate::What;
-use crate::split::nth;
 
 // Behind the word of a line stand so many numbers, behind them so many runs of bytes, and behind those so many ids.
 #[derive(Clone, Copy)]
-pub(crate) struct Shaped(pub(crate) What, pub(crate) u8, pub(crate) u8, pub(crate) u8);
+pub(crate) struct Shape {
+    pub(crate) what: What,
+    pub(crate) numbers: u8,
+    pub(crate) runs: u8,
+    pub(crate) ids: u8,
+}
 
-const SCRIPT: [Shaped; 16] = [
-    Shaped(What::Close, 0, 0, 0),
-    Shaped(What::Sale, 2, 0, 0),
-    Shaped(What::Refund, 3, 0, 0),
-    Shaped(What::Reversal, 3, 0, 0),
-    Shaped(What::Terminal, 1, 1, 0),
-    Shaped(What::Lost, 1, 0, 0),
-    Shaped(What::Book, 0, 0, 0),
-    Shaped(What::Lanes, 0, 0, 0),
-    Shaped(What::Net, 0, 0, 0),
-    Shaped(What::Tape, 0, 0, 0),
-    Shaped(What::Replay, 0, 0, 0),
-    Shaped(What::Room, 1, 0, 0),
-    Shaped(What::Read, 0, 1, 0),
-    Shaped(What::Name, 0, 2, 0),
-    Shaped(What::Shorten, 0, 1, 0),
-    Shaped(What::Field, 0, 1, 1),
-];
+// A word, and the shape of its line.
+type Row = (&'static [u8], What, u8, u8, u8);
 
-const CASES: [Shaped; 18] = [
-    Shaped(What::Header, 0, 1, 0),
-    Shaped(What::First, 0, 1, 0),
-    Shaped(What::Status, 0, 1, 0),
-    Shaped(What::List, 0, 1, 0),
-    Shaped(What::Each, 1, 1, 0),
-    Shaped(What::Amount, 1, 0, 0),
-    Shaped(What::Password, 1, 0, 0),
-    Shaped(What::Receipt, 1, 0, 0),
-    Shaped(What::Add, 1, 1, 0),
-    Shaped(What::Block, 1, 1, 0),
-    Shaped(What::LastBlock, 1, 1, 0),
-    Shaped(What::Damage, 1, 1, 0),
-    Shaped(What::DamageLast, 1, 1, 0),
-    Shaped(What::Write, 1, 1, 0),
-    Shaped(What::Records, 0, 1, 0),
-    Shaped(What::Blocks, 0, 1, 0),
-    Shaped(What::ReplayTape, 0, 1, 0),
-    Shaped(What::ReplayRecords, 0, 1, 0),
+// The words of a script.
+const SCRIPT: [Row; 16] = [
+    (b"close", What::Close, 0, 0, 0),
+    (b"sale", What::Sale, 2, 0, 0),
+    (b"refund", What::Refund, 3, 0, 0),
+    (b"reversal", What::Reversal, 3, 0, 0),
+    (b"terminal", What::Terminal, 1, 1, 0),
+    (b"lost", What::Lost, 1, 0, 0),
+    (b"book", What::Book, 0, 0, 0),
+    (b"lanes", What::Lanes, 0, 0, 0),
+    (b"net", What::Net, 0, 0, 0),
+    (b"tape", What::Tape, 0, 0, 0),
+    (b"replay", What::Replay, 0, 0, 0),
+    (b"room", What::Room, 1, 0, 0),
+    (b"read", What::Read, 0, 1, 0),
+    (b"name", What::Name, 0, 2, 0),
+    (b"shorten", What::Shorten, 0, 1, 0),
+    (b"field", What::Field, 0, 1, 1),
 ];
 
 // The further words: what the reader and the lister are asked, and blocks and tapes.
-fn case_shape(name: &[u8]) -> Shaped
-    ensures { shape result ≡ shape_in case_rows name.now }
+const CASES: [Row; 18] = [
+    (b"header", What::Header, 0, 1, 0),
+    (b"first", What::First, 0, 1, 0),
+    (b"status", What::Status, 0, 1, 0),
+    (b"list", What::List, 0, 1, 0),
+    (b"each", What::Each, 1, 1, 0),
+    (b"amount", What::Amount, 1, 0, 0),
+    (b"password", What::Password, 1, 0, 0),
+    (b"receipt", What::Receipt, 1, 0, 0),
+    (b"add", What::Add, 1, 1, 0),
+    (b"block", What::Block, 1, 1, 0),
+    (b"last-block", What::LastBlock, 1, 1, 0),
+    (b"damage", What::Damage, 1, 1, 0),
+    (b"damage-last", What::DamageLast, 1, 1, 0),
+    (b"write", What::Write, 1, 1, 0),
+    (b"records", What::Records, 0, 1, 0),
+    (b"blocks", What::Blocks, 0, 1, 0),
+    (b"replay-tape", What::ReplayTape, 0, 1, 0),
+    (b"replay-records", What::ReplayRecords, 0, 1, 0),
+];
+
+const BAD: Shape = Shape {
+    what: What::Bad,
+    numbers: 0,
+    runs: 0,
+    ids: 0,
+};
+
+// The shape of the first row with that word.
+fn shape_in(table: &[Row], name: &[u8]) -> Option<Shape>
+    ensures { result ≡ shape_in (rows table.now) name.now }
 {
-    let k = nth(
-        name,
-        b"header first status list each amount password receipt add block last-block damage damage-last write records blocks replay-tape replay-records",
-    );
-    if k < 18 {
-        return CASES[k];
-    }
-    Shaped(What::Bad, 0, 0, 0)
+    let &(_, what, numbers, runs, ids) = table.iter().find(|(word, ..)| *word == name)?;
+    Some(Shape {
+        what,
+        numbers,
+        runs,
+        ids,
+    })
 }
 
-pub(crate) fn shape_of(further: bool, name: &[u8]) -> Shaped
-    ensures { shape result ≡ shape_of further name.now }
+// The shape of a line with that first word; where the word is none of these, it is bad.
+pub(crate) fn shape_of(further: bool, name: &[u8]) -> Shape
+    ensures { result ≡ shape_of further name.now }
 {
-    let k = nth(
-        name,
-        b"close sale refund reversal terminal lost book lanes net tape replay room read name shorten field",
-    );
-    if k < 16 {
-        return SCRIPT[k];
+    if let Some(shape) = shape_in(&SCRIPT, name) {
+        return shape;
     }
     if further {
-        return case_shape(name);
+        return shape_in(&CASES, name).unwrap_or(BAD);
     }
-    Shaped(What::Bad, 0, 0, 0)
+    BAD
 }

@@ -2,11 +2,12 @@
 use mathlib.Core.Path.{◌≡◌, refl, sym, ap, ◌∙◌}
 use mathlib.Core.Bool.{Bool, true, false, not}
 use mathlib.Core.List.{List, [], ◌∷◌}
-use Prim.Native.Nat.{ℕ, ◌+◌, ◌-◌, ◌<◌, ◌≤◌}
+use Prim.Native.Nat.{ℕ, ◌+◌, ◌<◌, ◌≤◌}
 use native.Mathlib.Omega.{arith}
-use lib.ListN.{length, get_or, take, drop, length-drop}
+use lib.ListN.{length, get_or, drop, length-drop}
 use lib.Dec.{leb}
 use borrow.Author.Tests.{leb-true}
+use Rattle.std.proofs.Common.{Err, Ok}
 use Rattle.zvt_rules.specs.declared.Refusal.{Refusal}
 use Rattle.zvt_rules.specs.declared.Format.{Format}
 use Rattle.zvt_rules.specs.declared.Format.TheVariants.{Unknown, Fixed, Digits, Container}
@@ -16,15 +17,10 @@ use Rattle.zvt_rules.specs.Fields.{format_of, decimal, unless_undecimal, holds_d
 use Rattle.zvt_rules.specs.Shortest.{short_field}
 use Rattle.basics.proofs.Tests.{pick_true, pick-false, all_from, at_from, never}
 use Rattle.zvt_rules.proofs.Readings.{then-on, then-stop, unless-then}
-use Rattle.zvt_rules.proofs.ObjectReading.{tail, len-in}
+use Rattle.zvt_rules.proofs.ObjectReading.{len-in}
 use Rattle.zvt_rules.proofs.FieldReading.{digits-in}
-use Rattle.zvt.specs.declared.objects.LenRead.TheVariants.{Len as len_read, Refused as len-refused}
 use Rattle.zvt.specs.declared.objects.Bounds.{Bounds}
-use Rattle.zvt.specs.declared.objects.BoundsRead.TheVariants.{Refused as bounds-refused}
 use Rattle.zvt.specs.declared.objects.Tally.{Tally}
-use Rattle.zvt.specs.declared.objects.PartRead.TheVariants.{Part, Refused as part-refused}
-use Rattle.zvt.specs.declared.fields.DigitsRead.TheVariants.{Number, Refused as digits-refused}
-use Rattle.zvt.specs.declared.fields.Decimals.TheVariants.{All, Refused as decimals-refused}
 use Rattle.zvt.specs.ObjectSteps.{as_bounds, as_part, len_answer, within}
 use Rattle.zvt.specs.FieldSteps.{as_digits, digits_answer, as_decimals, decimals_answer, bounds_by, field_bounds, spare_field, field_tally, plain_answer}
 use Rattle.zvt.proofs.ObjectLaws.{len-got, len-stopped}
@@ -36,12 +32,12 @@ unfolding unless_undecimal and_then
 decimals-then at [] t x = refl
 decimals-then at (b ∷ s) t x = ap (unless (not (decimal b)) (fault_at 6 at)) (decimals-then (at + 1) s t x) ∙ sym (unless-then _ _ _ _)
 
-pub decimals-got : (x : Reading (List ℕ)) → as_decimals x ≡ All → (t : List ℕ) × (x ≡ got t)
+pub decimals-got : (x : Reading (List ℕ)) → as_decimals x ≡ Ok tt → (t : List ℕ) × (x ≡ got t)
 unfolding as_decimals
 decimals-got (got t) e = (t, refl)
 decimals-got (refused r) e = never cc
 
-pub decimals-stopped : (x : Reading (List ℕ)) (r : Refusal) → as_decimals x ≡ decimals-refused r → x ≡ refused r
+pub decimals-stopped : (x : Reading (List ℕ)) (r : Refusal) → as_decimals x ≡ Err r → x ≡ refused r
 unfolding as_decimals
 decimals-stopped (got t) r e = never cc
 decimals-stopped (refused q) r e = cc
@@ -58,18 +54,18 @@ module _ (n at : ℕ) (b : Bounds) (s : List ℕ) where
   abbrev value : List ℕ
   value = part b.from b.to s
 
-  pub plain-bytes : holds_digits (get_or s 0 0) ≡ false → plain_answer n at b s ≡ Part whole
+  pub plain-bytes : holds_digits (get_or s 0 0) ≡ false → plain_answer n at b s ≡ Ok whole
   unfolding plain_answer digits_in as_part field_tally
   plain-bytes e = ap (as_part field_tally) (pick-false _ _ e) ∙ rw plain-spare
 
-  pub plain-digits : holds_digits (get_or s 0 0) ≡ true → decimals_answer (at + b.from) value ≡ All → plain_answer n at b s ≡ Part whole
+  pub plain-digits : holds_digits (get_or s 0 0) ≡ true → decimals_answer (at + b.from) value ≡ Ok tt → plain_answer n at b s ≡ Ok whole
   unfolding plain_answer digits_in as_part field_tally decimals_answer
   plain-digits e f =
       let g = decimals-got _ f in
       ap (as_part field_tally) (pick_true _ _ e ∙ decimals-then _ value value _ ∙ then-on _ g.0 g.1) ∙ rw plain-spare
 
-  pub plain-stopped : (r : Refusal) → holds_digits (get_or s 0 0) ≡ true → decimals_answer (at + b.from) value ≡ decimals-refused r
-      → plain_answer n at b s ≡ part-refused r
+  pub plain-stopped : (r : Refusal) → holds_digits (get_or s 0 0) ≡ true → decimals_answer (at + b.from) value ≡ Err r
+      → plain_answer n at b s ≡ Err r
   unfolding plain_answer digits_in as_part decimals_answer
   plain-stopped r e f = ap (as_part field_tally) (pick_true _ _ e ∙ decimals-then _ value value _ ∙ then-stop _ r (decimals-stopped _ r f))
 
@@ -85,12 +81,12 @@ pub digits-few : (id d : ℕ) → id < 256 → format_of id ≡ Digits d → d �
 unfolding few all_from format_of among
 digits-few id d h e = leb-true d 3 (ap few (sym e) ∙ at_from (λ k. few (format_of k)) 0 256 refl id (omega arith) h)
 
-digits-got : (x : Reading ℕ) (v : ℕ) → as_digits x ≡ Number v → x ≡ got v
+digits-got : (x : Reading ℕ) (v : ℕ) → as_digits x ≡ Ok v → x ≡ got v
 unfolding as_digits
 digits-got (got w) v e = cc
 digits-got (refused r) v e = never cc
 
-digits-stopped : (x : Reading ℕ) (r : Refusal) → as_digits x ≡ digits-refused r → x ≡ refused r
+digits-stopped : (x : Reading ℕ) (r : Refusal) → as_digits x ≡ Err r → x ≡ refused r
 unfolding as_digits
 digits-stopped (got w) r e = never cc
 digits-stopped (refused q) r e = cc
@@ -100,15 +96,11 @@ abbrev pub Begins : ℕ → List ℕ → ℕ → ℕ → Bool → Type 0
 Begins at s a v run = (a ≤ length s) × (field_bounds at s ≡ within at 1 a v run s)
 
 module _ (at : ℕ) (s : List ℕ) where
-  -- what follows the id
-  abbrev rest : List ℕ
-  rest = take (length s - 1) (drop 1 s)
-
   by-format : (f : Format) → format_of (get_or s 0 0) ≡ f → field_bounds at s ≡ as_bounds (bounds_by at s f)
   unfolding field_bounds
   by-format f e = rw e
 
-  pub bounds-unknown : format_of (get_or s 0 0) ≡ Unknown → field_bounds at s ≡ bounds-refused (fault_at 5 at)
+  pub bounds-unknown : format_of (get_or s 0 0) ≡ Unknown → field_bounds at s ≡ Err (fault_at 5 at)
   unfolding bounds_by as_bounds
   bounds-unknown e = by-format Unknown e
 
@@ -117,27 +109,27 @@ module _ (at : ℕ) (s : List ℕ) where
   bounds-fixed k e = by-format (Fixed k) e
 
   module _ (d : ℕ) (f : format_of (get_or s 0 0) ≡ Digits d) where
-    pub bounds-no-digits : (r : Refusal) → digits_answer d (at + 1) rest ≡ digits-refused r → field_bounds at s ≡ bounds-refused r
+    pub bounds-no-digits : (r : Refusal) → digits_answer d (at + 1) (drop 1 s) ≡ Err r → field_bounds at s ≡ Err r
     unfolding bounds_by as_bounds digits_answer
-    bounds-no-digits r e = by-format (Digits d) f ∙ ap as_bounds (then-stop _ r (digits-stopped _ r (rw tail at e)))
+    bounds-no-digits r e = by-format (Digits d) f ∙ ap as_bounds (then-stop _ r (digits-stopped _ r e))
 
-    pub bounds-digits : 0 < length s → (v : ℕ) → digits_answer d (at + 1) rest ≡ Number v → Begins at s (1 + d) v false
+    pub bounds-digits : 0 < length s → (v : ℕ) → digits_answer d (at + 1) (drop 1 s) ≡ Ok v → Begins at s (1 + d) v false
     unfolding bounds_by within digits_answer
     bounds-digits l v e =
-        let g = digits-got _ v (rw tail at e) in (
+        let g = digits-got _ v e in (
           omega (arith, digits-in d 0 (at + 1) (drop 1 s) v g, length-drop 1 s),
           by-format (Digits d) f ∙ ap as_bounds (then-on _ v g),
         )
 
   module _ (f : format_of (get_or s 0 0) ≡ Container) where
-    pub bounds-no-length : (r : Refusal) → len_answer (at + 1) rest ≡ len-refused r → field_bounds at s ≡ bounds-refused r
+    pub bounds-no-length : (r : Refusal) → len_answer (at + 1) (drop 1 s) ≡ Err r → field_bounds at s ≡ Err r
     unfolding bounds_by as_bounds len_answer
-    bounds-no-length r e = by-format Container f ∙ ap as_bounds (then-stop _ r (len-stopped _ r (rw tail at e)))
+    bounds-no-length r e = by-format Container f ∙ ap as_bounds (then-stop _ r (len-stopped _ r e))
 
-    pub bounds-length : 0 < length s → (size v : ℕ) → len_answer (at + 1) rest ≡ len_read size v → Begins at s (1 + size) v true
+    pub bounds-length : 0 < length s → (size v : ℕ) → len_answer (at + 1) (drop 1 s) ≡ Ok (size, v) → Begins at s (1 + size) v true
     unfolding bounds_by within len_answer
     bounds-length l size v e =
-        let g = len-got _ size v (rw tail at e) in (
+        let g = len-got _ size v e in (
           omega (arith, len-in (at + 1) (drop 1 s) g.0 g.1, g.2, length-drop 1 s),
           by-format Container f ∙ ap as_bounds (then-on _ g.0 g.1) ∙ rw (g.2, g.3),
         )

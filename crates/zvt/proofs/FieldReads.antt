@@ -6,6 +6,7 @@ use Prim.Native.Nat.{ℕ, ◌+◌, ◌-◌, ◌≤◌}
 use native.Mathlib.Omega.{arith}
 use lib.ListN.{length, get_or, drop}
 use borrow.Author.Tests.{ltb-false}
+use Rattle.std.proofs.Common.{Err, Ok, Result}
 use Rattle.zvt_rules.specs.declared.Refusal.{Refusal}
 use Rattle.zvt_rules.specs.declared.Format.{Format}
 use Rattle.zvt_rules.specs.declared.Format.TheVariants.{Unknown, Fixed, Digits, Container}
@@ -24,12 +25,11 @@ use Rattle.zvt_rules.proofs.ObjectBytes.{bytes_drop, bytes-part, run_sound}
 use Rattle.zvt_rules.proofs.FieldReading.{digits-got}
 use Rattle.zvt_rules.proofs.Lengths.{sized-size, len-sound}
 use Rattle.zvt.specs.declared.objects.Bounds.{Bounds}
-use Rattle.zvt.specs.declared.objects.BoundsRead.TheVariants.{Bounds as bounds-read, Refused as bounds-refused}
 use Rattle.zvt.specs.declared.objects.Tally.{Tally}
-use Rattle.zvt.specs.declared.objects.PartRead.{PartRead}
-use Rattle.zvt.specs.declared.objects.PartRead.TheVariants.{Part, Refused as part-refused}
+use Rattle.zvt.specs.declared.objects.Located.{Located}
+use Rattle.zvt.proofs.Located.{located-stopped, located-got, got-located, stopped-located}
 use Rattle.zvt.specs.ObjectSteps.{as_bounds, as_part, bounds_in, spare_run, tally_of, run_tally, run_answer}
-use Rattle.zvt.specs.FieldSteps.{bounds_by, field_bounds, spare_field, field_tally, plain_answer, field_when, field_part, ValueFrom}
+use Rattle.zvt.specs.FieldSteps.{bounds_by, field_bounds, spare_field, field_tally, plain_answer, field_when, field_part, value_begins, field_located}
 use Rattle.zvt.proofs.RunLaws.{part-got, part-stopped, spare-read, tally-is, Fits, tally-fits}
 
 -- ---- readings that stop alike
@@ -45,12 +45,12 @@ both-stop (got a) f g r h e = h a e
 both-stop (refused q) f g r h e = cc
 
 -- ---- bounds that were found, and not
-found : (x : Reading Bounds) (b : Bounds) → as_bounds x ≡ bounds-read b → x ≡ got b
+found : (x : Reading Bounds) (b : Bounds) → as_bounds x ≡ Ok b → x ≡ got b
 unfolding as_bounds
 found (got a) b e = cc
 found (refused r) b e = never cc
 
-not_found : (x : Reading Bounds) (r : Refusal) → as_bounds x ≡ bounds-refused r → x ≡ refused r
+not_found : (x : Reading Bounds) (r : Refusal) → as_bounds x ≡ Err r → x ≡ refused r
 unfolding as_bounds
 not_found (got a) r e = never cc
 not_found (refused q) r e = cc
@@ -141,22 +141,22 @@ when-by id n at s (Fixed k) = refl
 when-by id n at s (Digits d) = refl
 when-by id n at s Container = refl
 
-pub field-unknown : (twice : Bool) (n at : ℕ) (s : List ℕ) → format_of (get_or s 0 0) ≡ Unknown → field_part twice n at s ≡ part-refused (fault_at 5 at)
+pub field-unknown : (twice : Bool) (n at : ℕ) (s : List ℕ) → format_of (get_or s 0 0) ≡ Unknown → field_part twice n at s ≡ Err (fault_at 5 at)
 unfolding field_part field_when unless unknown as_part
 field-unknown twice n at s e = rw e
 
 pub field-twice : (twice : Bool) (n at : ℕ) (s : List ℕ) → unknown (format_of (get_or s 0 0)) ≡ false → twice ≡ true
-    → field_part twice n at s ≡ part-refused (fault_at 7 at)
+    → field_part twice n at s ≡ Err (fault_at 7 at)
 unfolding field_part field_when unless as_part
 field-twice twice n at s e f = rw (e, f)
 
-pub field-value : (at : ℕ) (s : List ℕ) (b : Bounds) → field_bounds at s ≡ bounds-read b → (b.from ≤ b.to) × (b.to ≤ length s)
+pub field-value : (at : ℕ) (s : List ℕ) (b : Bounds) → field_bounds at s ≡ Ok b → (b.from ≤ b.to) × (b.to ≤ length s)
 unfolding field_bounds
 field-value at s b e = by-lies at s (format_of (get_or s 0 0)) b (found _ b e)
 
 -- the container that lies there is answered by its tally
 abbrev pub Answered : Bool → ℕ → ℕ → List ℕ → Bounds → ℕ → ℕ → Type 0
-Answered twice n at s b objects saved = Fits b saved × (field_part twice n at s ≡ Part (tally_of b objects saved))
+Answered twice n at s b objects saved = Fits b saved × (field_part twice n at s ≡ Ok (tally_of b objects saved))
 
 module _ (twice : Bool) (n at : ℕ) (s : List ℕ) (once : twice ≡ false) where
   abbrev format : Format
@@ -166,24 +166,24 @@ module _ (twice : Bool) (n at : ℕ) (s : List ℕ) (once : twice ≡ false) whe
   unfolding field_part field_when
   by-format x e = ap (as_part field_tally) (rw once (when-by (get_or s 0 0) n at s format) ∙ e)
 
-  pub field-no-bounds : (r : Refusal) → field_bounds at s ≡ bounds-refused r → field_part twice n at s ≡ part-refused r
+  pub field-no-bounds : (r : Refusal) → field_bounds at s ≡ Err r → field_part twice n at s ≡ Err r
   unfolding field_bounds as_part
   field-no-bounds r e = by-format _ (by-stopped (get_or s 0 0) n at s format r (not_found _ r e))
 
-  pub field_plain : (b : Bounds) → field_bounds at s ≡ bounds-read b → b.nested ≡ false → field_part twice n at s ≡ plain_answer n at b s
+  pub field_plain : (b : Bounds) → field_bounds at s ≡ Ok b → b.nested ≡ false → field_part twice n at s ≡ plain_answer n at b s
   unfolding field_bounds plain_answer
   field_plain b e h = by-format _ (by-plain (get_or s 0 0) n at s format b (found _ b e) h)
 
-  module _ (b : Bounds) (bounds : field_bounds at s ≡ bounds-read b) (h : b.nested ≡ true) where
+  module _ (b : Bounds) (bounds : field_bounds at s ≡ Ok b) (h : b.nested ≡ true) where
     -- the answer for the run inside
-    abbrev inner : PartRead
+    abbrev inner : Result Tally Refusal
     inner = run_answer deepest n (at + b.from) (part b.from b.to s)
 
     contained : Contained (get_or s 0 0) n at s format b
     unfolding field_bounds
     contained = by-container (get_or s 0 0) n at s format b (found _ b bounds) h
 
-    pub field-no-inner : (r : Refusal) → inner ≡ part-refused r → field_part twice n at s ≡ part-refused r
+    pub field-no-inner : (r : Refusal) → inner ≡ Err r → field_part twice n at s ≡ Err r
     unfolding run_answer as_part
     field-no-inner r e = by-format _ (contained.then ∙ then-stop _ r (part-stopped _ _ r e))
 
@@ -200,23 +200,23 @@ module _ (twice : Bool) (n at : ℕ) (s : List ℕ) (once : twice ≡ false) whe
         let short = run_bytes (short_run r.objs) in (
           tally-fits b l.form l.value (spare_run r.objs) f.1 (omega arith) c.to (omega arith),
           by-format _ (c.then ∙ then-on _ r e)
-              ∙ ap Part (tally-is b r.count (spare_run r.objs) _ _ (length short)
+              ∙ ap Ok (tally-is b r.count (spare_run r.objs) _ _ (length short)
               (omega (arith, sized-size l.form (run_bytes r.objs))) (omega arith)
               (omega (arith, sized-size (form_for (length short)) short))),
         )
 
-    pub field-container : Bytes s → (r : Tally) → inner ≡ Part r → Answered twice n at s b r.objects r.spare
+    pub field-container : Bytes s → (r : Tally) → inner ≡ Ok r → Answered twice n at s b r.objects r.spare
     unfolding run_answer run_tally
     field-container bs =
         part-got (run_tally (part b.from b.to s)) (run_of deepest n (at + b.from) (part b.from b.to s))
         (λ r. Answered twice n at s b r.objects r.spare) (container-tally bs)
 
 -- ---- where the value begins
-pub no-value-from : (twice : Bool) (n at : ℕ) (s : List ℕ) (r : Refusal) (from : ℕ) → field_part twice n at s ≡ part-refused r → ValueFrom twice n at s from
-unfolding field_part
-no-value-from twice n at s r from e o f = absurd (got-not-refused (sym f ∙ part-stopped _ _ r e))
+-- where the value of a field that is read begins
+abbrev pub ValueFrom : Bool → ℕ → ℕ → List ℕ → ℕ → Type 0
+ValueFrom twice n at s from = (o : FieldRead) → field_when twice n at s ≡ got o → from ≡ value_begins o
 
-module _ (n at : ℕ) (s : List ℕ) (bs : Bytes s) (b : Bounds) (bounds : field_bounds at s ≡ bounds-read b) where
+module _ (n at : ℕ) (s : List ℕ) (bs : Bytes s) (b : Bounds) (bounds : field_bounds at s ≡ Ok b) where
   abbrev id : ℕ
   id = get_or s 0 0
 
@@ -224,7 +224,7 @@ module _ (n at : ℕ) (s : List ℕ) (bs : Bytes s) (b : Bounds) (bounds : field
   value-length = let w = field-value at s b bounds in part_length s b.from b.to w.0 w.1
 
   pub value-from : ValueFrom false n at s b.from
-  unfolding field_when field_bounds field_value
+  unfolding field_when field_bounds field_value value_begins
   value-from o e =
       let w = field-value at s b bounds in
       let g = found _ b bounds in
@@ -240,6 +240,25 @@ module _ (n at : ℕ) (s : List ℕ) (bs : Bytes s) (b : Bounds) (bounds : field
       rw (← (got_same d.1), value-length) (omega (arith, w.0)))
 
 -- it does not lie behind the field
-pub from-inside : (twice : Bool) (n at : ℕ) (s : List ℕ) (from : ℕ) → ValueFrom twice n at s from → (t : Tally) → field_part twice n at s ≡ Part t → from ≤ t.size
-unfolding field_part field_tally
+pub from-inside : (twice : Bool) (n at : ℕ) (s : List ℕ) (from : ℕ) → ValueFrom twice n at s from → (t : Tally) → field_part twice n at s ≡ Ok t → from ≤ t.size
+unfolding field_part field_tally value_begins
 from-inside twice n at s from v = part-got field_tally (field_when twice n at s) (λ t. from ≤ t.size) (λ o e. omega (arith, v o e))
+
+-- ---- a field that was read, and one that is refused
+module _ (twice : Bool) (n at : ℕ) (s : List ℕ) where
+  pub field-located : (t : Tally) (from : ℕ) → field_part twice n at s ≡ Ok t → ValueFrom twice n at s from
+      → Ok (record { tally = t; lies = from }) ≡ field_located twice n at s
+  unfolding field_part field_located
+  field-located t from e v = sym (located-got field_tally value_begins (field_when twice n at s) t from e v)
+
+  pub field-stopped : (r : Refusal) → field_part twice n at s ≡ Err r → Err r ≡ field_located twice n at s
+  unfolding field_part field_located
+  field-stopped r e = sym (located-stopped field_tally value_begins (field_when twice n at s) r e)
+
+  pub field-read : (r : Located ℕ) → field_located twice n at s ≡ Ok r → (field_part twice n at s ≡ Ok r.tally) × ValueFrom twice n at s r.lies
+  unfolding field_part field_located
+  field-read r e = got-located field_tally value_begins (field_when twice n at s) r e
+
+  pub field-refused : (r : Refusal) → field_located twice n at s ≡ Err r → field_part twice n at s ≡ Err r
+  unfolding field_part field_located
+  field-refused r e = stopped-located field_tally value_begins (field_when twice n at s) r e

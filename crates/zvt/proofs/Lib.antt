@@ -1,5 +1,6 @@
 -- The laws that the proofs of the functions cite, by subject.
 pub mod Slices
+pub mod Parts
 pub mod Back
 pub mod ShortRuns
 pub mod Masks
@@ -22,3 +23,4 @@ pub mod ValueLaws
 pub mod NameLaws
 pub mod WalkLaws
 pub mod ToldLaws
+pub mod Located

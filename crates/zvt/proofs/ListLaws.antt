@@ -5,31 +5,30 @@ use mathlib.Core.List.{List, [], ◌∷◌}
 use Prim.Native.Nat.{ℕ, ◌+◌, ◌-◌, ◌<◌, ◌≤◌}
 use native.Mathlib.Nat.{add-zero, add_assoc}
 use native.Mathlib.Omega.{arith}
-use lib.ListN.{length, get_or, take, drop, set, length-set, replicate, length-replicate, get_or-replicate, length-append, length-drop}
+use lib.ListN.{length, get_or, drop, set, length-set, replicate, length-replicate, get_or-replicate, length-append, length-drop}
 use lib.Seq.{get_or-set_same, get_or-set_other, get_or-drop, drop-drop, length-take-le}
 use lib.Dec.{eqb}
 use borrow.Author.Tests.{eqb-true, eqb-false}
+use Rattle.std.proofs.Common.{Err, Ok, Result}
 use Rattle.zvt_rules.specs.declared.Refusal.{Refusal}
 use Rattle.basics.specs.Lists.{among}
 use Rattle.zvt_rules.specs.Reading.{got}
-use Rattle.zvt_rules.specs.Fields.{Field, field_id, FieldRead, ListRead, field_of, list_of}
-use Rattle.zvt_rules.specs.believed.Writing.{field_bytes, list_bytes, field_value}
+use Rattle.zvt_rules.specs.Fields.{format_of, Field, field_id, FieldRead, ListRead, field_of, list_of, plain, container}
+use Rattle.zvt_rules.specs.believed.Writing.{run_bytes, field_bytes, list_bytes, field_value, sized, length_in, len_bytes}
 use Rattle.zvt_rules.specs.Listed.{listed_at, listed_from}
 use Rattle.zvt_rules.specs.Shortest.{short_field, short_list}
 use Rattle.basics.specs.believed.Lists.{Bytes}
 use Rattle.zvt_rules.specs.believed.Grammar.{FieldOk, ListOk}
 use Rattle.zvt_rules.proofs.Readings.{then-on, then-stop}
-use Rattle.zvt_rules.proofs.ObjectReading.{tail}
 use Rattle.zvt_rules.proofs.ObjectBytes.{bytes_drop}
 use Rattle.zvt_rules.proofs.FieldReading.{field_in, list-none, list-step}
 use Rattle.zvt_rules.proofs.FieldBytes.{field-sound, list-sound}
 use Rattle.zvt_rules.proofs.FieldShort.{field-shorter, list-shorter}
 use Rattle.zvt.specs.declared.objects.Tally.{Tally}
-use Rattle.zvt.specs.declared.objects.PartRead.{PartRead}
-use Rattle.zvt.specs.declared.objects.PartRead.TheVariants.{Part, Refused as part-refused}
 use Rattle.zvt.specs.ObjectSteps.{as_part}
-use Rattle.zvt.specs.FieldSteps.{spare_field, spare_list, field_tally, list_tally, field_when, field_part, ValueFrom, list_answer}
+use Rattle.zvt.specs.FieldSteps.{spare_field, spare_list, field_tally, list_tally, field_when, field_part, list_answer, value_begins}
 use Rattle.zvt.proofs.RunLaws.{part-got, part-stopped, part-alike, part_then, spared}
+use Rattle.zvt.proofs.FieldReads.{ValueFrom}
 
 -- ---- the marks: at each id, whether it is one of those that came
 abbrev pub Marks : List Bool → List ℕ → Type 0
@@ -68,8 +67,8 @@ module _ (ids : List ℕ) (twice : Bool) (n at : ℕ) (s : List ℕ) (seen : twi
   unfolding field_when field_of
   field_is = rw seen
 
-  list-no-first : 0 < length s → (r : Refusal) → field_part twice n at s ≡ part-refused r → (f : ListRead → Tally)
-      → as_part f (list_of ids n at s) ≡ part-refused r
+  list-no-first : 0 < length s → (r : Refusal) → field_part twice n at s ≡ Err r → (f : ListRead → Tally)
+      → as_part f (list_of ids n at s) ≡ Err r
   unfolding field_part as_part
   list-no-first l r e f = ap (as_part f) (list-step ids n at s l ∙ then-stop _ r (sym field_is ∙ part-stopped _ _ r e))
 
@@ -99,13 +98,13 @@ module _ (ids : List ℕ) (twice : Bool) (n at : ℕ) (s : List ℕ) (seen : twi
             spared size r.count (omega (arith, spare_more o.field r.fields next g.ok k.1))),
       )
 
-  list-goes : Bytes s → 0 < length s → (size spare : ℕ) (t : Tally) → field_part twice n at s ≡ Part t → Goes size spare t
+  list-goes : Bytes s → 0 < length s → (size spare : ℕ) (t : Tally) → field_part twice n at s ≡ Ok t → Goes size spare t
   unfolding field_part
   list-goes b l size spare = part-got field_tally (field_when twice n at s) (Goes size spare) (goes b l size spare)
 
 -- ---- a list from the i-th byte on, with so many bytes saved before
 module _ (at : ℕ) (s : List ℕ) where
-  abbrev pub list_from : List ℕ → ℕ → ℕ → ℕ → PartRead
+  abbrev pub list_from : List ℕ → ℕ → ℕ → ℕ → Result Tally Refusal
   list_from ids n i spare = as_part (tally_from (length s) spare) (list_of ids n (at + i) (drop i s))
 
   pub list-begins : list_answer at s ≡ list_from [] 0 0 0
@@ -113,7 +112,7 @@ module _ (at : ℕ) (s : List ℕ) where
   list-begins = rw add-zero (part-alike _ _ (list_of [] 0 at s) (λ r. spared (length s) r.count (omega arith)))
 
   module _ (ids : List ℕ) (n i spare : ℕ) where
-    pub list-ends : i ≤ length s → length s ≤ i → list_from ids n i spare ≡ Part (record { size = i; objects = n; spare = spare })
+    pub list-ends : i ≤ length s → length s ≤ i → list_from ids n i spare ≡ Ok (record { size = i; objects = n; spare = spare })
     unfolding as_part spare_list list_bytes short_list
     list-ends l h =
         let e : length s ≡ i = omega arith in
@@ -127,8 +126,8 @@ module _ (at : ℕ) (s : List ℕ) where
 
     module _ (twice : Bool) (seen : twice ≡ among ids (get_or s i 0)) (l : i < length s) where
       -- the answer for the field that is next
-      abbrev next : PartRead
-      next = field_part twice n (at + i) (take (length s - i) (drop i s))
+      abbrev next : Result Tally Refusal
+      next = field_part twice n (at + i) (drop i s)
 
       some : 0 < length (drop i s)
       some = omega (arith, length-drop i s)
@@ -136,13 +135,19 @@ module _ (at : ℕ) (s : List ℕ) where
       is_seen : twice ≡ among ids (get_or (drop i s) 0 0)
       is_seen = rw (get_or-drop i s 0 0, add-zero) seen
 
-      pub list-stops : (r : Refusal) → next ≡ part-refused r → list_from ids n i spare ≡ part-refused r
-      list-stops r e = list-no-first ids twice n (at + i) (drop i s) is_seen some r (rw tail at e) _
+      pub list-stops : (r : Refusal) → next ≡ Err r → list_from ids n i spare ≡ Err r
+      list-stops r e = list-no-first ids twice n (at + i) (drop i s) is_seen some r e _
 
-      pub list-goes-on : Bytes s → (t : Tally) → next ≡ Part t → GoesOn t
+      pub list-goes-on : Bytes s → (t : Tally) → next ≡ Ok t → GoesOn t
       list-goes-on b t e =
-          let g = list-goes ids twice n (at + i) (drop i s) is_seen (bytes_drop i s b) some (length s) spare t (rw tail at e) in
+          let g = list-goes ids twice n (at + i) (drop i s) is_seen (bytes_drop i s b) some (length s) spare t e in
           (g.0, omega (arith, length-drop i s), g.2, g.3 ∙ rw (get_or-drop i s 0 0, add-zero, drop-drop t.size i s, add_assoc at i t.size))
+
+-- a value is no longer than its field
+value-size : (f : Field) → length (field_value f) ≤ length (field_bytes f)
+unfolding field_value field_bytes sized
+value-size (plain id value) = omega (arith, length-append (length_in (format_of id) (length value)) value)
+value-size (container form os) = omega (arith, length-append (len_bytes form (length (run_bytes os))) (run_bytes os))
 
 -- ---- where the next field lies, and those behind it: the list that begins with that field, by the list behind it
 abbrev pub Listing : ℕ → List ℕ → List ℕ → ℕ → ℕ → ℕ → Tally → Type 0
@@ -153,8 +158,8 @@ Listing at s ids n i from t =
     ≡ record { id = get_or s i 0; from = at + i + from; to = at + i + t.size } ∷ listed_from (at + (i + t.size)) r.fields)
 
 module _ (at : ℕ) (s ids : List ℕ) (n i from : ℕ) (b : Bytes s) (twice : Bool) (seen : twice ≡ among ids (get_or s i 0)) (l : i < length s) where
-  lists : (o : FieldRead) → field_when twice n (at + i) (drop i s) ≡ got o → from + length (field_value o.field) ≡ o.size → Listing at s ids n i from (field_tally o)
-  unfolding field_tally listed_from listed_at
+  lists : (o : FieldRead) → field_when twice n (at + i) (drop i s) ≡ got o → from ≡ value_begins o → Listing at s ids n i from (field_tally o)
+  unfolding field_tally listed_from listed_at value_begins
   lists o e lead r h =
       let first : get_or (drop i s) 0 0 ≡ get_or s i 0 = get_or-drop i s 0 0 ∙ rw add-zero in
       let f = sym (field_is ids twice n (at + i) (drop i s) (rw first seen)) ∙ e in
@@ -162,7 +167,7 @@ module _ (at : ℕ) (s ids : List ℕ) (n i from : ℕ) (b : Bytes s) (twice : B
       let g = field-sound ids n (at + i) (drop i s) o (bytes_drop i s b) f in
       let size : length (field_bytes o.field) ≡ o.size = ap length g.bytes ∙ length-take-le o.size (drop i s) k.1 in
       let id : field_id o.field ≡ get_or s i 0 = g.id ∙ first in
-      let start : at + i + o.size - length (field_value o.field) ≡ at + i + from = omega (arith, lead) in
+      let start : at + i + o.size - length (field_value o.field) ≡ at + i + from = omega (arith, lead, size, value-size o.field) in
       let rest : list_of (get_or (drop i s) 0 0 ∷ ids) o.count (at + i + o.size) (drop o.size (drop i s)) ≡ got r =
       rw (first, drop-drop o.size i s, add_assoc at i o.size) h in (
         record { fields = o.field ∷ r.fields; count = r.count },
@@ -170,8 +175,8 @@ module _ (at : ℕ) (s ids : List ℕ) (n i from : ℕ) (b : Bytes s) (twice : B
         rw (size, id, start, add_assoc at i o.size),
       )
 
-  pub list-notes : ValueFrom twice n (at + i) (take (length s - i) (drop i s)) from → (t : Tally)
-      → field_part twice n (at + i) (take (length s - i) (drop i s)) ≡ Part t → Listing at s ids n i from t
+  pub list-notes : ValueFrom twice n (at + i) (drop i s) from → (t : Tally)
+      → field_part twice n (at + i) (drop i s) ≡ Ok t → Listing at s ids n i from t
   unfolding field_part
   list-notes lead t e =
-      part-got field_tally (field_when twice n (at + i) (drop i s)) (Listing at s ids n i from) (λ o f. lists o f (rw (tail i s) at lead o f)) t (rw (tail i s) at e)
+      part-got field_tally (field_when twice n (at + i) (drop i s)) (Listing at s ids n i from) (λ o f. lists o f (lead o f)) t e

@@ -6,6 +6,7 @@ use native.Mathlib.Nat.{add-zero}
 use native.Mathlib.Omega.{arith}
 use lib.ListN.{length, get_or, take, drop, length-drop}
 use lib.Seq.{length-take-le, take-add, take-take, drop_at, drop-drop, get_or-take, get_or-drop}
+use Rattle.std.proofs.Common.{Err, None, Ok, Option, Some}
 use Rattle.basics.proofs.Tests.{never}
 use Rattle.zvt_rules.specs.declared.Refusal.{Refusal}
 use Rattle.basics.specs.Lists.{part}
@@ -17,10 +18,7 @@ use Rattle.zvt_rules.proofs.ObjectReading.{part_length}
 use Rattle.zvt_rules.proofs.ObjectBytes.{bytes-part}
 use Rattle.zvt_rules.proofs.FieldReading.{list-none}
 use Rattle.zvt_rules.specs.declared.Listed.{Listed}
-use Rattle.zvt.specs.declared.list.Step.{Step}
-use Rattle.zvt.specs.declared.list.Step.TheVariants.{Field as listed-field, End}
 use Rattle.zvt.specs.declared.objects.Bounds.{Bounds}
-use Rattle.zvt.specs.declared.objects.BoundsRead.TheVariants.{Bounds as bounds-read, Refused as bounds-refused}
 use Rattle.zvt.specs.ObjectSteps.{as_bounds}
 use Rattle.zvt.specs.FieldSteps.{field_bounds}
 use Rattle.zvt_rules.specs.Listed.{listed_at, listed_from}
@@ -58,7 +56,7 @@ list-empty at end s e = ap (listed_from at) (no_fields at end s e)
 pub record FirstIn (at end : ℕ) (s : List ℕ) : Type 0 where
   pub field : Field
   pub bounds : Bounds
-  pub read : field_bounds 0 (part at end s) ≡ bounds-read bounds
+  pub read : field_bounds 0 (part at end s) ≡ Ok bounds
   pub order : bounds.from ≤ bounds.to
   pub some : 0 < bounds.to
   pub within : at + bounds.to ≤ end
@@ -101,7 +99,7 @@ first-in at end s b l h =
 
 module _ (at end : ℕ) (s : List ℕ) (b : Bytes s) (h : ListIn at end s) (n : at ≡ end → ⊥) where
   -- its bounds give it
-  pub first-is : (x : Bounds) → field_bounds 0 (part at end s) ≡ bounds-read x
+  pub first-is : (x : Bounds) → field_bounds 0 (part at end s) ≡ Ok x
       → (x.from ≤ x.to) × (at + x.to ≤ end) × FieldHere at end s (record { id = get_or s at 0; from = at + x.from; to = at + x.to })
   first-is x e =
       let f = first-in at end s b h (omega (arith, h.order)) in
@@ -109,14 +107,14 @@ module _ (at end : ℕ) (s : List ℕ) (b : Bytes s) (h : ListIn at end s) (n : 
       rw (← same) (f.order, f.within, record { some = omega (arith, f.some); rest = f.rest; all = f.all })
 
   -- and are never refused
-  pub first-never : (r : Refusal) → field_bounds 0 (part at end s) ≡ bounds-refused r → ⊥
+  pub first-never : (r : Refusal) → field_bounds 0 (part at end s) ≡ Err r → ⊥
   first-never r e = never (cc (first-in at end s b h (omega (arith, h.order))).read)
 
 -- ---- what stands at a place says of the whole list
-pub field-here : {at e : ℕ} {s : List ℕ} {r : Step} {l : Listed} → StandsAt at e s r → r ≡ listed-field l → FieldHere at e s l
+pub field-here : {at e : ℕ} {s : List ℕ} {r : (Option Listed)} {l : Listed} → StandsAt at e s r → r ≡ Some l → FieldHere at e s l
 field-here {l = l} (field {l = k} h) e = let same : k ≡ l = cc in rw same at h
 field-here (none h) e = never cc
 
-pub none_here : {at e : ℕ} {s : List ℕ} {r : Step} → StandsAt at e s r → r ≡ End → listed_in at e s ≡ []
+pub none_here : {at e : ℕ} {s : List ℕ} {r : (Option Listed)} → StandsAt at e s r → r ≡ None → listed_in at e s ≡ []
 none_here (field h) e = never cc
 none_here (none h) e = h

@@ -1,11 +1,13 @@
 -- The masks on bytes, as the tests of the definitions. Assumes nothing.
 use mathlib.Core.Path.{◌≡◌, sym, ◌∙◌}
-use mathlib.Core.Bool.{true, false}
+use mathlib.Core.Bool.{true, false, not}
 use Prim.Native.Nat.{ℕ, ◌*◌, ◌/◌, ◌%◌, ◌<◌, ◌≤◌}
 use native.Mathlib.Omega.{arith}
 use native.Mathlib.Nat.{mod-eq_of_lt}
 use lib.Bits.{bit_and, and_mask, and_high}
-use borrow.Author.Tests.{eq-eqb, ne_eqb, le-leb, lt-leb}
+use borrow.Author.Tests.{eqb-true, eqb-false, eq-eqb, ne_eqb, le-leb, lt-leb}
+use lib.Dec.{eqb}
+use Rattle.basics.proofs.Tests.{by-test}
 use Rattle.zvt_rules.specs.Objects.{long_tag, top_bit, nested}
 use Rattle.zvt_rules.specs.Fields.{decimal}
 
@@ -16,11 +18,11 @@ long-tag b h = eq-eqb (b % 32) 31 (sym (and_mask b 5) ∙ h)
 pub short-tag : (b : ℕ) → (bit_and b 0x1F ≡ 0x1F → ⊥) → long_tag b ≡ false
 short-tag b h = ne_eqb (b % 32) 31 (λ e. h (and_mask b 5 ∙ e))
 
-pub run-bit : (b : ℕ) → (bit_and b 0x20 ≡ 0 → ⊥) → nested b ≡ true
-run-bit b h = eq-eqb (b / 32 % 2) 1 (omega (arith, and_high b 1 5))
-
-pub no-run-bit : (b : ℕ) → bit_and b 0x20 ≡ 0 → nested b ≡ false
-no-run-bit b h = ne_eqb (b / 32 % 2) 1 (λ e. omega (arith, and_high b 1 5))
+-- the bit itself, as a test
+pub run-mask : (b : ℕ) → nested b ≡ not (eqb (bit_and b 0x20) 0)
+run-mask b =
+    by-test (eqb (bit_and b 0x20) 0) (λ t. rw t (ne_eqb (b / 32 % 2) 1 (λ e. omega (arith, and_high b 1 5, eqb-true _ 0 t))))
+    (λ t. rw t (eq-eqb (b / 32 % 2) 1 (omega (arith, and_high b 1 5, eqb-false _ 0 t))))
 
 pub top-bit : (b : ℕ) → (bit_and b 0x80 ≡ 0 → ⊥) → top_bit b ≡ true
 top-bit b h = le-leb 128 b (omega (arith, and_high b 1 7))

@@ -1,12 +1,13 @@
 -- What is read of a message, by the header and the tally of the body. Assumes nothing.
 use mathlib.Core.Path.{◌≡◌, refl, sym, ap, ◌∙◌}
-use mathlib.Core.Bool.{Bool, true, false, not, ◌||◌, and_comm, or-true, or-false}
+use mathlib.Core.Bool.{Bool, true, false, not, ◌||◌, and_comm}
 use mathlib.Core.List.{List, [], ◌∷◌}
-use Prim.Native.Nat.{ℕ, ◌+◌, ◌<◌, ◌≤◌}
+use Prim.Native.Nat.{ℕ, ◌+◌}
 use native.Mathlib.Omega.{arith}
 use lib.ListN.{length, replicate}
 use lib.Dec.{leb, eqb}
-use borrow.Author.Tests.{eq-eqb, ne_eqb, le-leb, lt-leb}
+use borrow.Author.Tests.{eq-eqb, ne_eqb}
+use Rattle.std.proofs.Common.{Err, Ok, None}
 use Rattle.basics.proofs.Tests.{never}
 use Rattle.zvt_rules.specs.declared.Refusal.{Refusal}
 use Rattle.zvt_rules.specs.declared.Layout.{Layout}
@@ -24,17 +25,15 @@ use Rattle.zvt_rules.proofs.FieldReading.{header-in}
 use Rattle.zvt_rules.proofs.MessageBytes.{body-sound, message-size}
 use Rattle.zvt_rules.proofs.MessageShort.{body-shorter, body-exactly}
 use Rattle.zvt_rules.specs.declared.Places.{Places}
-use Rattle.zvt_rules.specs.Listed.{listed_message, named_listed, asked_of, nowhere, span_of, spans_of, password_in, password_span}
+use Rattle.zvt_rules.specs.Listed.{listed_message, named_listed, asked_of, span_of, spans_of, password_in, password_span}
 use Rattle.zvt_rules.specs.declared.Header.{Header}
 use Rattle.zvt_rules.specs.declared.Outline.{Outline}
-use Rattle.zvt.specs.declared.headers.HeaderRead.TheVariants.{Header as header_read, Refused as header_refused}
 use Rattle.zvt.specs.declared.objects.Tally.{Tally}
-use Rattle.zvt.specs.declared.objects.PartRead.TheVariants.{Part, Refused as part-refused}
 use Rattle.zvt_rules.specs.Answers.{header_in, outline_of}
 use Rattle.zvt.specs.HeaderSteps.{in_code}
-use Rattle.zvt.specs.declared.body.BodyFound.{BodyFound}
+use Rattle.zvt.proofs.BodyLaws.{BodyLies}
 use Rattle.zvt.specs.FieldSteps.{spans_in}
-use Rattle.zvt.specs.BodySteps.{spare_body, body_tally, body_answer, body_in, described, no_places, places_in, BodyIn}
+use Rattle.zvt.specs.BodySteps.{spare_body, body_tally, body_answer, body_in, described, no_places, places_in}
 use Rattle.zvt.proofs.HeaderLaws.{as-got, as-stopped}
 use Rattle.zvt.proofs.RunLaws.{part-got, part-stopped}
 
@@ -42,19 +41,6 @@ use Rattle.zvt.proofs.RunLaws.{part-got, part-stopped}
 abbrev pub described_as : Header → Tally → Bool → Outline
 described_as h t shortest =
     record { class = h.class; instruction = h.instruction; start = h.start; length = h.length; objects = t.objects; shortest = shortest }
-
-pub described-spare : (h : Header) (t : Tally) → (t.spare ≡ 0 → ⊥) → described_as h t false ≡ described h t
-unfolding described
-described-spare h t n = rw (ne_eqb t.spare 0 n)
-
-pub described-full : (h : Header) (t : Tally) → t.spare ≡ 0 → 255 ≤ h.length → described_as h t true ≡ described h t
-unfolding described
-described-full h t e l = rw (eq-eqb t.spare 0 e, le-leb 255 h.length l, or-true)
-
-pub described-start : (h : Header) (t : Tally) (b : Bool) → t.spare ≡ 0 → h.length < 255 → eqb h.start 3 ≡ b
-    → described_as h t b ≡ described h t
-unfolding described
-described-start h t b e l f = rw (eq-eqb t.spare 0 e, lt-leb 255 h.length l, or-false, f)
 
 -- a body takes no byte fewer exactly where it is shortest
 spare-short : (l : Layout) (b : Body) → LayoutOk l b → eqb (spare_body b) 0 ≡ is_short_body b
@@ -77,14 +63,14 @@ abbrev pub places_by : List ℕ → Reading Message → Places
 places_by ids x = record { password = password_span x; fields = spans_of x ids }
 
 spans-asked : (m : Message) (ids : List ℕ) → spans_in (listed_message (got m)) ids ≡ spans_of (got m) ids
-unfolding spans_in spans_of asked_of
+unfolding spans_in spans_of asked_of span_of
 spans-asked m [] = refl
-spans-asked m (id ∷ ids) = ap (λ xs. span_of (named_listed id (listed_message (got m))) ∷ xs) (spans-asked m ids)
+spans-asked m (id ∷ ids) = ap (λ xs. named_listed id (listed_message (got m)) ∷ xs) (spans-asked m ids)
 
-none-asked : (ids : List ℕ) (r : Refusal) → spans_of (refused r) ids ≡ replicate (length ids) nowhere
+none-asked : (ids : List ℕ) (r : Refusal) → spans_of (refused r) ids ≡ replicate (length ids) None
 unfolding spans_of asked_of span_of
 none-asked [] r = refl
-none-asked (id ∷ ids) r = ap (λ xs. nowhere ∷ xs) (none-asked ids r)
+none-asked (id ∷ ids) r = ap (λ xs. None ∷ xs) (none-asked ids r)
 
 pub no-places : (ids : List ℕ) (r : Refusal) → length ids ≡ 4 → places_by ids (refused r) ≡ no_places
 unfolding password_span
@@ -98,13 +84,13 @@ module _ (s : List ℕ) (m : Heading) where
   abbrev layout : Layout
   layout = layout_of m.class m.instruction
 
-  message-stopped : (r : Refusal) → body_in (header_in m) s ≡ part-refused r → message_of s m ≡ refused r
+  message-stopped : (r : Refusal) → body_in (header_in m) s ≡ Err r → message_of s m ≡ refused r
   unfolding body_in header_in body_answer message_of
   message-stopped r e = then-stop _ r (part-stopped (body_tally inside) (body_of (start m) inside layout) r e)
 
   -- where password and fields were found in the body, they lie in the message
   abbrev Lies : Message → Type 0
-  Lies w = (ids : List ℕ) (r : BodyFound) → BodyIn ids (header_in m) s r → r.places ≡ places_by ids (got w)
+  Lies w = (ids : List ℕ) (places : Places) → BodyLies ids (header_in m) s places → places ≡ places_by ids (got w)
 
   abbrev Described : Tally → Type 0
   Described t =
@@ -125,11 +111,11 @@ module _ (s : List ℕ) (m : Heading) where
           then-on _ b f,
           rw (size, short, at, swap),
           omega (arith, message-size w),
-          λ ids r reads.
-              reads.found b f ∙ ap (λ xs. record { password = password_in (start m) b; fields = xs }) (spans-asked w ids),
+          λ ids places reads.
+              reads b f ∙ ap (λ xs. record { password = password_in (start m) b; fields = xs }) (spans-asked w ids),
         )
 
-    message-read : (t : Tally) → body_in (header_in m) s ≡ Part t → Described t
+    message-read : (t : Tally) → body_in (header_in m) s ≡ Ok t → Described t
     unfolding body_in header_in body_answer
     message-read t f = part-got (body_tally inside) (body_of (start m) inside layout) Described body-described t f
 
@@ -138,16 +124,16 @@ module _ (s : List ℕ) (x : Reading Heading) where
   abbrev behind : Reading Message
   behind = and_then x λ m. message_of s m
 
-  pub no_header : (r : Refusal) → in_code x ≡ header_refused r → behind ≡ refused r
+  pub no_header : (r : Refusal) → in_code x ≡ Err r → behind ≡ refused r
   no_header r e = then-stop _ r (as-stopped x r e)
 
-  module _ (h : Header) (e : in_code x ≡ header_read h) where
-    pub no_body : (r : Refusal) → body_in h s ≡ part-refused r → behind ≡ refused r
+  module _ (h : Header) (e : in_code x ≡ Ok h) where
+    pub no_body : (r : Refusal) → body_in h s ≡ Err r → behind ≡ refused r
     no_body r f = let g = as-got x h e in then-on _ g.0 g.1 ∙ message-stopped s g.0 r (rw g.2 f)
 
-    pub accepted : ((m : Heading) → x ≡ got m → header_of s ≡ got m) → Bytes s → (t : Tally) → body_in h s ≡ Part t
+    pub accepted : ((m : Heading) → x ≡ got m → header_of s ≡ got m) → Bytes s → (t : Tally) → body_in h s ≡ Ok t
         → (w : Message) × (behind ≡ got w) × (outline_of w ≡ described h t) × (length (message_bytes w) ≡ h.start + h.length)
-        × ((ids : List ℕ) (r : BodyFound) → BodyIn ids h s r → r.places ≡ places_by ids (got w))
+        × ((ids : List ℕ) (places : Places) → BodyLies ids h s places → places ≡ places_by ids (got w))
     unfolding header_in
     accepted first bs t f =
         let g = as-got x h e in
@@ -156,5 +142,5 @@ module _ (s : List ℕ) (x : Reading Heading) where
           then-on _ g.0 g.1 ∙ d.1,
           d.2 ∙ ap (λ (k : Header). described k t) g.2,
           d.3 ∙ ap (λ (k : Header). k.start + k.length) g.2,
-          λ ids r b. d.4 ids r (rw (sym g.2) at b),
+          λ ids places b. d.4 ids places (rw (sym g.2) at b),
         )

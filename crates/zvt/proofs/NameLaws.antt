@@ -2,20 +2,19 @@
 use mathlib.Core.Path.{◌≡◌, refl, ap, ◌∙◌}
 use mathlib.Core.Bool.{true, false}
 use mathlib.Core.List.{List, [], ◌∷◌}
-use Prim.Native.Nat.{ℕ, ◌+◌, ◌<◌, ◌≤◌}
-use native.Mathlib.Numerals.{add-one}
+use Prim.Native.Nat.{ℕ, ◌+◌, ◌≤◌}
 use native.Mathlib.Omega.{arith}
-use lib.ListN.{length, get_or, drop, drop_of_length-le}
-use lib.Seq.{drop-cons}
+use lib.ListN.{length}
 use lib.Dec.{eqb}
-use borrow.Author.Tests.{eq-eqb, ne_eqb}
-use Rattle.basics.specs.Lists.{part}
+use borrow.Author.Tests.{ne_eqb}
+use Rattle.std.proofs.Common.{Err, None, Ok, Some}
+use Rattle.basics.specs.Lists.{part, index_of}
 use Rattle.zvt_rules.specs.Reading.{Reading, got, refused}
+use Rattle.basics.specs.Choice.{pick}
 use Rattle.basics.proofs.Tests.{pick-test}
 use Rattle.zvt_rules.proofs.ObjectReading.{part_length}
 use Rattle.zvt_rules.specs.declared.Refusal.{Refusal}
 use Rattle.zvt_rules.specs.declared.Span.{Span}
-use Rattle.zvt_rules.specs.declared.FieldAnswer.TheVariants.{Absent, Value, Refused as field-refused}
 use Rattle.zvt_rules.specs.Message.{Message, read_of}
 use Rattle.zvt_rules.specs.Listed.{asked_of, field_answer}
 use Rattle.zvt_rules.specs.Name.{up_to_zero, own, between, sized_name, name_in, name_of, name_at, name_bytes, card_name, name_place}
@@ -23,19 +22,11 @@ use Rattle.basics.specs.believed.Lists.{Bytes}
 use Rattle.zvt.specs.ValueSteps.{status_pair}
 use Rattle.zvt.proofs.ValueLaws.{pair-is}
 
--- ---- from the i-th byte on
-module _ (s : List ℕ) (i : ℕ) where
-  pub name-stops : i < length s → get_or s i 0 ≡ 0 → length (up_to_zero (drop i s)) ≡ 0
-  unfolding up_to_zero
-  name-stops h e = rw (drop-cons s i 0 h, eq-eqb (get_or s i 0) 0 e)
-
-  pub name-goes : i < length s → (get_or s i 0 ≡ 0 → ⊥) → length (up_to_zero (drop i s)) ≡ 1 + length (up_to_zero (drop (i + 1) s))
-  unfolding up_to_zero
-  name-goes h n = rw (add-one i, drop-cons s i 0 h, ne_eqb (get_or s i 0) 0 n) (omega arith)
-
-  pub name-ends : length s ≤ i → length (up_to_zero (drop i s)) ≡ 0
-  unfolding up_to_zero
-  name-ends h = rw (drop_of_length-le s h)
+-- ---- the bytes before the first zero end where that stands
+pub name-size : (s : List ℕ) → index_of 0 s ≡ length (up_to_zero s)
+unfolding index_of up_to_zero
+name-size [] = refl
+name-size (b ∷ s) = pick-test (λ (n : ℕ). n ≡ length (pick (eqb b 0) [] (b ∷ up_to_zero s))) (eqb b 0) (λ t. rw t) (λ t. rw (t, name-size s))
 
 -- ---- they are no more than the value has
 name-short : (s : List ℕ) → length (up_to_zero s) ≤ length s
@@ -72,15 +63,15 @@ module _ (s : List ℕ) (b : Bytes s) where
       go (refused r) e = refl
 
   module _ (t : status_pair s ≡ true) where
-    pub name-absent : field_answer 0x8B s ≡ Absent → name_at s ≡ own
+    pub name-absent : field_answer 0x8B s ≡ Ok None → name_at s ≡ own
     unfolding name_in
     name-absent e = name_by t ∙ ap (name_in s) e
 
-    pub name-refused : (r : Refusal) → field_answer 0x8B s ≡ field-refused r → name_at s ≡ own
+    pub name-refused : (r : Refusal) → field_answer 0x8B s ≡ Err r → name_at s ≡ own
     unfolding name_in
     name-refused r e = name_by t ∙ ap (name_in s) e
 
-    module _ (l : Span) (e : field_answer 0x8B s ≡ Value l) (k : ℕ) (size : k ≡ length (up_to_zero (part l.from l.to s))) where
+    module _ (l : Span) (e : field_answer 0x8B s ≡ Ok (Some l)) (k : ℕ) (size : k ≡ length (up_to_zero (part l.from l.to s))) where
       pub name-empty : k ≡ 0 → name_at s ≡ own
       unfolding name_in sized_name
       name-empty z = name_by t ∙ ap (name_in s) e ∙ rw (← size, z)

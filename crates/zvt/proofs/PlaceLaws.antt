@@ -7,6 +7,7 @@ use native.Mathlib.Nat.{add-zero}
 use native.Mathlib.Omega.{arith}
 use lib.ListN.{length, take, drop, length-append, length-take}
 use lib.Seq.{drop-append_seam, drop-drop}
+use Rattle.std.proofs.Common.{Ok, Err}
 use Rattle.basics.proofs.Tests.{never}
 use Rattle.zvt_rules.specs.declared.Refusal.{Refusal}
 use Rattle.zvt_rules.specs.declared.Layout.{Layout}
@@ -23,13 +24,13 @@ use Rattle.zvt_rules.proofs.ObjectReading.{tail}
 use Rattle.zvt_rules.proofs.ObjectBytes.{bytes-part}
 use Rattle.zvt_rules.proofs.FieldBytes.{list-complete}
 use Rattle.zvt_rules.proofs.FieldReading.{header-most, list-none}
+use Rattle.zvt_rules.proofs.AnswerLaws.{first-refused-exactly}
 use Rattle.zvt_rules.proofs.MessageBytes.{first-sound, read-sound, read-complete, message-size, length_most}
 use Rattle.zvt_rules.proofs.MessageShort.{fields-ok}
 use Rattle.zvt_rules.specs.declared.Outline.{Outline}
-use Rattle.zvt_rules.specs.declared.ReadAnswer.TheVariants.{Accepted}
 use Rattle.zvt_rules.specs.declared.Span.{Span}
-use Rattle.zvt_rules.specs.Answers.{outline_of, as_read_answer, read_answer}
-use Rattle.zvt_rules.specs.Listed.{listed_from, listed_body, listed_message, ids_listed, first_ids, nowhere}
+use Rattle.zvt_rules.specs.Answers.{outline_of, as_read_answer, read_answer, first_answer, as_first_answer}
+use Rattle.zvt_rules.specs.Listed.{listed_from, listed_body, listed_message, ids_listed, first_ids}
 use Rattle.zvt.specs.ListSteps.{list_fields, fields_between, listed_in, ListIn, ListOf, Was}
 use Rattle.zvt.specs.WritingSteps.{ListReads}
 use Rattle.zvt.proofs.ListedLaws.{list-empty}
@@ -64,22 +65,22 @@ unfolding ListReads
 no-list s = (record { order = omega arith; inside = omega arith; short = omega arith; reads = (_, list-none [] 0 0 [] refl) }, list-empty 0 0 s refl)
 
 -- ---- the message behind the reader's answer
-pub accepted : (s : List ℕ) (x : Outline) → read_answer s ≡ Accepted x → (m : Message) × (read_of s ≡ got m) × (outline_of m ≡ x)
+pub accepted : (s : List ℕ) (x : Outline) → read_answer s ≡ Ok x → (m : Message) × (read_of s ≡ got m) × (outline_of m ≡ x)
 unfolding read_answer as_read_answer
 accepted s x h = go (read_of s) refl h
   where
-    go : (y : Reading Message) → read_of s ≡ y → as_read_answer y ≡ Accepted x → (m : Message) × (read_of s ≡ got m) × (outline_of m ≡ x)
+    go : (y : Reading Message) → read_of s ≡ y → as_read_answer y ≡ Ok x → (m : Message) × (read_of s ≡ got m) × (outline_of m ≡ x)
     go (got m) q g = (m, q, cc)
     go (refused f) q g = never cc
 
 -- ---- where the list lies, by the layout of the body
 unfoldable pub list_by : ℕ → ℕ → Layout → Span
-list_by at end Plain = nowhere
+list_by at end Plain = record { from = 0; to = 0 }
 list_by at end FieldList = record { from = at; to = end }
 list_by at end Secured = record { from = at + 3; to = end }
 
-nowhere-list : (s : List ℕ) → listed_message (read_of s) ≡ [] → ListOf nowhere s
-nowhere-list s e = let none = no-list s in record { within = none.0; fields = e ∙ sym none.1 }
+empty-list : (s : List ℕ) → listed_message (read_of s) ≡ [] → ListOf (record { from = 0; to = 0 }) s
+empty-list s e = let none = no-list s in record { within = none.0; fields = e ∙ sym none.1 }
 
 module _ (s : List ℕ) (m : Message) (b : Bytes s) (e : read_of s ≡ got m) where
   list-placed : (from : ℕ) (password : List ℕ) (fs : List Field) → m.body ≡ listed password fs → header_size m.long + length password ≡ from
@@ -91,7 +92,7 @@ module _ (s : List ℕ) (m : Message) (b : Bytes s) (e : read_of s ≡ got m) wh
 
   list-lies : (l : Layout) (x : Body) → LayoutOk l x → m.body ≡ x → ListOf (list_by (header_size m.long) (length s) l) s
   unfolding list_by LayoutOk listed_message listed_body
-  list-lies Plain (bytes w) ok q = nowhere-list s (rw (e, q))
+  list-lies Plain (bytes w) ok q = empty-list s (rw (e, q))
   list-lies Plain (listed password fs) ok q = absurd ok
   list-lies FieldList (bytes w) ok q = absurd ok
   list-lies FieldList (listed password fs) ok q = list-placed _ password fs q (rw ok.0 (add-zero (header_size m.long)))
@@ -127,6 +128,20 @@ module _ (s : List ℕ) (m : Message) (n : ℕ) (b : Bytes s) (e : first_of s �
   own-ids = rw (e, own_read)
 
 -- and has none where it is refused
-pub refused-ids : (s : List ℕ) (r : Refusal) (out : List ℕ) → first_of s ≡ refused r → Whole (first_ids s) 0 out out
-unfolding first_ids listed_message ids_listed
-refused-ids s r out e = rw e (refl, refl)
+
+pub refused-ids : (s : List ℕ) (r : Refusal) (out : List ℕ) → first_answer s ≡ Err r → Whole (first_ids s) 0 out out
+unfolding first_ids ids_listed listed_message
+refused-ids s r out e = rw ((first-refused-exactly s r).0 e) (refl, refl)
+
+-- the message that was read first
+pub first-got : (s : List ℕ) (o : Outline) (next : ℕ) → first_answer s ≡ Ok (o, next)
+    → (m : Message) × (first_of s ≡ got m) × (outline_of m ≡ o) × (length (message_bytes m) ≡ next)
+unfolding first_answer as_first_answer
+first-got s o next e = go (first_of s) refl e
+  where
+    go : (x : Reading Message) → first_of s ≡ x → as_first_answer x ≡ Ok (o, next)
+        → (m : Message) × (first_of s ≡ got m) × (outline_of m ≡ o) × (length (message_bytes m) ≡ next)
+    go (got m) q k =
+        let both : (outline_of m, length (message_bytes m)) ≡ (o, next) = cc in
+        (m, q, ap (λ (x : Outline × ℕ). x.0) both, ap (λ (x : Outline × ℕ). x.1) both)
+    go (refused r) q k = never cc

@@ -8,6 +8,7 @@ use native.Mathlib.Omega.{arith}
 use lib.ListN.{length, get_or, take, drop, length-append, length-drop}
 use lib.Seq.{drop-drop, length-take-le}
 use borrow.Author.Tests.{le-leb, lt-leb, eq-eqb, ne_eqb}
+use Rattle.std.proofs.Common.{Err, Ok, Result}
 use Rattle.zvt_rules.specs.declared.Refusal.{Refusal}
 use Rattle.basics.specs.Lists.{part}
 use Rattle.zvt_rules.specs.Reading.{Reading, got, refused, fault_at, unless, and_then}
@@ -19,40 +20,36 @@ use Rattle.basics.specs.believed.Lists.{Bytes}
 use Rattle.zvt_rules.specs.believed.Grammar.{FormOk, ObjOk, RunOk}
 use Rattle.basics.proofs.Tests.{pick_true, pick-false, never}
 use Rattle.zvt_rules.proofs.Readings.{then-on, then-stop}
-use Rattle.zvt_rules.proofs.ObjectReading.{tail, part_length, head-got, head-in, inside, one_in, run_none, run_step, one-step}
+use Rattle.zvt_rules.proofs.ObjectReading.{part_length, head-got, head-in, inside, one_in, run_none, run_step, one-step}
 use Rattle.zvt_rules.proofs.Lengths.{object-size, len-sound, form-shorter}
 use Rattle.zvt_rules.proofs.ObjectShort.{obj-shorter, run-shorter}
 use Rattle.zvt_rules.proofs.ObjectBytes.{bytes_drop, bytes-part, run_sound, one-sound}
 use Rattle.zvt.specs.declared.objects.Bounds.{Bounds}
-use Rattle.zvt.specs.declared.objects.BoundsRead.{BoundsRead}
-use Rattle.zvt.specs.declared.objects.BoundsRead.TheVariants.{Bounds as bounds-read, Refused as bounds-refused}
 use Rattle.zvt.specs.declared.objects.Tally.{Tally}
-use Rattle.zvt.specs.declared.objects.PartRead.{PartRead}
-use Rattle.zvt.specs.declared.objects.PartRead.TheVariants.{Part, Refused as part-refused}
 use Rattle.zvt.specs.ObjectSteps.{as_bounds, as_part, bounds_of, head_answer, spare_obj, spare_run, tally_of, one_tally, run_tally, one_answer, run_answer}
 
 -- ---- an answer goes back to what was read
 pub part-got : {A : Type 0} (f : A → Tally) (x : Reading A) (P : Tally → Type 0) → ((a : A) → x ≡ got a → P (f a))
-    → (t : Tally) → as_part f x ≡ Part t → P t
+    → (t : Tally) → as_part f x ≡ Ok t → P t
 unfolding as_part
 part-got f (got a) P h t e = subst P (let g : f a ≡ t = cc in g) (h a refl)
 part-got f (refused r) P h t e = never cc
 
-pub part-stopped : {A : Type 0} (f : A → Tally) (x : Reading A) (r : Refusal) → as_part f x ≡ part-refused r → x ≡ refused r
+pub part-stopped : {A : Type 0} (f : A → Tally) (x : Reading A) (r : Refusal) → as_part f x ≡ Err r → x ≡ refused r
 unfolding as_part
 part-stopped f (got a) r e = never cc
 part-stopped f (refused q) r e = cc
 
-abbrev bounds_from : List ℕ → Reading Head → BoundsRead
+abbrev bounds_from : List ℕ → Reading Head → Result Bounds Refusal
 bounds_from s x = as_bounds (and_then x λ h. got (bounds_of s h))
 
 bounds-got : (s : List ℕ) (x : Reading Head) (P : Bounds → Type 0) → ((h : Head) → x ≡ got h → P (bounds_of s h))
-    → (b : Bounds) → bounds_from s x ≡ bounds-read b → P b
+    → (b : Bounds) → bounds_from s x ≡ Ok b → P b
 unfolding as_bounds and_then
 bounds-got s (got h) P f b e = subst P (let g : bounds_of s h ≡ b = cc in g) (f h refl)
 bounds-got s (refused r) P f b e = never cc
 
-bounds-stopped : (s : List ℕ) (x : Reading Head) (r : Refusal) → bounds_from s x ≡ bounds-refused r → x ≡ refused r
+bounds-stopped : (s : List ℕ) (x : Reading Head) (r : Refusal) → bounds_from s x ≡ Err r → x ≡ refused r
 unfolding as_bounds and_then
 bounds-stopped s (got h) r e = never cc
 bounds-stopped s (refused q) r e = cc
@@ -98,13 +95,13 @@ tally-fits b form v saved ok e f l = (omega (arith, form-shorter form v (b.to - 
 -- ---- what is known of a tally goes by what was read
 pub part-alike : {A : Type 0} (f g : A → Tally) (x : Reading A) → ((a : A) → f a ≡ g a) → as_part f x ≡ as_part g x
 unfolding as_part
-part-alike f g (got a) h = ap Part (h a)
+part-alike f g (got a) h = ap Ok (h a)
 part-alike f g (refused r) h = refl
 
 pub part_then : {A B : Type 0} (f : B → Tally) (g : A → Tally) (x : Reading A) (y : A → B) → ((a : A) → x ≡ got a → f (y a) ≡ g a)
     → as_part f (and_then x λ a. got (y a)) ≡ as_part g x
 unfolding as_part and_then
-part_then f g (got a) y h = ap Part (h a refl)
+part_then f g (got a) y h = ap Ok (h a refl)
 part_then f g (refused r) y h = refl
 
 pub spared : (size objects : ℕ) {x y : ℕ} → x ≡ y
@@ -117,7 +114,7 @@ abbrev tally_from : ℕ → ℕ → RunRead → Tally
 tally_from size spare r = record { size = size; objects = r.count; spare = spare + spare_run r.objs }
 
 module _ (left n at : ℕ) (s : List ℕ) (some : 0 < length s) where
-  run-no-first : (r : Refusal) → one_answer left n at s ≡ part-refused r → (f : RunRead → Tally) → as_part f (run_of left n at s) ≡ part-refused r
+  run-no-first : (r : Refusal) → one_answer left n at s ≡ Err r → (f : RunRead → Tally) → as_part f (run_of left n at s) ≡ Err r
   unfolding one_answer as_part
   run-no-first r e f = ap (as_part f) (run_step left n at s some ∙ then-stop _ r (part-stopped _ _ r e))
 
@@ -145,13 +142,13 @@ module _ (left n at : ℕ) (s : List ℕ) (some : 0 < length s) where
             spared size r.count (omega (arith, spare_more o.obj r.objs left g.1 k.1))),
       )
 
-  run-goes : Bytes s → (size spare : ℕ) (t : Tally) → one_answer left n at s ≡ Part t → Goes size spare t
+  run-goes : Bytes s → (size spare : ℕ) (t : Tally) → one_answer left n at s ≡ Ok t → Goes size spare t
   unfolding one_answer
   run-goes b size spare = part-got one_tally (one_of left n at s) (Goes size spare) (goes b size spare)
 
 -- ---- a run from the i-th byte on, with so many bytes saved before
 module _ (left at : ℕ) (s : List ℕ) where
-  abbrev pub run_from : ℕ → ℕ → ℕ → PartRead
+  abbrev pub run_from : ℕ → ℕ → ℕ → Result Tally Refusal
   run_from n i spare = as_part (tally_from (length s) spare) (run_of left n (at + i) (drop i s))
 
   pub run-begins : (n : ℕ) → run_answer left n at s ≡ run_from n 0 0
@@ -159,7 +156,7 @@ module _ (left at : ℕ) (s : List ℕ) where
   run-begins n = rw add-zero (part-alike _ _ (run_of left n at s) (λ r. spared (length s) r.count (omega arith)))
 
   module _ (n i spare : ℕ) where
-    pub run_ends : i ≤ length s → length s ≤ i → run_from n i spare ≡ Part (record { size = i; objects = n; spare = spare })
+    pub run_ends : i ≤ length s → length s ≤ i → run_from n i spare ≡ Ok (record { size = i; objects = n; spare = spare })
     unfolding as_part spare_run run_bytes short_run
     run_ends l h =
         let e : length s ≡ i = omega arith in
@@ -173,39 +170,39 @@ module _ (left at : ℕ) (s : List ℕ) where
 
     module _ (l : i < length s) where
       -- the answer for the object that is next
-      abbrev next : PartRead
-      next = one_answer left n (at + i) (take (length s - i) (drop i s))
+      abbrev next : Result Tally Refusal
+      next = one_answer left n (at + i) (drop i s)
 
       some : 0 < length (drop i s)
       some = omega (arith, length-drop i s)
 
-      pub run-stops : (r : Refusal) → next ≡ part-refused r → run_from n i spare ≡ part-refused r
-      run-stops r e = run-no-first left n (at + i) (drop i s) some r (rw tail at e) _
+      pub run-stops : (r : Refusal) → next ≡ Err r → run_from n i spare ≡ Err r
+      run-stops r e = run-no-first left n (at + i) (drop i s) some r e _
 
-      pub run-goes-on : Bytes s → (t : Tally) → next ≡ Part t → GoesOn t
+      pub run-goes-on : Bytes s → (t : Tally) → next ≡ Ok t → GoesOn t
       run-goes-on b t e =
-          let g = run-goes left n (at + i) (drop i s) some (bytes_drop i s b) (length s) spare t (rw tail at e) in
+          let g = run-goes left n (at + i) (drop i s) some (bytes_drop i s b) (length s) spare t e in
           (g.0, omega (arith, length-drop i s), g.2, g.3 ∙ rw (drop-drop t.size i s, add_assoc at i t.size))
 
 -- ---- an object
-pub one-full : (left n at : ℕ) (s : List ℕ) → most_objects ≤ n → one_answer left n at s ≡ part-refused (fault_at 10 at)
+pub one-full : (left n at : ℕ) (s : List ℕ) → most_objects ≤ n → one_answer left n at s ≡ Err (fault_at 10 at)
 unfolding one_answer as_part unless
 one-full left n at s h = rw (one-step left n at s, le-leb most_objects n h)
 
-pub one-deep : (left n at : ℕ) (s : List ℕ) → n < most_objects → left ≡ 0 → one_answer left n at s ≡ part-refused (fault_at 9 at)
+pub one-deep : (left n at : ℕ) (s : List ℕ) → n < most_objects → left ≡ 0 → one_answer left n at s ≡ Err (fault_at 9 at)
 unfolding one_answer as_part unless
 one-deep left n at s h e = rw (one-step left n at s, lt-leb most_objects n h, eq-eqb left 0 e)
 
 -- the answer for the run inside an object
-abbrev inner : ℕ → ℕ → ℕ → List ℕ → Bounds → PartRead
+abbrev inner : ℕ → ℕ → ℕ → List ℕ → Bounds → Result Tally Refusal
 inner left n at s b = run_answer (left - 1) (n + 1) (at + b.from) (part b.from b.to s)
 
 -- the object that lies there is answered by its tally
 abbrev pub Answered : ℕ → ℕ → ℕ → List ℕ → Bounds → ℕ → ℕ → Type 0
-Answered left n at s b objects saved = Fits b saved × (one_answer left n at s ≡ Part (tally_of b objects saved))
+Answered left n at s b objects saved = Fits b saved × (one_answer left n at s ≡ Ok (tally_of b objects saved))
 
 -- where the value lies
-pub value-in : (at : ℕ) (s : List ℕ) (b : Bounds) → head_answer at s ≡ bounds-read b → (2 ≤ b.from) × (b.from ≤ b.to) × (b.to ≤ length s)
+pub value-in : (at : ℕ) (s : List ℕ) (b : Bounds) → head_answer at s ≡ Ok b → (2 ≤ b.from) × (b.from ≤ b.to) × (b.to ≤ length s)
 unfolding head_answer bounds_of
 value-in at s =
     bounds-got s (head_of at s) (λ b. (2 ≤ b.from) × (b.from ≤ b.to) × (b.to ≤ length s))
@@ -254,7 +251,7 @@ module _ (left n at : ℕ) (s : List ℕ) (room : n < most_objects) (deep : left
   unfolding unless
   at_head = rw (one-step left n at s, lt-leb most_objects n room, ne_eqb left 0 deep)
 
-  pub one-no-head : (r : Refusal) → head_answer at s ≡ bounds-refused r → one_answer left n at s ≡ part-refused r
+  pub one-no-head : (r : Refusal) → head_answer at s ≡ Err r → one_answer left n at s ≡ Err r
   unfolding head_answer one_answer as_part
   one-no-head r e = ap (as_part one_tally) (at_head ∙ then-stop _ r (bounds-stopped s _ r e))
 
@@ -265,29 +262,29 @@ module _ (left n at : ℕ) (s : List ℕ) (room : n < most_objects) (deep : left
       → one_of left n at s ≡ and_then (run_of (left - 1) (n + 1) (at + from h) (part (from h) (to h) s)) (λ r. got (branch_of s h r))
   at-branch h e f = at_head ∙ then-on _ h e ∙ pick_true _ _ f
 
-  pub one-leaf : Bytes s → (b : Bounds) → head_answer at s ≡ bounds-read b → b.nested ≡ false → Answered left n at s b (n + 1) 0
+  pub one-leaf : Bytes s → (b : Bounds) → head_answer at s ≡ Ok b → b.nested ≡ false → Answered left n at s b (n + 1) 0
   unfolding head_answer one_answer as_part bounds_of
   one-leaf bs =
       bounds-got s (head_of at s) (λ b. b.nested ≡ false → Answered left n at s b (n + 1) 0)
-      (λ h e f. (fits at s h bs e 0 (omega arith), ap (as_part one_tally) (at_leaf h e f) ∙ ap Part (leaf-tally at s h bs e n)))
+      (λ h e f. (fits at s h bs e 0 (omega arith), ap (as_part one_tally) (at_leaf h e f) ∙ ap Ok (leaf-tally at s h bs e n)))
 
-  pub one-no-inner : (b : Bounds) → head_answer at s ≡ bounds-read b → b.nested ≡ true → (r : Refusal) → inner left n at s b ≡ part-refused r
-      → one_answer left n at s ≡ part-refused r
+  pub one-no-inner : (b : Bounds) → head_answer at s ≡ Ok b → b.nested ≡ true → (r : Refusal) → inner left n at s b ≡ Err r
+      → one_answer left n at s ≡ Err r
   unfolding head_answer one_answer run_answer as_part bounds_of
   one-no-inner =
       bounds-got s (head_of at s)
-      (λ b. b.nested ≡ true → (r : Refusal) → inner left n at s b ≡ part-refused r → one_answer left n at s ≡ part-refused r)
+      (λ b. b.nested ≡ true → (r : Refusal) → inner left n at s b ≡ Err r → one_answer left n at s ≡ Err r)
       (λ h e f r g. ap (as_part one_tally) (at-branch h e f ∙ then-stop _ r (part-stopped _ _ r g)))
 
-  pub one-branch : Bytes s → (b : Bounds) → head_answer at s ≡ bounds-read b → b.nested ≡ true → (r : Tally) → inner left n at s b ≡ Part r
+  pub one-branch : Bytes s → (b : Bounds) → head_answer at s ≡ Ok b → b.nested ≡ true → (r : Tally) → inner left n at s b ≡ Ok r
       → Answered left n at s b r.objects r.spare
   unfolding head_answer one_answer run_answer as_part bounds_of run_tally
   one-branch bs =
       bounds-got s (head_of at s)
-      (λ b. b.nested ≡ true → (r : Tally) → inner left n at s b ≡ Part r → Answered left n at s b r.objects r.spare)
+      (λ b. b.nested ≡ true → (r : Tally) → inner left n at s b ≡ Ok r → Answered left n at s b r.objects r.spare)
       (λ h e f.
       let t = part (from h) (to h) s in
       part-got (run_tally t) (run_of (left - 1) (n + 1) (at + from h) t) (λ r. Answered left n at s (bounds_of s h) r.objects r.spare)
       (λ r g.
       let i = branch-tally at s h bs e (left - 1) (n + 1) (at + from h) r g in
-      (fits at s h bs e (spare_run r.objs) i.0, ap (as_part one_tally) (at-branch h e f ∙ then-on _ r g) ∙ ap Part i.1)))
+      (fits at s h bs e (spare_run r.objs) i.0, ap (as_part one_tally) (at-branch h e f ∙ then-on _ r g) ∙ ap Ok i.1)))

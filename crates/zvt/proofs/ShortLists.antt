@@ -8,6 +8,7 @@ use lib.ListN.{length, get_or, take, drop}
 use lib.Seq.{take-suc}
 use lib.Dec.{eqb}
 use borrow.Author.Tests.{le-ltb}
+use Rattle.std.proofs.Common.{Err, Ok}
 use Rattle.basics.proofs.Tests.{never}
 use Rattle.zvt_rules.specs.declared.Refusal.{Refusal}
 use Rattle.zvt_rules.specs.declared.Format.{Format}
@@ -26,7 +27,6 @@ use Rattle.zvt_rules.proofs.ObjectBytes.{bytes_drop, bytes-part, run_sound}
 use Rattle.zvt_rules.proofs.FieldReading.{plain-got, container-got, field-got, list-none, list-step}
 use Rattle.zvt_rules.proofs.FieldBytes.{FieldSound, field-sound, list-sound, list-complete}
 use Rattle.zvt.specs.declared.objects.Bounds.{Bounds}
-use Rattle.zvt.specs.declared.objects.BoundsRead.TheVariants.{Bounds as bounds-read, Refused as bounds-refused}
 use Rattle.zvt.specs.ObjectSteps.{as_bounds, bounds_in}
 use Rattle.zvt.specs.FieldSteps.{bounds_by, field_bounds}
 use Rattle.zvt.specs.WritingSteps.{head_bytes, value_bytes, RunReads, short_field_of, ListReads, list_written, short_list_of}
@@ -196,7 +196,7 @@ pub record FieldToPut (s : List ℕ) (b : Bounds) : Type 0 where
   pub rest : ListReads (drop b.to s)
   pub all : short_list_of s ≡ short_field_of b s ++ short_list_of (drop b.to s)
 
-field-to-put : (s : List ℕ) → Bytes s → ListReads s → 0 < length s → (b : Bounds) × (field_bounds 0 s ≡ bounds-read b) × FieldToPut s b
+field-to-put : (s : List ℕ) → Bytes s → ListReads s → 0 < length s → (b : Bounds) × (field_bounds 0 s ≡ Ok b) × FieldToPut s b
 unfolding ListReads field_bounds as_bounds list_bytes short_list
 field-to-put s bs r l =
     let f = (first_field s r.0 bs r.1 l).1 in
@@ -215,8 +215,8 @@ field-to-put s bs r l =
       },
     )
 
-pub field_is : (s : List ℕ) (b : Bounds) → Bytes s → ListReads s → 0 < length s → field_bounds 0 s ≡ bounds-read b → FieldToPut s b
+pub field_is : (s : List ℕ) (b : Bounds) → Bytes s → ListReads s → 0 < length s → field_bounds 0 s ≡ Ok b → FieldToPut s b
 field_is s b bs r l = bounds-are _ (field-to-put s bs r l) b
 
-pub field-never : (s : List ℕ) (r : Refusal) → Bytes s → ListReads s → 0 < length s → field_bounds 0 s ≡ bounds-refused r → ⊥
+pub field-never : (s : List ℕ) (r : Refusal) → Bytes s → ListReads s → 0 < length s → field_bounds 0 s ≡ Err r → ⊥
 field-never s r bs reads l = bounds-never _ (field-to-put s bs reads l) r

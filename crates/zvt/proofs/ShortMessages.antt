@@ -6,6 +6,7 @@ use native.Mathlib.Omega.{arith}
 use lib.ListN.{length, take, drop, length-append}
 use lib.Seq.{length-take-le}
 use borrow.Author.Tests.{lt-ltb, le-ltb}
+use Rattle.std.proofs.Common.{Err, Ok, Result}
 use Rattle.zvt_rules.specs.declared.Refusal.{Refusal}
 use Rattle.basics.specs.Lists.{part}
 use Rattle.zvt_rules.specs.Reading.{Reading, got, refused, unplaced, unless, written_leaves}
@@ -21,10 +22,6 @@ use Rattle.zvt_rules.proofs.MessageBytes.{body-sound, body-complete}
 use Rattle.zvt_rules.proofs.MessageShort.{body-shorter}
 use Rattle.zvt_rules.specs.declared.Header.{Header}
 use Rattle.zvt.specs.declared.objects.Tally.{Tally}
-use Rattle.zvt.specs.declared.objects.PartRead.TheVariants.{Part, Refused as part-refused}
-use Rattle.zvt.specs.declared.headers.HeaderRead.TheVariants.{Header as header_read, Refused as header_refused}
-use Rattle.zvt_rules.specs.declared.ShortenAnswer.{ShortenAnswer}
-use Rattle.zvt_rules.specs.declared.ShortenAnswer.TheVariants.{Written, Refused}
 use Rattle.zvt_rules.specs.Answers.{header_in, shortened, as_shorten_answer, shorten_answer, shorten_leaves}
 use Rattle.zvt.specs.HeaderSteps.{whole_answer}
 use Rattle.zvt.specs.BodySteps.{spare_body, body_tally, body_answer, body_in}
@@ -36,28 +33,28 @@ use Rattle.zvt.proofs.MessageLaws as message
 use Rattle.zvt.proofs.ShortBodies.{body-written}
 
 -- what is answered and what is left of the buffer, both
-abbrev pub Ends : ShortenAnswer → List ℕ → List ℕ → List ℕ → Type 0
+abbrev pub Ends : Result ℕ Refusal → List ℕ → List ℕ → List ℕ → Type 0
 Ends r s out exit = (r ≡ shorten_answer (length out) s) × (exit ≡ shorten_leaves s out)
 
-ends-refused : (s out : List ℕ) (f : Refusal) → shortened (length out) s ≡ refused f → Ends (Refused f) s out out
+ends-refused : (s out : List ℕ) (f : Refusal) → shortened (length out) s ≡ refused f → Ends (Err f) s out out
 unfolding shorten_answer as_shorten_answer shorten_leaves written_leaves
 ends-refused s out f e = (ap as_shorten_answer (sym e), ap (λ (x : Reading (List ℕ)). written_leaves x out) (sym e))
 
-ends-written : (s out w : List ℕ) → shortened (length out) s ≡ got w → Ends (Written (length w)) s out (front w out)
+ends-written : (s out w : List ℕ) → shortened (length out) s ≡ got w → Ends (Ok (length w)) s out (front w out)
 unfolding shorten_answer as_shorten_answer shorten_leaves written_leaves
 ends-written s out w e = (ap as_shorten_answer (sym e), ap (λ (x : Reading (List ℕ)). written_leaves x out) (sym e))
 
 -- ---- what is no message
-not-read : (s out : List ℕ) (f : Refusal) → read_of s ≡ refused f → Ends (Refused f) s out out
+not-read : (s out : List ℕ) (f : Refusal) → read_of s ≡ refused f → Ends (Err f) s out out
 unfolding shortened shorten
 not-read s out f e = ends-refused s out f (then-stop _ f (then-stop _ f e))
 
-pub no_header : (s out : List ℕ) (f : Refusal) → whole_answer s ≡ header_refused f → Ends (Refused f) s out out
+pub no_header : (s out : List ℕ) (f : Refusal) → whole_answer s ≡ Err f → Ends (Err f) s out out
 unfolding read_of
 no_header s out f e = not-read s out f (message.no_header s (whole_header s) f e)
 
-module _ (s : List ℕ) (h : Header) (e : whole_answer s ≡ header_read h) where
-  pub no_body : (out : List ℕ) (f : Refusal) → body_in h s ≡ part-refused f → Ends (Refused f) s out out
+module _ (s : List ℕ) (h : Header) (e : whole_answer s ≡ Ok h) where
+  pub no_body : (out : List ℕ) (f : Refusal) → body_in h s ≡ Err f → Ends (Err f) s out out
   unfolding read_of
   no_body out f g = not-read s out f (message.no_body s (whole_header s) h e f g)
 
@@ -92,12 +89,12 @@ module _ (s : List ℕ) (m : Heading) (e : whole_header s ≡ got m) (bs : Bytes
         size = rw (saved, w) (sym (length-append (header_bytes m.class m.instruction (length v)) v));
       }
 
-pub short-found : (s : List ℕ) (h : Header) → whole_answer s ≡ header_read h → Bytes s → (t : Tally) → body_in h s ≡ Part t → Short s h t
+pub short-found : (s : List ℕ) (h : Header) → whole_answer s ≡ Ok h → Bytes s → (t : Tally) → body_in h s ≡ Ok t → Short s h t
 unfolding body_in body_answer header_in
 short-found s h e bs t f =
     let m = as-got (whole_header s) h e in
     let fits = (header-in s m.0 (whole-first s m.0 m.1)).1 in
-    let g = subst (λ (k : Header). body_in k s ≡ Part t) (sym m.2) f in
+    let g = subst (λ (k : Header). body_in k s ≡ Ok t) (sym m.2) f in
     subst (λ (k : Header). Short s k t) m.2
     (part-got (body_tally (inside s m.0)) _ (Short s (header_in m.0)) (body-short s m.0 m.1 bs fits) t g)
 
@@ -107,7 +104,7 @@ module _ (s : List ℕ) (h : Header) (t : Tally) (q : Short s h t) (out : List �
   takes : n ≡ length (short_message_of h s)
   takes = e ∙ q.size
 
-  pub no_room : length out < n → Ends (Refused (unplaced 11)) s out out
+  pub no_room : length out < n → Ends (Err (unplaced 11)) s out out
   unfolding shortened unless
   no_room l =
       ends-refused s out (unplaced 11)
@@ -120,7 +117,7 @@ module _ (s : List ℕ) (h : Header) (t : Tally) (q : Short s h t) (out : List �
     pub message-room : length (short_message_of h s) ≤ length (take n out)
     message-room = omega (arith, takes, lent_out)
 
-    pub written_out : {r : ℕ} {y : List ℕ} → Put (short_message_of h s) (take n out) r y → Ends (Written n) s out (y ++ drop n out)
+    pub written_out : {r : ℕ} {y : List ℕ} → Put (short_message_of h s) (take n out) r y → Ends (Ok n) s out (y ++ drop n out)
     unfolding shortened unless back
     written_out {r} {y} p =
         let w = short_message_of h s in

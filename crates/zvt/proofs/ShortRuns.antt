@@ -6,6 +6,7 @@ use mathlib.Core.Logic.{⊎_elim}
 use Prim.Native.Nat.{ℕ, ◌+◌, ◌-◌, ◌<◌, ◌≤◌}
 use native.Mathlib.Omega.{arith}
 use lib.ListN.{length, get_or, take, drop}
+use Rattle.std.proofs.Common.{Err, Ok, Result}
 use Rattle.basics.proofs.Tests.{never}
 use Rattle.zvt_rules.specs.declared.Refusal.{Refusal}
 use Rattle.basics.specs.Choice.{pick}
@@ -22,8 +23,6 @@ use Rattle.zvt_rules.proofs.ObjectReading.{Inside, head-in, one-got, run_none, r
 use Rattle.zvt_rules.proofs.ObjectBytes.{bytes_drop, bytes-part, one-sound, run_sound, run-complete}
 use Rattle.zvt_rules.proofs.ObjectShort.{run-shorter}
 use Rattle.zvt.specs.declared.objects.Bounds.{Bounds}
-use Rattle.zvt.specs.declared.objects.BoundsRead.{BoundsRead}
-use Rattle.zvt.specs.declared.objects.BoundsRead.TheVariants.{Bounds as bounds-read, Refused as bounds-refused}
 use Rattle.zvt.specs.ObjectSteps.{as_bounds, bounds_of, head_answer}
 use Rattle.zvt.specs.WritingSteps.{head_bytes, value_bytes, RunReads, run_written, short_run_of}
 
@@ -94,7 +93,7 @@ object-short s h o b =
     subst (ObjectShort s h) x.1.2 (refl, λ _. a.reads, rw (x.0, a.short) (value-short tag (run_bytes (short_run x.1.0.objs)))))
     (λ x. subst (ObjectShort s h) x.1 (refl, λ t. never cc, rw x.0 (value-short tag value)))
 
-pub first-object : (s : List ℕ) → Bytes s → RunReads s → 0 < length s → (b : Bounds) × (head_answer 0 s ≡ bounds-read b) × FirstObject s b
+pub first-object : (s : List ℕ) → Bytes s → RunReads s → 0 < length s → (b : Bounds) × (head_answer 0 s ≡ Ok b) × FirstObject s b
 unfolding RunReads head_answer as_bounds bounds_of run_bytes short_run
 first-object s b r l =
     let w = run-got 4 0 0 s r.0 l r.1 in
@@ -130,16 +129,16 @@ run_fits s b r =
 
 -- ---- as the writer finds it
 -- bounds that are found are those that are there, and they are never refused
-pub bounds-are : {P : Bounds → Type 0} (x : BoundsRead) → (b : Bounds) × (x ≡ bounds-read b) × P b → (b : Bounds) → x ≡ bounds-read b → P b
+pub bounds-are : {P : Bounds → Type 0} (x : Result Bounds Refusal) → (b : Bounds) × (x ≡ Ok b) × P b → (b : Bounds) → x ≡ Ok b → P b
 bounds-are x f b e = let same : f.0 ≡ b = cc in rw same at f.2
 
-pub bounds-never : {P : Bounds → Type 0} (x : BoundsRead) → (b : Bounds) × (x ≡ bounds-read b) × P b → (r : Refusal) → x ≡ bounds-refused r → ⊥
+pub bounds-never : {P : Bounds → Type 0} (x : Result Bounds Refusal) → (b : Bounds) × (x ≡ Ok b) × P b → (r : Refusal) → x ≡ Err r → ⊥
 bounds-never x f r e = never cc
 
-pub object-in : (s : List ℕ) (b : Bounds) → Bytes s → RunReads s → 0 < length s → head_answer 0 s ≡ bounds-read b → FirstObject s b
+pub object-in : (s : List ℕ) (b : Bounds) → Bytes s → RunReads s → 0 < length s → head_answer 0 s ≡ Ok b → FirstObject s b
 object-in s b bs r l = bounds-are _ (first-object s bs r l) b
 
-pub object-never : (s : List ℕ) (r : Refusal) → Bytes s → RunReads s → 0 < length s → head_answer 0 s ≡ bounds-refused r → ⊥
+pub object-never : (s : List ℕ) (r : Refusal) → Bytes s → RunReads s → 0 < length s → head_answer 0 s ≡ Err r → ⊥
 object-never s r bs reads l = bounds-never _ (first-object s bs reads l) r
 
 pub object-run : (s : List ℕ) (b : Bounds) → b.nested ≡ true

@@ -1,20 +1,17 @@
 -- The values of a status information, each by where it lies: as many bytes as its field has, and digits where digits must be. Assumes
 -- nothing.
 use mathlib.Core.Path.{◌≡◌, refl, sym, ap, ◌∙◌}
-use mathlib.Core.Bool.{Bool, true, false, and-false}
+use mathlib.Core.Bool.{Bool, true, false}
 use mathlib.Core.List.{List, [], ◌∷◌}
 use Prim.Native.Nat.{ℕ, ◌+◌, ◌<◌}
 use native.Mathlib.Omega.{arith}
-use lib.ListN.{length, get_or}
+use lib.ListN.{length}
 use lib.Dec.{eqb}
-use borrow.Author.Tests.{eq-eqb, ne_eqb}
+use Rattle.std.proofs.Common.{Err, None, Ok, Option, Result, Some}
+use Rattle.std.specs.List.{starts_with}
 use Rattle.zvt_rules.specs.declared.Format.TheVariants.{Fixed, Container}
 use Rattle.zvt_rules.specs.declared.Span.{Span}
-use Rattle.zvt_rules.specs.declared.ToldCode.TheVariants.{Missing as no_code}
-use Rattle.zvt_rules.specs.declared.ToldAmount.TheVariants.{Missing as no-amount}
-use Rattle.zvt_rules.specs.declared.ToldReceipt.TheVariants.{Missing as no-receipt}
-use Rattle.zvt_rules.specs.declared.FieldAnswer.{FieldAnswer}
-use Rattle.zvt_rules.specs.declared.FieldAnswer.TheVariants.{Absent, Value, Refused as field-refused}
+use Rattle.zvt_rules.specs.declared.Refusal.{Refusal}
 use Rattle.basics.specs.Lists.{part, among}
 use Rattle.zvt_rules.specs.Reading.{Reading, got, refused}
 use Rattle.zvt_rules.specs.Fields.{format_of, holds_digits, Field, plain, container, field_id}
@@ -25,7 +22,7 @@ use Rattle.zvt_rules.specs.believed.Writing.{message_bytes, field_value}
 use Rattle.basics.specs.believed.Lists.{Bytes, In}
 use Rattle.zvt_rules.specs.believed.Grammar.{Decimals, SizeOk, FieldOk, ListOk, FieldsOk, LayoutOk, MessageOk}
 use Rattle.zvt_rules.specs.believed.Found.{Stands, StandsBy, Lacks}
-use Rattle.basics.proofs.Tests.{pick_true, pick-false, never}
+use Rattle.basics.proofs.Tests.{never}
 use Rattle.zvt_rules.proofs.Readings.{got_same, got-not-refused}
 use Rattle.zvt_rules.proofs.ObjectReading.{part_length}
 use Rattle.zvt_rules.proofs.MessageBytes.{read-sound}
@@ -36,21 +33,13 @@ use Rattle.zvt.specs.ValueSteps.{Sized, value_at, status_pair}
 use Rattle.zvt.proofs.AskingLaws.{value-lies}
 
 -- ---- a value by its place
-module _ (p : Span) (s : List ℕ) where
-  pub value_none : p.to ≡ 0 → value_at p s ≡ missing
-  unfolding value_at
-  value_none e = pick_true _ _ (eq-eqb p.to 0 e)
-
-  pub value-some : (p.to ≡ 0 → ⊥) → value_at p s ≡ found (part p.from p.to s)
-  unfolding value_at
-  value-some n = pick-false _ _ (ne_eqb p.to 0 n)
-
-  pub sized-length : {k : ℕ} → Sized k p s → (p.to ≡ 0 → ⊥) → length (part p.from p.to s) ≡ k
-  sized-length h n = omega (arith, h.size n, part_length s p.from p.to h.order h.inside)
+pub sized-length : (k : ℕ) (p : Span) (s : List ℕ) → Sized k (Some p) s → length (part p.from p.to s) ≡ k
+sized-length k p s h = let (inside, size) = h p refl in omega (arith, size, part_length s p.from p.to (omega arith) inside)
 
 -- of a field of a fixed size
-abbrev pub Placed : ℕ → Span → List ℕ → Found → Bool → Type 0
-Placed k p s v digits = Sized k p s × (value_at p s ≡ v) × (digits ≡ true → Decimals (part p.from p.to s))
+abbrev pub Placed : ℕ → Option Span → List ℕ → Found → Bool → Type 0
+Placed k place s v digits =
+    Sized k place s × (value_at place s ≡ v) × (digits ≡ true → (p : Span) → place ≡ Some p → Decimals (part p.from p.to s))
 
 -- a field of bytes in a fixed number is no container
 fixed_plain : (id k : ℕ) → format_of id ≡ Fixed k → id ≡ 0x06 → ⊥
@@ -72,10 +61,8 @@ fields_fit m ok = go m.body ok.0
     go (listed password fs) l = (fields-ok (layout_of m.class m.instruction) password fs l).0
 
 -- nothing lies where there is no such field
-nowhere-at : (k : ℕ) (s : List ℕ) (v : Found) (digits : Bool) → v ≡ missing → Placed k (record { from = 0; to = 0 }) s v digits
-unfolding Decimals
-nowhere-at k s v digits e =
-    (record { order = omega arith; inside = omega arith; size = λ z. absurd (z refl) }, value_none _ s refl ∙ sym e, λ _. tt)
+nowhere-at : (k : ℕ) (s : List ℕ) (v : Found) (digits : Bool) → v ≡ missing → Placed k None s v digits
+nowhere-at k s v digits e = (λ p q. never cc, sym e, λ t p q. never cc)
 
 value-at : (s : List ℕ) (m : Message) → Bytes s → read_of s ≡ got m → (id k : ℕ) → format_of id ≡ Fixed k → 0 < k
     → Placed k (span_of (field_answer id s)) s (value_in id (body_fields m.body)) (holds_digits id)
@@ -85,12 +72,12 @@ value-at s m b e id k f n = go (field_answer id s) refl
     same : (x : Message) → read_of s ≡ got x → body_fields x.body ≡ body_fields m.body
     same x q = ap (λ (y : Message). body_fields y.body) (got_same (sym q ∙ e))
 
-    go : (x : FieldAnswer) → field_answer id s ≡ x → Placed k (span_of x) s (value_in id (body_fields m.body)) (holds_digits id)
-    go Absent q =
+    go : (x : Result (Option Span) Refusal) → field_answer id s ≡ x → Placed k (span_of x) s (value_in id (body_fields m.body)) (holds_digits id)
+    go (Ok None) q =
         let (x, is, none) = (absent-exactly s b id).0 q in
         nowhere-at k s _ _ ((missing-exactly id (body_fields m.body)).1 (rw (same x ((stands_read s b x).0 is)) at none))
-    go (field-refused r) q = absurd (got-not-refused (sym e ∙ (refused-exactly s b id r).0 q))
-    go (Value p) q =
+    go (Err r) q = absurd (got-not-refused (sym e ∙ (refused-exactly s b id r).0 q))
+    go (Ok (Some p)) q =
         let (j, g, st, i) = (value-exactly s b id p).0 q in
         let fs = body_fields m.body in
         let there : In g fs = (st.1, st.2, sym (same st.0 ((stands_read s b st.0).0 st.4)) ∙ st.5) in
@@ -99,26 +86,18 @@ value-at s m b e id k f n = go (field_answer id s) refl
         let value = found_part s b j g p st in
         let w = value-lies s b id p q in
         let size : p.to ≡ p.from + k = omega (arith, w.0, part_length s p.from p.to w.0 w.1, ap length value, h.0) in (
-          record { order = w.0; inside = w.1; size = λ _. size },
-          value-some p s (λ z. omega arith) ∙ ap found value ∙ sym (rw i at (value-in [] fs g ok there)),
-          λ t. rw value (h.1 t),
+          λ q e. let same : p ≡ q = cc in rw (← same) (w.1, size),
+          ap found value ∙ sym (rw i at (value-in [] fs g ok there)),
+          λ t q e. let same : p ≡ q = cc in rw (← same, value) (h.1 t),
         )
 
 -- ---- of a status information
--- its pair, byte by byte
-pub pair-short : (s : List ℕ) → length s < 2 → status_pair s ≡ false
+-- its pair stands at the start of the message
+pub pair-starts : (s : List ℕ) → starts_with eqb s (0x04 ∷ (0x0F ∷ [])) ≡ status_pair s
 unfolding status_pair
-pair-short [] h = refl
-pair-short (b ∷ []) h = and-false (eqb b 0x04)
-pair-short (b ∷ (c ∷ s)) h = absurd (omega arith)
-
-pub pair-first : (s : List ℕ) → (get_or s 0 0 ≡ 0x04 → ⊥) → status_pair s ≡ false
-unfolding status_pair
-pair-first s n = rw (ne_eqb (get_or s 0 0) 0x04 n)
-
-pub pair-second : (s : List ℕ) → get_or s 0 0 ≡ 0x04 → status_pair s ≡ eqb (get_or s 1 0) 0x0F
-unfolding status_pair
-pair-second s e = rw (eq-eqb (get_or s 0 0) 0x04 e)
+pair-starts [] = refl
+pair-starts (b ∷ []) = grind arith
+pair-starts (b ∷ (c ∷ s)) = grind arith
 
 pub pair-is : (s : List ℕ) (m : Message) → Bytes s → read_of s ≡ got m → is_status m ≡ status_pair s
 unfolding status_pair message_bytes
@@ -135,10 +114,10 @@ module _ (s : List ℕ) (b : Bytes s) where
       go (refused r) e = rw ((refused-exactly s b id r).1 e) (nowhere-at k s missing _ refl)
 
   -- of anything else nothing is told
-  pub nothing-told : status_pair s ≡ false → record { code = no_code; amount = no-amount; receipt = no-receipt } ≡ status_of s
+  pub nothing-told : status_pair s ≡ false → record { code = None; amount = None; receipt = None } ≡ status_of s
   unfolding status_of status_fields status_in code_in amount_in receipt_in value_in code_of amount_of receipt_of
   nothing-told t = go (read_of s) refl
     where
-      go : (x : Reading Message) → read_of s ≡ x → record { code = no_code; amount = no-amount; receipt = no-receipt } ≡ status_in (status_fields x)
+      go : (x : Reading Message) → read_of s ≡ x → record { code = None; amount = None; receipt = None } ≡ status_in (status_fields x)
       go (got m) e = rw (pair-is s m b e ∙ t)
       go (refused r) e = refl

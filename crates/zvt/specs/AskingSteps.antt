@@ -1,22 +1,15 @@
 -- Steps of the code, private: a message that was read with four ids to look for. Definitions only.
-use Rattle.std.specs.Prelude.{ℕ, List, eqb}
+use Rattle.std.specs.Prelude.{ℕ, List, Err, Ok, Result}
 use Rattle.zvt_rules.specs.declared.Refusal.{Refusal}
-use Rattle.zvt_rules.specs.declared.Span.{Span}
-use Rattle.zvt_rules.specs.declared.FieldAnswer.{FieldAnswer}
-use Rattle.zvt_rules.specs.declared.FieldAnswer.TheVariants.{Absent, Value}
-use Rattle.zvt_rules.specs.declared.ReadAnswer.TheVariants.{Refused}
-use Rattle.basics.specs.Choice.{pick}
-use Rattle.zvt_rules.specs.Answers.{read_answer}
-use Rattle.zvt_rules.specs.Listed.{places_answer}
+use Rattle.zvt_rules.specs.Reading.{Reading, got, refused}
+use Rattle.zvt_rules.specs.Message.{Message, read_of}
+use Rattle.zvt_rules.specs.Answers.{outline_of}
+use Rattle.zvt_rules.specs.Listed.{password_span, spans_of}
 use Rattle.zvt.specs.declared.asking.MessageFound.{MessageFound}
-use Rattle.zvt.specs.BodySteps.{no_places}
 
-unfoldable pub message_found : List ℕ → List ℕ → MessageFound
-message_found ids s = record { answer = read_answer s; places = places_answer ids s }
+unfoldable pub as_found : List ℕ → Reading Message → Result MessageFound Refusal
+as_found ids (got m) = Ok (record { outline = outline_of m; places = record { password = password_span (got m); fields = spans_of (got m) ids } })
+as_found ids (refused r) = Err r
 
-abbrev pub refused_message : Refusal → MessageFound
-refused_message r = record { answer = Refused r; places = no_places }
-
--- nothing lies from 0 to 0
-unfoldable pub answer_at : Span → FieldAnswer
-answer_at p = pick (eqb p.to 0) Absent (Value p)
+unfoldable pub message_found : List ℕ → List ℕ → Result MessageFound Refusal
+message_found ids s = as_found ids (read_of s)

@@ -1,5 +1,5 @@
 -- Steps of the code, private: what the readers of fields answer, by the definitions of crate zvt_rules. Definitions only.
-use Rattle.std.specs.Prelude.{ℕ, ◌+◌, ◌-◌, Bool, true, false, ◌≡◌, List, [], ◌∷◌, length, get_or, drop, replicate, eqb}
+use Rattle.std.specs.Prelude.{ℕ, ◌+◌, ◌-◌, Bool, true, false, List, [], ◌∷◌, length, get_or, drop, eqb, Err, Ok, Result, Option, Some}
 use Rattle.zvt_rules.specs.declared.Refusal.{Refusal}
 use Rattle.zvt_rules.specs.declared.Format.{Format}
 use Rattle.zvt_rules.specs.declared.Format.TheVariants.{Unknown, Fixed, Digits, Container}
@@ -12,33 +12,25 @@ use Rattle.zvt_rules.specs.Refusals.{unknown_field, field_twice}
 use Rattle.zvt_rules.specs.Objects.{form_size, len_of}
 use Rattle.zvt_rules.specs.Fields.{format_of, unknown, digits_of, unless_undecimal, digits_in, Field, plain, FieldRead, ListRead, field_by, list_of}
 use Rattle.zvt_rules.specs.believed.Writing.{field_bytes, list_bytes, field_value}
-use Rattle.zvt_rules.specs.Listed.{listed_from, named_listed, nowhere, span_of}
+use Rattle.zvt_rules.specs.Listed.{listed_from, named_listed}
 use Rattle.zvt_rules.specs.Shortest.{short_field, short_list}
 use Rattle.zvt.specs.declared.objects.Bounds.{Bounds}
-use Rattle.zvt.specs.declared.objects.BoundsRead.{BoundsRead}
 use Rattle.zvt.specs.declared.objects.Tally.{Tally}
-use Rattle.zvt.specs.declared.objects.PartRead.{PartRead}
-use Rattle.zvt.specs.declared.objects.PartRead.TheVariants.{Refused as part-refused}
-use Rattle.zvt.specs.declared.fields.DigitsRead.{DigitsRead}
-use Rattle.zvt.specs.declared.fields.DigitsRead.TheVariants.{Number, Refused as digits-refused}
-use Rattle.zvt.specs.declared.fields.FieldFound.{FieldFound}
-use Rattle.zvt.specs.declared.fields.ListFound.{ListFound}
-use Rattle.zvt.specs.declared.fields.Decimals.{Decimals}
-use Rattle.zvt.specs.declared.fields.Decimals.TheVariants.{All, Refused as decimals-refused}
-use Rattle.zvt.specs.ObjectSteps.{as_bounds, as_part, bounds_in}
+use Rattle.zvt.specs.declared.objects.Located.{Located}
+use Rattle.zvt.specs.ObjectSteps.{as_bounds, as_part, located, bounds_in}
 
-unfoldable pub as_digits : Reading ℕ → DigitsRead
-as_digits (got v) = Number v
-as_digits (refused r) = digits-refused r
+unfoldable pub as_digits : Reading ℕ → Result ℕ Refusal
+as_digits (got v) = Ok v
+as_digits (refused r) = Err r
 
-unfoldable pub digits_answer : ℕ → ℕ → List ℕ → DigitsRead
+unfoldable pub digits_answer : ℕ → ℕ → List ℕ → Result ℕ Refusal
 digits_answer d at s = as_digits (digits_of d 0 at s)
 
-unfoldable pub as_decimals : Reading (List ℕ) → Decimals
-as_decimals (got s) = All
-as_decimals (refused r) = decimals-refused r
+unfoldable pub as_decimals : Reading (List ℕ) → Result (Unit {0}) Refusal
+as_decimals (got s) = Ok tt
+as_decimals (refused r) = Err r
 
-unfoldable pub decimals_answer : ℕ → List ℕ → Decimals
+unfoldable pub decimals_answer : ℕ → List ℕ → Result (Unit {0}) Refusal
 decimals_answer at s = as_decimals (unless_undecimal at s (got s))
 
 -- where the parts of a field lie, by the format of its id
@@ -48,7 +40,7 @@ bounds_by at s (Fixed k) = bounds_in at 1 1 k false s
 bounds_by at s (Digits d) = and_then (digits_of d 0 (at + 1) (drop 1 s)) λ v. bounds_in at 1 (1 + d) v false s
 bounds_by at s Container = and_then (len_of (at + 1) (drop 1 s)) λ l. bounds_in at 1 (1 + form_size l.form) l.value true s
 
-unfoldable pub field_bounds : ℕ → List ℕ → BoundsRead
+unfoldable pub field_bounds : ℕ → List ℕ → Result Bounds Refusal
 field_bounds at s = as_bounds (bounds_by at s (format_of (get_or s 0 0)))
 
 -- how many bytes fewer the shortest writing takes
@@ -65,7 +57,7 @@ unfoldable pub list_tally : List ℕ → ListRead → Tally
 list_tally s r = record { size = length s; objects = r.count; spare = spare_list r.fields }
 
 -- the field of plain bytes that lie there
-unfoldable pub plain_answer : ℕ → ℕ → Bounds → List ℕ → PartRead
+unfoldable pub plain_answer : ℕ → ℕ → Bounds → List ℕ → Result Tally Refusal
 plain_answer n at b s =
     let value = part b.from b.to s in
     as_part field_tally (digits_in (get_or s 0 0) (at + b.from) value (got (record { field = plain (get_or s 0 0) value; size = b.to; count = n })))
@@ -76,36 +68,32 @@ field_when twice n at s =
     let id = get_or s 0 0 in
     unless (unknown (format_of id)) (fault_at unknown_field at) (unless twice (fault_at field_twice at) (field_by id n at s (format_of id)))
 
-unfoldable pub field_part : Bool → ℕ → ℕ → List ℕ → PartRead
+unfoldable pub field_part : Bool → ℕ → ℕ → List ℕ → Result Tally Refusal
 field_part twice n at s = as_part field_tally (field_when twice n at s)
 
--- refused at its id
-abbrev pub refused_at : ℕ → ℕ → FieldFound
-refused_at at number = record { part = part-refused (fault_at number at); from = 0 }
-
 -- where the value of a field that is read begins
-abbrev pub ValueFrom : Bool → ℕ → ℕ → List ℕ → ℕ → Type 0
-ValueFrom twice n at s from = (o : FieldRead) → field_when twice n at s ≡ got o → from + length (field_value o.field) ≡ o.size
+unfoldable pub value_begins : FieldRead → ℕ
+value_begins o = o.size - length (field_value o.field)
 
-unfoldable pub list_answer : ℕ → List ℕ → PartRead
+unfoldable pub field_located : Bool → ℕ → ℕ → List ℕ → Result (Located ℕ) Refusal
+field_located twice n at s = located field_tally value_begins (field_when twice n at s)
+
+unfoldable pub list_answer : ℕ → List ℕ → Result Tally Refusal
 list_answer at s = as_part (list_tally s) (list_of [] 0 at s)
 
 -- where a field lies that has the id, else what was noted before
-unfoldable pub noted : ℕ → Listed → Span → Span
-noted id l x = pick (eqb l.id id) (record { from = l.from; to = l.to }) x
+unfoldable pub noted : ℕ → Listed → Option Span → Option Span
+noted id l x = pick (eqb l.id id) (Some (record { from = l.from; to = l.to })) x
 
-unfoldable pub noted_all : List ℕ → Listed → List Span → List Span
+unfoldable pub noted_all : List ℕ → Listed → List (Option Span) → List (Option Span)
 noted_all [] l xs = []
 noted_all (id ∷ ids) l [] = []
 noted_all (id ∷ ids) l (x ∷ xs) = noted id l x ∷ noted_all ids l xs
 
 -- where the fields with those ids lie in a list that is read
-unfoldable pub spans_in : List Listed → List ℕ → List Span
+unfoldable pub spans_in : List Listed → List ℕ → List (Option Span)
 spans_in ls [] = []
-spans_in ls (id ∷ ids) = span_of (named_listed id ls) ∷ spans_in ls ids
+spans_in ls (id ∷ ids) = named_listed id ls ∷ spans_in ls ids
 
-abbrev pub refused_list : Refusal → ListFound
-refused_list r = record { part = part-refused r; fields = replicate 4 nowhere }
-
-abbrev pub Finds : List ℕ → ℕ → List ℕ → List Span → Type 0
-Finds ids at s found = (r : ListRead) → list_of [] 0 at s ≡ got r → found ≡ spans_in (listed_from at r.fields) ids
+unfoldable pub list_located : List ℕ → ℕ → List ℕ → Result (Located (List (Option Span))) Refusal
+list_located ids at s = located (list_tally s) (λ r. spans_in (listed_from at r.fields) ids) (list_of [] 0 at s)

@@ -1,11 +1,7 @@
 -- Steps of the code, private: the list of a message, and its fields one after the other. Definitions only.
-use Rattle.std.specs.Prelude.{◌≡◌, ℕ, ◌+◌, ◌<◌, ◌≤◌, List, [], ◌∷◌, length}
-use Rattle.zvt_rules.specs.declared.Refusal.{Refusal}
-use Rattle.zvt_rules.specs.declared.FirstRead.{FirstRead}
-use Rattle.zvt_rules.specs.declared.FirstAnswer.TheVariants.{Refused as first-refused}
+use Rattle.std.specs.Prelude.{◌≡◌, ℕ, ◌+◌, ◌<◌, ◌≤◌, List, [], ◌∷◌, length, None, Ok, Option, Some}
 use Rattle.zvt_rules.specs.declared.Listed.{Listed}
 use Rattle.zvt_rules.specs.declared.Outline.{Outline}
-use Rattle.zvt_rules.specs.declared.ReadAnswer.TheVariants.{Accepted}
 use Rattle.zvt_rules.specs.declared.Span.{Span}
 use Rattle.basics.specs.Lists.{part}
 use Rattle.zvt_rules.specs.Reading.{Reading, got, refused}
@@ -15,8 +11,6 @@ use Rattle.zvt_rules.specs.Message.{read_of}
 use Rattle.basics.specs.believed.Lists.{Bytes}
 use Rattle.zvt_rules.specs.Answers.{read_answer}
 use Rattle.zvt_rules.specs.Listed.{listed_from, listed_message}
-use Rattle.zvt.specs.declared.list.Step.{Step}
-use Rattle.zvt.specs.declared.list.Step.TheVariants.{End, Field}
 use Rattle.zvt.specs.WritingSteps.{ListReads}
 
 -- the list between two places of s
@@ -42,9 +36,9 @@ pub record FieldHere (at e : ℕ) (s : List ℕ) (l : Listed) : Type 0 where
   pub rest : ListIn l.to e s
   pub all : listed_in at e s ≡ l ∷ listed_in l.to e s
 
-pub data StandsAt (at e : ℕ) (s : List ℕ) : Step → Type 0 where
-  field : {l : Listed} → FieldHere at e s l → StandsAt at e s (Field l)
-  none : listed_in at e s ≡ [] → StandsAt at e s End
+pub data StandsAt (at e : ℕ) (s : List ℕ) : Option Listed → Type 0 where
+  field : {l : Listed} → FieldHere at e s l → StandsAt at e s (Some l)
+  none : listed_in at e s ≡ [] → StandsAt at e s None
 
 -- where the list of the message that s is lies: no bytes at all where it has none
 pub record ListOf (place : Span) (s : List ℕ) : Type 0 where
@@ -53,8 +47,4 @@ pub record ListOf (place : Span) (s : List ℕ) : Type 0 where
 
 -- bytes that were read as that message
 abbrev pub Was : List ℕ → Outline → Type 0
-Was s m = Bytes s × (read_answer s ≡ Accepted m)
-
--- a message that is refused has no ids
-abbrev pub refused_first : Refusal → FirstRead
-refused_first r = record { answer = first-refused r; count = 0 }
+Was s m = Bytes s × (read_answer s ≡ Ok m)

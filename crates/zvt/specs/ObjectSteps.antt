@@ -1,42 +1,41 @@
 -- Steps of the code, private: what the readers of data objects answer, by the definitions of crate zvt_rules. Definitions only.
-use Rattle.std.specs.Prelude.{ℕ, ◌+◌, ◌-◌, Bool, List, length, get_or, ltb}
+use Rattle.std.specs.Prelude.{ℕ, ◌+◌, ◌-◌, Bool, List, length, get_or, ltb, Err, Ok, Result}
 use Rattle.zvt_rules.specs.Reading.{Reading, got, refused, fault_at, unless, and_then}
 use Rattle.zvt_rules.specs.Refusals.{ends_too_soon}
 use Rattle.zvt_rules.specs.Objects.{nested, form_size, tag_size, Len, len_of, Head, from, to, head_of, Obj, Objs, OneRead, RunRead, one_of, run_of}
 use Rattle.zvt_rules.specs.believed.Writing.{obj_bytes, run_bytes}
 use Rattle.zvt_rules.specs.Shortest.{form_for, short_obj, short_run}
-use Rattle.zvt.specs.declared.objects.TagRead.{TagRead}
-use Rattle.zvt.specs.declared.objects.TagRead.TheVariants.{Size, Refused as tag-refused}
-use Rattle.zvt.specs.declared.objects.LenRead.{LenRead}
-use Rattle.zvt.specs.declared.objects.LenRead.TheVariants.{Len as len_read, Refused as len-refused}
 use Rattle.zvt.specs.declared.objects.Bounds.{Bounds}
-use Rattle.zvt.specs.declared.objects.BoundsRead.{BoundsRead}
-use Rattle.zvt.specs.declared.objects.BoundsRead.TheVariants.{Bounds as bounds-read, Refused as bounds-refused}
 use Rattle.zvt.specs.declared.objects.Tally.{Tally}
-use Rattle.zvt.specs.declared.objects.PartRead.{PartRead}
-use Rattle.zvt.specs.declared.objects.PartRead.TheVariants.{Part, Refused as part-refused}
+use Rattle.zvt.specs.declared.objects.Located.{Located}
+use Rattle.zvt_rules.specs.declared.Refusal.{Refusal}
 
 -- a reading as each enum gives it
-unfoldable pub as_tag : Reading ℕ → TagRead
-as_tag (got k) = Size k
-as_tag (refused r) = tag-refused r
+unfoldable pub as_tag : Reading ℕ → Result ℕ Refusal
+as_tag (got k) = Ok k
+as_tag (refused r) = Err r
 
-unfoldable pub as_len : Reading Len → LenRead
-as_len (got l) = len_read (form_size l.form) l.value
-as_len (refused r) = len-refused r
+unfoldable pub as_len : Reading Len → Result (ℕ × ℕ) Refusal
+as_len (got l) = Ok ((form_size l.form), l.value)
+as_len (refused r) = Err r
 
-unfoldable pub as_bounds : Reading Bounds → BoundsRead
-as_bounds (got b) = bounds-read b
-as_bounds (refused r) = bounds-refused r
+unfoldable pub as_bounds : Reading Bounds → Result Bounds Refusal
+as_bounds (got b) = Ok b
+as_bounds (refused r) = Err r
 
-unfoldable pub as_part : {A : Type 0} → (A → Tally) → Reading A → PartRead
-as_part f (got a) = Part (f a)
-as_part f (refused r) = part-refused r
+unfoldable pub as_part : {A : Type 0} → (A → Tally) → Reading A → Result Tally Refusal
+as_part f (got a) = Ok (f a)
+as_part f (refused r) = Err r
 
-unfoldable pub tag_answer : ℕ → List ℕ → TagRead
+-- the same, and where lies what was asked for in what is read
+unfoldable pub located : {A T : Type 0} → (A → Tally) → (A → T) → Reading A → Result (Located T) Refusal
+located tally lies (got a) = Ok (record { tally = tally a; lies = lies a })
+located tally lies (refused r) = Err r
+
+unfoldable pub tag_answer : ℕ → List ℕ → Result ℕ Refusal
 tag_answer at s = as_tag (tag_size at s)
 
-unfoldable pub len_answer : ℕ → List ℕ → LenRead
+unfoldable pub len_answer : ℕ → List ℕ → Result (ℕ × ℕ) Refusal
 len_answer at s = as_len (len_of at s)
 
 -- a value of v bytes from place a on, within s
@@ -44,14 +43,14 @@ unfoldable pub bounds_in : ℕ → ℕ → ℕ → ℕ → Bool → List ℕ →
 bounds_in at tag a v run s =
     unless (ltb (length s) (a + v)) (fault_at ends_too_soon (at + length s)) (got (record { tag = tag; from = a; to = a + v; nested = run }))
 
-unfoldable pub within : ℕ → ℕ → ℕ → ℕ → Bool → List ℕ → BoundsRead
+unfoldable pub within : ℕ → ℕ → ℕ → ℕ → Bool → List ℕ → Result Bounds Refusal
 within at tag a v run s = as_bounds (bounds_in at tag a v run s)
 
 -- where the parts of an object lie, by its head
 unfoldable pub bounds_of : List ℕ → Head → Bounds
 bounds_of s h = record { tag = h.tag; from = from h; to = to h; nested = nested (get_or s 0 0) }
 
-unfoldable pub head_answer : ℕ → List ℕ → BoundsRead
+unfoldable pub head_answer : ℕ → List ℕ → Result Bounds Refusal
 head_answer at s = as_bounds (and_then (head_of at s) λ h. got (bounds_of s h))
 
 -- how many bytes fewer the shortest writing takes
@@ -73,8 +72,8 @@ one_tally o = record { size = o.size; objects = o.count; spare = spare_obj o.obj
 unfoldable pub run_tally : List ℕ → RunRead → Tally
 run_tally s r = record { size = length s; objects = r.count; spare = spare_run r.objs }
 
-unfoldable pub one_answer : ℕ → ℕ → ℕ → List ℕ → PartRead
+unfoldable pub one_answer : ℕ → ℕ → ℕ → List ℕ → Result Tally Refusal
 one_answer left n at s = as_part one_tally (one_of left n at s)
 
-unfoldable pub run_answer : ℕ → ℕ → ℕ → List ℕ → PartRead
+unfoldable pub run_answer : ℕ → ℕ → ℕ → List ℕ → Result Tally Refusal
 run_answer left n at s = as_part (run_tally s) (run_of left n at s)

@@ -2,18 +2,18 @@
 ghost use Rattle.std.specs.Prelude.{◌≡◌, ◌≤◌, length};
 ghost use Rattle.zvt_rules.specs.Digits.{digit_bytes_of, number_of};
 
-// Fills out with the last digits of n.
-pub(crate) fn put_digits(n: u64, out: &mut [u8])
-    ensures { out.new ≡ digit_bytes_of (length out.old) n }
+// The last digits of n, in N bytes.
+pub(crate) fn digit_bytes<const N: usize>(n: u64) -> [u8; N]
+    ensures { result ≡ digit_bytes_of N n }
 {
+    let mut b = [0u8; N];
     let mut v = n;
-    let mut i = out.len();
-    while 0 < i {
-        i -= 1;
+    for i in (0..N).rev() {
         let two = v % 100;
-        out[i] = (two / 10 * 16 + two % 10) as u8;
+        b[i] = (two / 10 * 16 + two % 10) as u8;
         v /= 100;
     }
+    b
 }
 
 // The number that the digits of s are.
@@ -22,11 +22,8 @@ pub(crate) fn number(s: &[u8]) -> u64
     ensures { result ≡ number_of s.now }
 {
     let mut v: u64 = 0;
-    let mut i: usize = 0;
-    while i < s.len() {
-        let b = s[i] as u64;
-        v = v * 100 + (b / 16 * 10 + b % 16);
-        i += 1;
+    for &b in s {
+        v = v * 100 + u64::from(b / 16 * 10 + b % 16);
     }
     v
 }
@@ -36,6 +33,5 @@ pub(crate) fn short_number(s: &[u8]) -> u16
     requires { length s.now ≤ 2 }
     ensures { result ≡ number_of s.now }
 {
-    let n = number(s);
-    n as u16
+    number(s) as u16
 }

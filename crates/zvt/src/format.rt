@@ -47,10 +47,7 @@ pub(crate) fn format_of(id: u8) -> Format
 pub(crate) fn holds_digits(id: u8) -> bool
     ensures { result ≡ holds_digits id }
 {
-    match id {
-        0x04 | 0x0B | 0x37 | 0x49 | 0x87 | 0x88 => true,
-        _ => false,
-    }
+    matches!(id, 0x04 | 0x0B | 0x37 | 0x49 | 0x87 | 0x88)
 }
 
 pub(crate) fn layout_of(class: u8, instruction: u8) -> Layout

@@ -2,86 +2,61 @@
 ghost use Rattle.std.specs.Prelude.{◌≡◌};
 ghost use Rattle.zvt.specs.HeaderSteps.{fitting, first_header, whole_answer};
 
-use zvt_rules::{Header, Outline, Place, Refusal};
-
-#[derive(Clone, Copy)]
-pub(crate) enum HeaderRead {
-    Header(Header),
-    Refused(Refusal),
-}
+use zvt_rules::{Header, Outline, Refusal};
 
 // The header, where its body keeps the limit and lies in s.
-pub(crate) fn fitted(s: &[u8], h: Header) -> HeaderRead
+pub(crate) fn fitted(s: &[u8], h: Header) -> Result<Header, Refusal>
     ensures { result ≡ fitting h s.now }
 {
     if Outline::MOST_BODY < h.length {
-        return HeaderRead::Refused(Refusal {
-            number: Refusal::TOO_LONG,
-            place: Place::Nowhere,
-        });
+        return Err(Refusal::unplaced(Refusal::TOO_LONG));
     }
     if s.len() < h.start || s.len() - h.start < h.length {
-        return HeaderRead::Refused(Refusal {
-            number: Refusal::ENDS_TOO_SOON,
-            place: Place::Nowhere,
-        });
+        return Err(Refusal::unplaced(Refusal::ENDS_TOO_SOON));
     }
-    HeaderRead::Header(h)
+    Ok(h)
 }
 
 // The header of the message that s begins with.
-pub(crate) fn header_of(s: &[u8]) -> HeaderRead
+pub(crate) fn header_of(s: &[u8]) -> Result<Header, Refusal>
     ensures { result ≡ first_header s.now }
 {
-    let cut = Refusal {
-        number: Refusal::ENDS_TOO_SOON,
-        place: Place::Nowhere,
-    };
+    let cut = Refusal::unplaced(Refusal::ENDS_TOO_SOON);
     if s.len() < 3 {
-        return HeaderRead::Refused(cut);
+        return Err(cut);
     }
     let class = s[0];
     let instruction = s[1];
     let b = s[2];
     if b != 0xFF {
-        let length = b as usize;
         let short = Header {
             class,
             instruction,
             start: 3,
-            length,
+            length: usize::from(b),
         };
         return fitted(s, short);
     }
     if s.len() < 5 {
-        return HeaderRead::Refused(cut);
+        return Err(cut);
     }
-    let low = s[3] as usize;
-    let high = s[4] as usize;
-    let length = high * 256 + low;
+    let length = u16::from_le_bytes([s[3], s[4]]);
     let long = Header {
         class,
         instruction,
         start: 5,
-        length,
+        length: usize::from(length),
     };
     fitted(s, long)
 }
 
 // The header of the message that s is.
-pub(crate) fn whole_header(s: &[u8]) -> HeaderRead
+pub(crate) fn whole_header(s: &[u8]) -> Result<Header, Refusal>
     ensures { result ≡ whole_answer s.now }
 {
-    match header_of(s) {
-        HeaderRead::Refused(f) => HeaderRead::Refused(f),
-        HeaderRead::Header(h) => {
-            if h.length < s.len() - h.start {
-                return HeaderRead::Refused(Refusal {
-                    number: Refusal::LEFT_OVER,
-                    place: Place::Nowhere,
-                });
-            }
-            HeaderRead::Header(h)
-        }
+    let h = header_of(s)?;
+    if h.length < s.len() - h.start {
+        return Err(Refusal::unplaced(Refusal::LEFT_OVER));
     }
+    Ok(h)
 }

@@ -10,8 +10,8 @@ mod fields;
 mod format;
 mod headers;
 mod list;
-mod name;
 mod objects;
+mod part;
 mod told;
 mod values;
 mod writing;
@@ -26,29 +26,21 @@ ghost use Rattle.zvt_rules.specs.Name.{name_at, card_name, name_place};
 ghost use Rattle.zvt_rules.specs.Values.{status_of};
 
 use asking::NO_ID;
-use headers::HeaderRead;
-use objects::PartRead;
-use zvt_rules::{
-    FieldAnswer, FirstAnswer, FirstRead, HeaderAnswer, HearAnswer, Heard, Places, ReadAnswer,
-    Refusal, ShortenAnswer, Status,
-};
+use zvt_rules::{FirstRead, Header, Heard, Outline, Places, Refusal, Span, Status};
 
 // The header of the message that s is.
-pub fn read_header(s: &[u8]) -> HeaderAnswer
+pub fn read_header(s: &[u8]) -> Result<Header, Refusal>
     ensures { result ≡ header_answer s.now }
 {
-    match headers::whole_header(s) {
-        HeaderRead::Refused(f) => HeaderAnswer::Refused(f),
-        HeaderRead::Header(h) => HeaderAnswer::Header(h),
-    }
+    headers::whole_header(s)
 }
 
 // The message that s is.
-pub fn read(s: &[u8]) -> ReadAnswer
+pub fn read(s: &[u8]) -> Result<Outline, Refusal>
     ensures { result ≡ read_answer s.now }
 {
-    let message = asking::ask(s, [NO_ID; 4]);
-    message.answer
+    let message = asking::ask(s, [NO_ID; 4])?;
+    Ok(message.outline)
 }
 
 // The message that s begins with, and the ids of its list in their order, written to ids. Nothing is written where it is refused.
@@ -56,64 +48,44 @@ pub fn read_first(s: &[u8], ids: &mut [u8; 256]) -> FirstRead
     ensures answer { result.answer ≡ first_answer s.now }
     ensures lent { Whole (first_ids s.now) result.count ids.old ids.new }
 {
-    match headers::header_of(s) {
-        HeaderRead::Refused(f) => list::refused_first(f),
-        HeaderRead::Header(h) => {
-            let body = body::body_in(s, h, [NO_ID; 4]);
-            let part = body.part;
-            match part {
-                PartRead::Refused(f) => list::refused_first(f),
-                PartRead::Part(t) => {
-                    let next = h.start + h.length;
-                    let outline = body::outline_of(h, t);
-                    let count = list::put_own_ids(&s[..next], outline, ids);
-                    let answer = FirstAnswer::Accepted(outline, next);
-                    FirstRead { answer, count }
-                }
-            }
-        }
-    }
+    let answer = first_message(s);
+    let count = match answer {
+        Err(_) => 0,
+        Ok((outline, next)) => list::put_own_ids(&s[..next], outline, ids),
+    };
+    FirstRead { answer, count }
+}
+
+// The message that s begins with, and where the next begins.
+fn first_message(s: &[u8]) -> Result<(Outline, usize), Refusal>
+    ensures { result ≡ first_answer s.now }
+{
+    let h = headers::header_of(s)?;
+    let body = body::body_in(s, h, [NO_ID; 4])?;
+    Ok((body::outline_of(h, body.tally), h.start + h.length))
 }
 
 // Writes the message that s is with every length shortest.
-pub fn shorten(s: &[u8], out: &mut [u8]) -> ShortenAnswer
+pub fn shorten(s: &[u8], out: &mut [u8]) -> Result<usize, Refusal>
     ensures answer { result ≡ shorten_answer (length out.old) s.now }
     ensures lent { out.new ≡ shorten_leaves s.now out.old }
 {
-    match headers::whole_header(s) {
-        HeaderRead::Refused(f) => ShortenAnswer::Refused(f),
-        HeaderRead::Header(h) => {
-            let body = body::body_in(s, h, [NO_ID; 4]);
-            let part = body.part;
-            match part {
-                PartRead::Refused(f) => ShortenAnswer::Refused(f),
-                PartRead::Part(t) => {
-                    let size = writing::message_size(h.length - t.spare);
-                    if out.len() < size {
-                        return ShortenAnswer::Refused(Refusal::unplaced(Refusal::NO_ROOM));
-                    }
-                    writing::put_message(s, h, &mut out[..size]);
-                    ShortenAnswer::Written(size)
-                }
-            }
-        }
+    let h = headers::whole_header(s)?;
+    let body = body::body_in(s, h, [NO_ID; 4])?;
+    let size = writing::message_size(h.length - body.tally.spare);
+    if out.len() < size {
+        return Err(Refusal::unplaced(Refusal::NO_ROOM));
     }
+    writing::put_message(s, h, &mut out[..size]);
+    Ok(size)
 }
 
 // The field with that id of the list of the message that s is: where its value lies.
-pub fn field(s: &[u8], id: u8) -> FieldAnswer
+pub fn field(s: &[u8], id: u8) -> Result<Option<Span>, Refusal>
     ensures { result ≡ field_answer id s.now }
 {
-    let message = asking::ask(s, [id, NO_ID, NO_ID, NO_ID]);
-    let answer = message.answer;
-    match answer {
-        ReadAnswer::Refused(f) => FieldAnswer::Refused(f),
-        ReadAnswer::Accepted(_) => {
-            let places = message.places;
-            let fields = places.fields;
-            asking::answer_at(fields[0])
-        }
-    }
+    let message = asking::ask(s, [id, NO_ID, NO_ID, NO_ID])?;
+    Ok(message.places.fields[0])
 }
 
 // The bytes of that field's value, as they lie in s; the other bytes where s has no such field or is refused.
@@ -122,13 +94,9 @@ pub fn field_bytes<'a>(s: &'a [u8], id: u8, other: &'a [u8]) -> &'a [u8]
     ensures place { result.ref_ptr ≡ handed_place s.entry.ref_ptr other.entry.ref_ptr (field_answer id s.now) }
 {
     match field(s, id) {
-        FieldAnswer::Absent => other,
-        FieldAnswer::Value(place) => {
-            let from = place.from;
-            let to = place.to;
-            &s[from..to]
-        }
-        FieldAnswer::Refused(_) => other,
+        Ok(Some(Span { from, to })) => &s[from..to],
+        Ok(None) => other,
+        Err(_) => other,
     }
 }
 
@@ -136,34 +104,32 @@ pub fn field_bytes<'a>(s: &'a [u8], id: u8, other: &'a [u8]) -> &'a [u8]
 pub fn places(s: &[u8], ids: [u8; 4]) -> Places
     ensures { result ≡ places_answer ids s.now }
 {
-    let message = asking::ask(s, ids);
-    message.places
+    match asking::ask(s, ids) {
+        Err(_) => body::NO_PLACES,
+        Ok(message) => message.places,
+    }
 }
 
 // What the status information that s is tells; nothing of any other bytes.
 pub fn read_status(s: &[u8]) -> Status
     ensures { result ≡ status_of s.now }
 {
-    let message = asking::ask(s, values::STATUS_IDS);
-    let places = message.places;
-    let fields = places.fields;
-    values::status_at(s, fields)
+    let places = places(s, values::STATUS_IDS);
+    values::status_at(s, places.fields)
 }
 
 // What a desk asks of the message that s is: its header, and what the body behind it tells.
-pub fn hear(s: &[u8]) -> HearAnswer
+pub fn hear(s: &[u8]) -> Result<Heard, Refusal>
     ensures { result ≡ hear_answer s.now }
 {
-    match headers::whole_header(s) {
-        HeaderRead::Refused(f) => HearAnswer::Refused(f),
-        HeaderRead::Header(h) => HearAnswer::Heard(Heard {
-            class: h.class,
-            instruction: h.instruction,
-            start: h.start,
-            length: h.length,
-            told: told::told_behind(s, h),
-        }),
-    }
+    let h = headers::whole_header(s)?;
+    Ok(Heard {
+        class: h.class,
+        instruction: h.instruction,
+        start: h.start,
+        length: h.length,
+        told: told::told_behind(s, h),
+    })
 }
 
 // The card name of the status information that s is, or the till's own name.
@@ -175,18 +141,16 @@ pub fn card_name<'a>(s: &'a [u8], own: &'a [u8]) -> &'a [u8]
         return own;
     }
     match field(s, 0x8B) {
-        FieldAnswer::Absent => own,
-        FieldAnswer::Refused(_) => own,
-        FieldAnswer::Value(place) => {
-            let from = place.from;
-            let end = place.to;
-            let size = name::name_size(&s[from..end]);
+        Ok(Some(Span { from, to: end })) => {
+            let size = buffers::find(&s[from..end], 0, 0);
             if size == 0 {
                 return own;
             }
             let to = from + size;
             &s[from..to]
         }
+        Ok(None) => own,
+        Err(_) => own,
     }
 }
 
@@ -194,27 +158,21 @@ pub fn card_name<'a>(s: &'a [u8], own: &'a [u8]) -> &'a [u8]
 pub fn amount_bytes(n: u64) -> [u8; 6]
     ensures { result ≡ digit_bytes_of 6 n }
 {
-    let mut b = [0u8; 6];
-    digits::put_digits(n, &mut b);
-    b
+    digits::digit_bytes(n)
 }
 
 // The last six digits of a password.
 pub fn password_bytes(n: u32) -> [u8; 3]
     ensures { result ≡ digit_bytes_of 3 n }
 {
-    let mut b = [0u8; 3];
-    digits::put_digits(n as u64, &mut b);
-    b
+    digits::digit_bytes(u64::from(n))
 }
 
 // The last four digits of a receipt number.
 pub fn receipt_bytes(n: u16) -> [u8; 2]
     ensures { result ≡ digit_bytes_of 2 n }
 {
-    let mut b = [0u8; 2];
-    digits::put_digits(n as u64, &mut b);
-    b
+    digits::digit_bytes(u64::from(n))
 }
 
 // The number that the digits of an amount are.

@@ -1,25 +1,11 @@
 // Data objects: a run of objects, each tag, length, value; the value of some is again a run.
 ghost use Rattle.std.specs.Prelude.{◌≡◌, ◌+◌, ◌-◌, ◌≤◌, length};
-ghost use Rattle.zvt_rules.specs.Limits.{most_message};
 ghost use Rattle.zvt_rules.specs.Objects.{form_size};
 ghost use Rattle.zvt_rules.specs.Shortest.{form_for};
 ghost use Rattle.zvt.specs.ObjectSteps.{tag_answer, len_answer, within, head_answer, tally_of, one_answer, run_answer};
 
-use zvt_rules::{Outline, Place, Refusal};
-
-// How many bytes a tag takes.
-#[derive(Clone, Copy)]
-pub(crate) enum TagRead {
-    Size(usize),
-    Refused(Refusal),
-}
-
-// How many bytes a length takes, and the length.
-#[derive(Clone, Copy)]
-pub(crate) enum LenRead {
-    Len(usize, usize),
-    Refused(Refusal),
-}
+use crate::part::Part;
+use zvt_rules::{Outline, Refusal};
 
 // Where the parts of an object or a field lie: the tag or id ends at tag, the value goes from from up to to. A nested value is a
 // run of objects.
@@ -31,12 +17,6 @@ pub(crate) struct Bounds {
     pub(crate) nested: bool,
 }
 
-#[derive(Clone, Copy)]
-pub(crate) enum BoundsRead {
-    Bounds(Bounds),
-    Refused(Refusal),
-}
-
 // What is known of bytes that were read: how many, the objects begun by their end, and how many bytes fewer they take when
 // every length is shortest.
 #[derive(Clone, Copy)]
@@ -46,102 +26,80 @@ pub(crate) struct Tally {
     pub(crate) spare: usize,
 }
 
+// Bytes that were read, and where lies what was asked for in them.
 #[derive(Clone, Copy)]
-pub(crate) enum PartRead {
-    Part(Tally),
-    Refused(Refusal),
+pub(crate) struct Located<T> {
+    pub(crate) tally: Tally,
+    pub(crate) lies: T,
 }
 
-pub(crate) fn tag_size(s: &[u8], at: usize) -> TagRead
-    requires { at + length s.now ≤ most_message }
-    ensures { result ≡ tag_answer at s.now }
+// How many bytes a tag takes.
+pub(crate) fn tag_size(p: Part) -> Result<usize, Refusal>
+    ensures { result ≡ tag_answer p.entry.at p.entry.bytes.now }
 {
+    let s = p.bytes;
     if s.len() == 0 {
-        return TagRead::Refused(Refusal {
-            number: Refusal::ENDS_TOO_SOON,
-            place: Place::At(at),
-        });
+        return Err(p.fault(Refusal::ENDS_TOO_SOON, 0));
     }
     if s[0] & 0x1F != 0x1F {
-        return TagRead::Size(1);
+        return Ok(1);
     }
-    let second = at + 1;
     if s.len() == 1 {
-        return TagRead::Refused(Refusal {
-            number: Refusal::ENDS_TOO_SOON,
-            place: Place::At(second),
-        });
+        return Err(p.fault(Refusal::ENDS_TOO_SOON, 1));
     }
     if s[1] & 0x80 != 0 {
-        TagRead::Refused(Refusal {
-            number: Refusal::TAG_TOO_LONG,
-            place: Place::At(second),
-        })
+        Err(p.fault(Refusal::TAG_TOO_LONG, 1))
     } else {
-        TagRead::Size(2)
+        Ok(2)
     }
 }
 
-pub(crate) fn len_of(s: &[u8], at: usize) -> LenRead
-    requires { at + length s.now ≤ most_message }
-    ensures { result ≡ len_answer at s.now }
+// How many bytes a length takes, and the length.
+pub(crate) fn len_of(p: Part) -> Result<(usize, usize), Refusal>
+    ensures { result ≡ len_answer p.entry.at p.entry.bytes.now }
 {
-    let end = at + s.len();
-    let cut = Refusal {
-        number: Refusal::ENDS_TOO_SOON,
-        place: Place::At(end),
-    };
+    let s = p.bytes;
+    let cut = p.fault(Refusal::ENDS_TOO_SOON, s.len());
     if s.len() == 0 {
-        return LenRead::Refused(cut);
+        return Err(cut);
     }
     let b = s[0];
     if b < 0x80 {
-        let bare = b as usize;
-        return LenRead::Len(1, bare);
+        return Ok((1, usize::from(b)));
     }
     if b == 0x81 {
         if s.len() < 2 {
-            return LenRead::Refused(cut);
+            return Err(cut);
         }
-        let one = s[1] as usize;
-        return LenRead::Len(2, one);
+        return Ok((2, usize::from(s[1])));
     }
     if b == 0x82 {
         if s.len() < 3 {
-            return LenRead::Refused(cut);
+            return Err(cut);
         }
-        let high = s[1] as usize;
-        let low = s[2] as usize;
-        let two = high * 256 + low;
-        return LenRead::Len(3, two);
+        let two = u16::from_be_bytes([s[1], s[2]]);
+        return Ok((3, usize::from(two)));
     }
-    LenRead::Refused(Refusal {
-        number: Refusal::NO_LENGTH,
-        place: Place::At(at),
-    })
+    Err(p.fault(Refusal::NO_LENGTH, 0))
 }
 
-// A value of v bytes that begins at from: it ends within s.
+// A value of v bytes that begins at from: it ends within the part.
 pub(crate) fn bounds_in(
-    s: &[u8],
-    at: usize,
+    p: Part,
     tag: usize,
     from: usize,
     v: usize,
     nested: bool,
-) -> BoundsRead
-    requires { (at + length s.now ≤ most_message) × (from ≤ length s.now) }
-    ensures { result ≡ within at tag from v nested s.now }
+) -> Result<Bounds, Refusal>
+    requires { from ≤ length p.bytes.now }
+    ensures { result ≡ within p.entry.at tag from v nested p.entry.bytes.now }
 {
+    let s = p.bytes;
     if s.len() - from < v {
-        let end = at + s.len();
-        return BoundsRead::Refused(Refusal {
-            number: Refusal::ENDS_TOO_SOON,
-            place: Place::At(end),
-        });
+        return Err(p.fault(Refusal::ENDS_TOO_SOON, s.len()));
     }
     let to = from + v;
-    BoundsRead::Bounds(Bounds {
+    Ok(Bounds {
         tag,
         from,
         to,
@@ -149,25 +107,13 @@ pub(crate) fn bounds_in(
     })
 }
 
-// The bounds of the object that s begins with.
-pub(crate) fn head_of(s: &[u8], at: usize) -> BoundsRead
-    requires { at + length s.now ≤ most_message }
-    ensures { result ≡ head_answer at s.now }
+// The bounds of the object that a part begins with.
+pub(crate) fn head_of(p: Part) -> Result<Bounds, Refusal>
+    ensures { result ≡ head_answer p.entry.at p.entry.bytes.now }
 {
-    match tag_size(s, at) {
-        TagRead::Refused(f) => BoundsRead::Refused(f),
-        TagRead::Size(tag) => match len_of(&s[tag..], at + tag) {
-            LenRead::Refused(f) => BoundsRead::Refused(f),
-            LenRead::Len(size, v) => {
-                let from = tag + size;
-                if s[0] & 0x20 != 0 {
-                    bounds_in(s, at, tag, from, v, true)
-                } else {
-                    bounds_in(s, at, tag, from, v, false)
-                }
-            }
-        },
-    }
+    let tag = tag_size(p)?;
+    let (size, v) = len_of(p.behind(tag))?;
+    bounds_in(p, tag, tag + size, v, p.bytes[0] & 0x20 != 0)
 }
 
 // How many bytes the shortest length of v bytes takes.
@@ -199,61 +145,42 @@ pub(crate) fn tally_of(b: Bounds, objects: u8, saved: usize) -> Tally
 
 // Reads a run, with left levels left and after n objects.
 #[cycle(read_one_read_run)]
-pub(crate) fn read_run(s: &[u8], at: usize, left: u8, n: u8) -> PartRead
-    requires { at + length s.now ≤ most_message }
-    ensures { result ≡ run_answer left n at s.now }
+pub(crate) fn read_run(p: Part, left: u8, n: u8) -> Result<Tally, Refusal>
+    ensures { result ≡ run_answer left n p.entry.at p.entry.bytes.now }
 {
     let mut i: usize = 0;
     let mut objects = n;
     let mut spare: usize = 0;
-    while i < s.len() {
-        match read_one(&s[i..], at + i, left, objects) {
-            PartRead::Refused(f) => return PartRead::Refused(f),
-            PartRead::Part(o) => {
-                i += o.size;
-                objects = o.objects;
-                spare += o.spare;
-            }
-        }
+    // Each object has its own size: no iterator steps so.
+    while i < p.bytes.len() {
+        let o = read_one(p.behind(i), left, objects)?;
+        i += o.size;
+        objects = o.objects;
+        spare += o.spare;
     }
-    PartRead::Part(Tally {
+    Ok(Tally {
         size: i,
         objects,
         spare,
     })
 }
 
-// Reads the object that s begins with.
+// Reads the object that a part begins with.
 #[cycle(read_one_read_run)]
-pub(crate) fn read_one(s: &[u8], at: usize, left: u8, n: u8) -> PartRead
-    requires { at + length s.now ≤ most_message }
-    ensures { result ≡ one_answer left n at s.now }
+pub(crate) fn read_one(p: Part, left: u8, n: u8) -> Result<Tally, Refusal>
+    ensures { result ≡ one_answer left n p.entry.at p.entry.bytes.now }
 {
     if Outline::MOST_OBJECTS <= n {
-        return PartRead::Refused(Refusal {
-            number: Refusal::TOO_MANY_OBJECTS,
-            place: Place::At(at),
-        });
+        return Err(p.fault(Refusal::TOO_MANY_OBJECTS, 0));
     }
     if left == 0 {
-        return PartRead::Refused(Refusal {
-            number: Refusal::TOO_DEEP,
-            place: Place::At(at),
-        });
+        return Err(p.fault(Refusal::TOO_DEEP, 0));
     }
     let count = n + 1;
-    match head_of(s, at) {
-        BoundsRead::Refused(f) => PartRead::Refused(f),
-        BoundsRead::Bounds(b) => {
-            if !b.nested {
-                return PartRead::Part(tally_of(b, count, 0));
-            }
-            let from = b.from;
-            let to = b.to;
-            match read_run(&s[from..to], at + from, left - 1, count) {
-                PartRead::Refused(f) => PartRead::Refused(f),
-                PartRead::Part(r) => PartRead::Part(tally_of(b, r.objects, r.spare)),
-            }
-        }
+    let b = head_of(p)?;
+    if !b.nested {
+        return Ok(tally_of(b, count, 0));
     }
+    let r = read_run(p.between(b.from, b.to), left - 1, count)?;
+    Ok(tally_of(b, r.objects, r.spare))
 }

@@ -8,27 +8,25 @@ ghost use Rattle.zvt.specs.ToldSteps.{HeaderOf, Tells, first_in};
 
 use crate::body::{body_in, outline_of};
 use crate::format::layout_of;
-use crate::objects::PartRead;
 use crate::values::{STATUS_IDS, status_at};
-use zvt_rules::{Header, Layout, Outline, Span, ToldAnswer, ToldBody, ToldCode};
+use zvt_rules::{Header, Layout, Outline, Refusal, Span, ToldBody};
 
 // The first byte of a plain body, if it has one.
-fn first_in(s: &[u8], m: Outline) -> ToldCode
+fn first_in(s: &[u8], m: Outline) -> Option<u8>
     requires { Was s.now m }
     ensures { result ≡ first_in (read_of s.now) }
 {
     let at = m.start;
     if s.len() <= at {
-        return ToldCode::Missing;
+        return None;
     }
     match layout_of(m.class, m.instruction) {
-        Layout::Plain => ToldCode::Code(s[at]),
-        Layout::List => ToldCode::Missing,
-        Layout::Secured => ToldCode::Missing,
+        Layout::Plain => Some(s[at]),
+        Layout::List | Layout::Secured => None,
     }
 }
 
-fn told_in(s: &[u8], m: Outline, fields: [Span; 4]) -> ToldBody
+fn told_in(s: &[u8], m: Outline, fields: [Option<Span>; 4]) -> ToldBody
     requires { Was s.now m × FoundIn status_ids fields s.now }
     ensures { Tells result s.now }
 {
@@ -39,16 +37,10 @@ fn told_in(s: &[u8], m: Outline, fields: [Span; 4]) -> ToldBody
 }
 
 // What the body behind the header of the message that s is tells.
-pub(crate) fn told_behind(s: &[u8], h: Header) -> ToldAnswer
+pub(crate) fn told_behind(s: &[u8], h: Header) -> Result<ToldBody, Refusal>
     requires { HeaderOf h s.now }
     ensures { result ≡ told_answer (read_of s.now) }
 {
-    let body = body_in(s, h, STATUS_IDS);
-    let places = body.places;
-    let fields = places.fields;
-    let part = body.part;
-    match part {
-        PartRead::Refused(f) => ToldAnswer::Refused(f),
-        PartRead::Part(t) => ToldAnswer::Told(told_in(s, outline_of(h, t), fields)),
-    }
+    let body = body_in(s, h, STATUS_IDS)?;
+    Ok(told_in(s, outline_of(h, body.tally), body.lies.fields))
 }

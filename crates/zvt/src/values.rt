@@ -4,65 +4,50 @@ ghost use Rattle.zvt.specs.ValueSteps.{Sized, SizedDigits, value_at, status_ids,
 ghost use Rattle.zvt_rules.specs.Values.{code_of, amount_of, receipt_of, status_of};
 
 use crate::asking::NO_ID;
-use crate::digits::number;
-use zvt_rules::{Span, Status, ToldAmount, ToldCode, ToldReceipt};
+use crate::digits::{number, short_number};
+use zvt_rules::{Span, Status};
 
-fn code_at(s: &[u8], place: Span) -> ToldCode
+fn code_at(s: &[u8], place: Option<Span>) -> Option<u8>
     requires { Sized 1 place s.now }
     ensures { result ≡ code_of (value_at place s.now) }
 {
-    if place.to == 0 {
-        return ToldCode::Missing;
-    }
-    let at = place.from;
-    ToldCode::Code(s[at])
+    let at = place?.from;
+    Some(s[at])
 }
 
-fn amount_at(s: &[u8], place: Span) -> ToldAmount
+fn amount_at(s: &[u8], place: Option<Span>) -> Option<u64>
     requires { Sized 6 place s.now }
     ensures { result ≡ amount_of (value_at place s.now) }
 {
-    let from = place.from;
-    let to = place.to;
-    if to == 0 {
-        return ToldAmount::Missing;
-    }
-    ToldAmount::Amount(number(&s[from..to]))
+    let Span { from, to } = place?;
+    Some(number(&s[from..to]))
 }
 
-fn receipt_at(s: &[u8], place: Span) -> ToldReceipt
+fn receipt_at(s: &[u8], place: Option<Span>) -> Option<u16>
     requires { SizedDigits 2 place s.now }
     ensures { result ≡ receipt_of (value_at place s.now) }
 {
-    let from = place.from;
-    let to = place.to;
-    if to == 0 {
-        return ToldReceipt::Missing;
-    }
-    let short = number(&s[from..to]) as u16;
-    ToldReceipt::Receipt(short)
+    let Span { from, to } = place?;
+    Some(short_number(&s[from..to]))
 }
 
 // The fields that it is asked for; no field has the fourth id.
 pub(crate) const STATUS_IDS: [u8; 4] = [0x27, 0x04, 0x87, NO_ID];
 
 const NO_STATUS: Status = Status {
-    code: ToldCode::Missing,
-    amount: ToldAmount::Missing,
-    receipt: ToldReceipt::Missing,
+    code: None,
+    amount: None,
+    receipt: None,
 };
 
 // Whether the pair is that of a status information.
 pub(crate) fn is_status(s: &[u8]) -> bool
     ensures { result ≡ status_pair s.now }
 {
-    if s.len() < 2 {
-        return false;
-    }
-    s[0] == 0x04 && s[1] == 0x0F
+    s.starts_with(&[0x04, 0x0F])
 }
 
-fn values_at(s: &[u8], fields: [Span; 4]) -> Status
+fn values_at(s: &[u8], fields: [Option<Span>; 4]) -> Status
     requires { StatusAt fields s.now }
     ensures { result ≡ status_of s.now }
 {
@@ -74,7 +59,7 @@ fn values_at(s: &[u8], fields: [Span; 4]) -> Status
 }
 
 // What the message that s is tells; those fields of it lie there.
-pub(crate) fn status_at(s: &[u8], fields: [Span; 4]) -> Status
+pub(crate) fn status_at(s: &[u8], fields: [Option<Span>; 4]) -> Status
     requires { FoundIn status_ids fields s.now }
     ensures { result ≡ status_of s.now }
 {

@@ -9,7 +9,8 @@ ghost use Rattle.zvt.specs.WritingSteps.{Put, head_bytes, value_bytes, RunReads,
 
 use crate::fields::field_bounds;
 use crate::format::{format_of, layout_of};
-use crate::objects::{Bounds, BoundsRead, head_of};
+use crate::objects::{Bounds, head_of};
+use crate::part::Part;
 use zvt_rules::{Header, Layout};
 
 // Puts v at the end of out. Here and below, the answer is how many bytes of out are left before what was put.
@@ -27,14 +28,13 @@ pub(crate) fn put_len(v: usize, out: &mut [u8]) -> usize
     requires { (v < 65536) × (length (len_bytes (form_for v) v) ≤ length out.old) }
     ensures { Put (len_bytes (form_for v) v) out.old result out.new }
 {
-    let low = (v % 256) as u8;
+    let [high, low] = (v as u16).to_be_bytes();
     if v < 128 {
         return put(&[low], out);
     }
     if v < 256 {
         return put(&[0x81, low], out);
     }
-    let high = (v / 256 % 256) as u8;
     put(&[0x82, high, low], out)
 }
 
@@ -76,9 +76,9 @@ pub(crate) fn put_run(s: &[u8], out: &mut [u8]) -> usize
     if s.len() == 0 {
         return out.len();
     }
-    match head_of(s, 0) {
-        BoundsRead::Refused(_) => out.len(),
-        BoundsRead::Bounds(b) => {
+    match head_of(Part { bytes: s, at: 0 }) {
+        Err(_) => out.len(),
+        Ok(b) => {
             let tag = b.tag;
             let from = b.from;
             let to = b.to;
@@ -114,9 +114,9 @@ pub(crate) fn put_list(s: &[u8], out: &mut [u8]) -> usize
     if s.len() == 0 {
         return out.len();
     }
-    match field_bounds(s, 0, format_of(s[0])) {
-        BoundsRead::Refused(_) => out.len(),
-        BoundsRead::Bounds(b) => {
+    match field_bounds(Part { bytes: s, at: 0 }, format_of(s[0])) {
+        Err(_) => out.len(),
+        Ok(b) => {
             let to = b.to;
             let left = put_list(&s[to..], out);
             put_field(s, b, &mut out[..left])
@@ -143,11 +143,10 @@ pub(crate) fn put_header(class: u8, instruction: u8, v: usize, out: &mut [u8]) -
     requires { (v < 65536) × (length (header_bytes class instruction v) ≤ length out.old) }
     ensures { Put (header_bytes class instruction v) out.old result out.new }
 {
-    let low = (v % 256) as u8;
+    let [low, high] = (v as u16).to_le_bytes();
     if v < 255 {
         return put(&[class, instruction, low], out);
     }
-    let high = (v / 256 % 256) as u8;
     put(&[class, instruction, 0xFF, low, high], out)
 }
 

@@ -10,13 +10,10 @@ use lib.ListN.{length, take, drop, length-append, take-append-drop}
 use lib.Seq.{length-take-le, take_all, drop_at}
 use lib.Dec.{ltb}
 use borrow.Author.Tests.{ltb-true, ltb-false, lt-ltb, le-ltb}
+use Rattle.std.proofs.Common.{Err, Ok}
 use Rattle.zvt_rules.specs.declared.Refusal.{Refusal}
 use Rattle.zvt_rules.specs.declared.Header.{Header}
 use Rattle.zvt_rules.specs.declared.Outline.{Outline}
-use Rattle.zvt_rules.specs.declared.HeaderAnswer.TheVariants.{Header as header-got, Refused as header_refused}
-use Rattle.zvt_rules.specs.declared.ReadAnswer.TheVariants.{Accepted, Refused}
-use Rattle.zvt_rules.specs.declared.FirstAnswer.TheVariants.{Accepted as first-accepted, Refused as first-refused}
-use Rattle.zvt_rules.specs.declared.ShortenAnswer.TheVariants.{Written, Refused as short-refused}
 use Rattle.basics.specs.Lists.{part}
 use Rattle.zvt_rules.specs.Reading.{Reading, got, refused, unplaced, unless, written_leaves}
 use Rattle.basics.specs.Buffers.{front}
@@ -114,11 +111,11 @@ read-frame s h b e =
 
 -- M1, M2
 pub header-exactly : (s : List ℕ) (h : Header) → Bytes s
-    → (header_answer s ≡ header-got h) ↔ Framed s h.class h.instruction h.start h.length
+    → (header_answer s ≡ Ok h) ↔ Framed s h.class h.instruction h.start h.length
 unfolding header_answer as_header_answer header_in
 header-exactly s h b = (to (whole_header s) refl, λ f. rw (frame-read f, frame-start f, f.sized))
   where
-    to : (x : Reading Heading) → whole_header s ≡ x → as_header_answer x ≡ header-got h → Framed s h.class h.instruction h.start h.length
+    to : (x : Reading Heading) → whole_header s ≡ x → as_header_answer x ≡ Ok h → Framed s h.class h.instruction h.start h.length
     to (got k) e q = let same : header_in k ≡ h = cc in rw (← same) (read-frame s k b e)
     to (refused f) e q = never cc
 
@@ -158,40 +155,41 @@ report-one s o r =
     rw (objects, shortest, class, instruction, starts, size)
 
 -- M9: what is reported of an accepted message, and nothing else
-pub read-exactly : (s : List ℕ) (o : Outline) → Bytes s → (read_answer s ≡ Accepted o) ↔ Reported s o
+pub read-exactly : (s : List ℕ) (o : Outline) → Bytes s → (read_answer s ≡ Ok o) ↔ Reported s o
 unfolding read_answer as_read_answer
 read-exactly s o b = (to (read_of s) refl, from)
   where
-    to : (x : Reading Message) → read_of s ≡ x → as_read_answer x ≡ Accepted o → Reported s o
+    to : (x : Reading Message) → read_of s ≡ x → as_read_answer x ≡ Ok o → Reported s o
     to (got m) e q = let same : outline_of m ≡ o = cc in rw (← same) (reported s m (read-sound s m b e))
     to (refused f) e q = never cc
 
-    from : Reported s o → as_read_answer (read_of s) ≡ Accepted o
+    from : Reported s o → as_read_answer (read_of s) ≡ Ok o
     from r =
         let is = r.accepted in
         let read : read_of s ≡ got r.message = rw (← is.0) (read-complete r.message is.1) in
-        rw (read, as_read_answer) (ap Accepted (report-one s o r))
+        rw (read, as_read_answer) (ap Ok (report-one s o r))
 
 -- the first of several messages
-pub first-exactly : (s : List ℕ) (o : Outline) (next : ℕ) → Bytes s → (first_answer s ≡ first-accepted o next) ↔ FirstReported s o next
+pub first-exactly : (s : List ℕ) (o : Outline) (next : ℕ) → Bytes s → (first_answer s ≡ Ok (o, next)) ↔ FirstReported s o next
 unfolding first_answer as_first_answer FirstReported
 first-exactly s o next b = (to (first_of s) refl, from)
   where
-    to : (x : Reading Message) → first_of s ≡ x → as_first_answer x ≡ first-accepted o next → FirstReported s o next
+    to : (x : Reading Message) → first_of s ≡ x → as_first_answer x ≡ Ok (o, next) → FirstReported s o next
     to (got m) e q =
         let k = first-sound s m b e in
         let n = length (message_bytes m) in
-        let same : outline_of m ≡ o = cc in
-        let ends : n ≡ next = cc in
+        let both : (outline_of m, n) ≡ (o, next) = cc in
+        let same : outline_of m ≡ o = ap (λ (x : Outline × ℕ). x.0) both in
+        let ends : n ≡ next = ap (λ (x : Outline × ℕ). x.1) both in
         (take n s, drop n s, sym (take-append-drop n s), sym ends ∙ ap length k.0, rw (← same) (reported (take n s) m k))
     to (refused f) e q = never cc
 
-    from : FirstReported s o next → as_first_answer (first_of s) ≡ first-accepted o next
+    from : FirstReported s o next → as_first_answer (first_of s) ≡ Ok (o, next)
     from (front, rest, e, ends, r) =
         let m = r.message in
         let is = r.accepted in
         let read : first_of s ≡ got m = rw (e, ← is.0) (first-complete m rest is.1) in
-        rw (read, as_first_answer, is.0, ends) (ap (λ (x : Outline). first-accepted x (length front)) (report-one front o r))
+        rw (read, as_first_answer, is.0, ends) (ap (λ (x : Outline). Ok (x, length front)) (report-one front o r))
 
 -- ---- refusals. R31: "A refusal answers its number and, where it names one (R46), its place, and nothing else.": those that reading found
 module _ {A B : Type 0} (say : Reading A → B) (no : Refusal → B) (other : (a : A) (r : Refusal) → say (got a) ≡ no r → ⊥)
@@ -200,20 +198,20 @@ module _ {A B : Type 0} (say : Reading A → B) (no : Refusal → B) (other : (a
   refused-by (got a) r = (λ e. absurd (other a r e), λ e. absurd (got-not-refused e))
   refused-by (refused q) r = (λ e. ap refused (one q r (sym (same q) ∙ e)), λ e. ap say e ∙ same r)
 
-pub header-refused-exactly : (s : List ℕ) (r : Refusal) → (header_answer s ≡ header_refused r) ↔ (whole_header s ≡ refused r)
+pub header-refused-exactly : (s : List ℕ) (r : Refusal) → (header_answer s ≡ Err r) ↔ (whole_header s ≡ refused r)
 unfolding header_answer as_header_answer
 header-refused-exactly s r =
-    refused-by as_header_answer header_refused (λ a r e. never cc) (λ f. refl) (λ r q e. cc) (whole_header s) r
+    refused-by as_header_answer Err (λ a r e. never cc) (λ f. refl) (λ r q e. cc) (whole_header s) r
 
-pub read-refused-exactly : (s : List ℕ) (r : Refusal) → (read_answer s ≡ Refused r) ↔ (read_of s ≡ refused r)
+pub read-refused-exactly : (s : List ℕ) (r : Refusal) → (read_answer s ≡ Err r) ↔ (read_of s ≡ refused r)
 unfolding read_answer as_read_answer
 read-refused-exactly s r =
-    refused-by as_read_answer Refused (λ a r e. never cc) (λ f. refl) (λ r q e. cc) (read_of s) r
+    refused-by as_read_answer Err (λ a r e. never cc) (λ f. refl) (λ r q e. cc) (read_of s) r
 
-pub first-refused-exactly : (s : List ℕ) (r : Refusal) → (first_answer s ≡ first-refused r) ↔ (first_of s ≡ refused r)
+pub first-refused-exactly : (s : List ℕ) (r : Refusal) → (first_answer s ≡ Err r) ↔ (first_of s ≡ refused r)
 unfolding first_answer as_first_answer
 first-refused-exactly s r =
-    refused-by as_first_answer first-refused (λ a r e. never cc) (λ f. refl) (λ r q e. cc) (first_of s) r
+    refused-by as_first_answer Err (λ a r e. never cc) (λ f. refl) (λ r q e. cc) (first_of s) r
 
 -- ---- shortening
 module _ (room : ℕ) (s : List ℕ) (b : Bytes s) where
@@ -237,23 +235,23 @@ module _ (room : ℕ) (s : List ℕ) (b : Bytes s) where
   lacks w k h = then-on _ w ((shortens-exactly s w b).1 k) ∙ rw (lt-ltb room (length w) h, unless)
 
   -- M10, R38: what is written is the shortest form, and it fits
-  pub shorten-exactly : (k : ℕ) → (shorten_answer room s ≡ Written k) ↔ ((w : List ℕ) × Shortens s w × (length w ≤ room) × (length w ≡ k))
+  pub shorten-exactly : (k : ℕ) → (shorten_answer room s ≡ Ok k) ↔ ((w : List ℕ) × Shortens s w × (length w ≤ room) × (length w ≡ k))
   unfolding shorten_answer as_shorten_answer
   shorten-exactly k = (to (shortened room s) refl, λ (w, h, l, e). rw ((fits-exactly w).1 (h, l), as_shorten_answer, e))
     where
-      to : (x : Reading (List ℕ)) → shortened room s ≡ x → as_shorten_answer x ≡ Written k
+      to : (x : Reading (List ℕ)) → shortened room s ≡ x → as_shorten_answer x ≡ Ok k
           → (w : List ℕ) × Shortens s w × (length w ≤ room) × (length w ≡ k)
       to (got w) e q = let h = (fits-exactly w).0 e in (w, h.0, h.1, cc)
       to (refused f) e q = never cc
 
   -- R37: "header, body, 11". R38: "shortening needs as many as it writes"
   pub shorten-refused-exactly : (r : Refusal)
-      → (shorten_answer room s ≡ short-refused r)
+      → (shorten_answer room s ≡ Err r)
       ↔ ((read_of s ≡ refused r) ⊎ ((w : List ℕ) × Shortens s w × (room < length w) × (unplaced 11 ≡ r)))
   unfolding shorten_answer as_shorten_answer
   shorten-refused-exactly r =
       Iff.trans
-      (refused-by as_shorten_answer short-refused (λ a r e. never cc) (λ f. refl) (λ r q e. cc) (shortened room s) r)
+      (refused-by as_shorten_answer Err (λ a r e. never cc) (λ f. refl) (λ r q e. cc) (shortened room s) r)
       (by (read_of s) refl, ⊎_elim (stops r) λ (w, k, h, e). lacks w k h ∙ ap refused e)
     where
       tight : (w : List ℕ) → Shortens s w → shortened room s ≡ refused r → (room < length w) × (unplaced 11 ≡ r)

@@ -6,8 +6,8 @@ use Prim.Native.Nat.{ℕ, ◌+◌, ◌<◌, ◌≤◌}
 use native.Mathlib.Omega.{arith}
 use lib.ListN.{length, get_or, length-append, get_or-append}
 use lib.Seq.{get_or-append_seam, get_or-append-add}
+use Rattle.std.proofs.Common.{None}
 use Rattle.zvt_rules.specs.declared.Refusal.{Refusal}
-use Rattle.zvt_rules.specs.declared.Place.TheVariants.{Nowhere}
 use Rattle.zvt_rules.specs.declared.Layout.{Layout}
 use Rattle.zvt_rules.specs.declared.Layout.TheVariants.{Plain, List as FieldList, Secured}
 use Rattle.zvt_rules.specs.Reading.{fault_at}
@@ -109,10 +109,10 @@ framed-names s rest r (class, instruction, long, body, bytes, fits, row) =
 pub whole-names : (s : List ℕ) (r : Refusal) → FramedNo s [] r → Names s r
 whole-names s r h = let f = framed-names s [] r h in subst (λ (x : List ℕ). Names x r) (rw (append-nil) at f.1) f.2
 
-pub header-unplaced : {s : List ℕ} {r : Refusal} → HeaderNo s r → r.place ≡ Nowhere
+pub header-unplaced : {s : List ℕ} {r : Refusal} → HeaderNo s r → r.place ≡ None
 header-unplaced (short class instruction long body ok c) = refl
 header-unplaced (too_long h) = refl
 
-pub whole-unplaced : {s : List ℕ} {r : Refusal} → WholeNo s r → r.place ≡ Nowhere
+pub whole-unplaced : {s : List ℕ} {r : Refusal} → WholeNo s r → r.place ≡ None
 whole-unplaced (header h) = header-unplaced h
 whole-unplaced (left_over class instruction long body s ok l) = refl

@@ -9,11 +9,9 @@ use lib.ListN.{length, get_or, length-append}
 use lib.Seq.{take-append_seam, drop-append_seam}
 use lib.Dec.{leb, eqb}
 use borrow.Author.Tests.{leb-true, leb-false, eqb-true, eqb-false, eq-eqb, ne_eqb}
+use Rattle.std.proofs.Common.{Err, None, Ok, Option, Result, Some}
 use Rattle.zvt_rules.specs.declared.Refusal.{Refusal}
 use Rattle.zvt_rules.specs.declared.Span.{Span}
-use Rattle.zvt_rules.specs.declared.Listed.{Listed}
-use Rattle.zvt_rules.specs.declared.FieldAnswer.{FieldAnswer}
-use Rattle.zvt_rules.specs.declared.FieldAnswer.TheVariants.{Absent, Value, Refused as field-refused}
 use Rattle.basics.specs.Lists.{part, among}
 use Rattle.zvt_rules.specs.Reading.{Reading, got, refused}
 use Rattle.zvt_rules.specs.Fields.{format_of, Field, plain, container, field_id}
@@ -86,19 +84,6 @@ placed m password before f behind e =
 abbrev span_at : ℕ → Field → Span
 span_at at f = record { from = (listed_at at f).from; to = (listed_at at f).to }
 
--- an answer is one of three
-value_same : {p q : Span} → Value p ≡ Value q → p ≡ q
-value_same e = cc
-
-pub not-absent : {X : Type 0} {p : Span} → Absent ≡ Value p → X
-not-absent e = never cc
-
-not-refused : {X : Type 0} {r : Refusal} {p : Span} → field-refused r ≡ Value p → X
-not-refused e = never cc
-
-absent-refused : {X : Type 0} {r : Refusal} → Absent ≡ field-refused r → X
-absent-refused e = never cc
-
 -- the field that an answer is of
 abbrev Split : ℕ → ℕ → List Field → Span → Type 0
 Split id at fs p =
@@ -113,17 +98,17 @@ split-more id at f fs p (before, g, behind, q, i, same) =
     omega (arith, length-append (field_bytes f) (list_bytes before)) in
     (f ∷ before, g, behind, ap (λ (gs : List Field). f ∷ gs) q, i, rw z same)
 
-named-split : (id : ℕ) (fs : List Field) (at : ℕ) (p : Span) → named_listed id (listed_from at fs) ≡ Value p → Split id at fs p
+named-split : (id : ℕ) (fs : List Field) (at : ℕ) (p : Span) → named_listed id (listed_from at fs) ≡ Some p → Split id at fs p
 unfolding named_listed listed_from listed_at list_bytes
-named-split id [] at p e = not-absent e
+named-split id [] at p e = never cc
 named-split id (f ∷ fs) at p e =
-    pick-test (λ (x : FieldAnswer). x ≡ Value p → Split id at (f ∷ fs) p) (eqb (field_id f) id)
-    (λ t q. let z : at + 0 ≡ at = omega arith in ([], f, fs, refl, eqb-true (field_id f) id t, rw z (value_same q)))
+    pick-test (λ (x : Option Span). x ≡ Some p → Split id at (f ∷ fs) p) (eqb (field_id f) id)
+    (λ t q. let z : at + 0 ≡ at = omega arith in ([], f, fs, refl, eqb-true (field_id f) id t, let p-is : span_at at f ≡ p = cc in rw z p-is))
     (λ t q. split-more id at f fs p (named-split id fs (next_at at f) p q)) e
 
 -- F4: "No id stands twice in a list.": a field that stands there is the one that is found
 named_here : (before : List Field) (f : Field) (behind : List Field) (seen : List ℕ) (at : ℕ) → ListOk seen (before ++ (f ∷ behind))
-    → named_listed (field_id f) (listed_from at (before ++ (f ∷ behind))) ≡ Value (span_at (at + length (list_bytes before)) f)
+    → named_listed (field_id f) (listed_from at (before ++ (f ∷ behind))) ≡ Some (span_at (at + length (list_bytes before)) f)
 unfolding named_listed listed_from listed_at list_bytes ListOk among
 named_here [] f behind seen at ok =
     let z : at + 0 ≡ at = omega arith in rw z (pick_true _ _ (eq-eqb (field_id f) (field_id f) refl))
@@ -135,22 +120,16 @@ named_here (g ∷ before) f behind seen at ok =
     ∙ named_here before f behind (field_id g ∷ seen) (next_at at g) ok.2)
 
 -- F9: "the answer is absent where no field of the list has the id, and only there"
-named_none : (id : ℕ) (fs : List Field) (at : ℕ) → (named_listed id (listed_from at fs) ≡ Absent) ↔ ((f : Field) → In f fs → field_id f ≡ id → ⊥)
+named_none : (id : ℕ) (fs : List Field) (at : ℕ) → (named_listed id (listed_from at fs) ≡ None) ↔ ((f : Field) → In f fs → field_id f ≡ id → ⊥)
 unfolding named_listed listed_from listed_at
 named_none id [] at = (λ e f k. in-none k, λ h. refl)
 named_none id (g ∷ fs) at =
     let later = named_none id fs (next_at at g) in (
-      pick-test (λ (x : FieldAnswer). x ≡ Absent → (f : Field) → In f (g ∷ fs) → field_id f ≡ id → ⊥) (eqb (field_id g) id)
-          (λ t e. not-absent (sym e))
+      pick-test (λ (x : Option Span). x ≡ None → (f : Field) → In f (g ∷ fs) → field_id f ≡ id → ⊥) (eqb (field_id g) id)
+          (λ t e. never cc)
           (λ t e f k. ⊎_elim (λ q. rw q (eqb-false (field_id g) id t)) (later.0 e f) (in-first k)),
       λ h. pick-false _ _ (ne_eqb (field_id g) id (h g (in-more (inl refl)))) ∙ later.1 (λ f k. h f (in-more (inr k))),
     )
-
-never-refused : (id : ℕ) (ls : List Listed) (r : Refusal) → named_listed id ls ≡ field-refused r → ⊥
-unfolding named_listed
-never-refused id [] r e = absent-refused e
-never-refused id (l ∷ ls) r e =
-    pick-test (λ (x : FieldAnswer). x ≡ field-refused r → ⊥) (eqb l.id id) (λ t q. not-refused (sym q)) (λ t q. never-refused id ls r q) e
 
 -- ---- of a message
 -- nothing is not a list with a field in it
@@ -195,11 +174,11 @@ module _ (s : List ℕ) (b : Bytes s) where
       )
 
   -- and is found there
-  stands-found : (k : ℕ) (f : Field) (p : Span) → Stands s k f p → field_answer (field_id f) s ≡ Value p
+  stands-found : (k : ℕ) (f : Field) (p : Span) → Stands s k f p → field_answer (field_id f) s ≡ Ok (Some p)
   unfolding Stands body_fields field_answer asked_of listed_message listed_body MessageOk FieldsOk
   stands-found k f p (m, before, behind, front, is, q, n, w, x, y) = go m.body refl
     where
-      go : (v : Body) → m.body ≡ v → field_answer (field_id f) s ≡ Value p
+      go : (v : Body) → m.body ≡ v → field_answer (field_id f) s ≡ Ok (Some p)
       go (bytes v) e = absurd (no_field before f behind (sym (ap body_fields e) ∙ q))
       go (listed password fs) e =
           let split : fs ≡ before ++ (f ∷ behind) = sym (ap body_fields e) ∙ q in
@@ -209,41 +188,41 @@ module _ (s : List ℕ) (b : Bytes s) where
           rw ((stands_read m).0 is, e, split, named_here before f behind [] at (rw split at ok), same)
 
   -- The field with an id is answered where it stands, and nothing else is: F6.
-  pub value-exactly : (id : ℕ) (p : Span) → (field_answer id s ≡ Value p) ↔ StandsBy s id p
+  pub value-exactly : (id : ℕ) (p : Span) → (field_answer id s ≡ Ok (Some p)) ↔ StandsBy s id p
   unfolding StandsBy field_answer asked_of listed_message listed_body named_listed
   value-exactly id p = (there (read_of s) refl, λ (k, f, st, i). rw (← i) (stands-found k f p st))
     where
-      in_body : (m : Message) → read_of s ≡ got m → (x : Body) → m.body ≡ x → named_listed id (listed_body (body_at m) x) ≡ Value p
+      in_body : (m : Message) → read_of s ≡ got m → (x : Body) → m.body ≡ x → named_listed id (listed_body (body_at m) x) ≡ Some p
           → StandsBy s id p
-      in_body m r (bytes v) q e = not-absent e
+      in_body m r (bytes v) q e = never cc
       in_body m r (listed password fs) q e =
           let (before, f, behind, split, i, same) = named-split id fs (list_at (body_at m) password) p e in
           (length before, f, stands-split m r password fs before f behind (length before) p q split refl same, i)
 
-      there : (x : Reading Message) → read_of s ≡ x → asked_of id x ≡ Value p → StandsBy s id p
-      there (got m) r e = in_body m r m.body refl e
+      there : (x : Reading Message) → read_of s ≡ x → asked_of id x ≡ Ok (Some p) → StandsBy s id p
+      there (got m) r e = in_body m r m.body refl cc
       there (refused r) q e = never cc
 
   -- Absent is answered exactly where the message is accepted and its list has no such field: F9.
-  pub absent-exactly : (id : ℕ) → (field_answer id s ≡ Absent) ↔ Lacks s id
+  pub absent-exactly : (id : ℕ) → (field_answer id s ≡ Ok None) ↔ Lacks s id
   unfolding Lacks field_answer asked_of listed_message listed_body named_listed body_fields
-  absent-exactly id = (there (read_of s) refl, λ (m, is, none). rw ((stands_read m).0 is) ((by-body (body_at m) m.body).1 none))
+  absent-exactly id = (there (read_of s) refl, λ (m, is, none). rw ((stands_read m).0 is) (ap Ok ((by-body (body_at m) m.body).1 none)))
     where
-      by-body : (at : ℕ) (x : Body) → (named_listed id (listed_body at x) ≡ Absent) ↔ ((f : Field) → In f (body_fields x) → field_id f ≡ id → ⊥)
+      by-body : (at : ℕ) (x : Body) → (named_listed id (listed_body at x) ≡ None) ↔ ((f : Field) → In f (body_fields x) → field_id f ≡ id → ⊥)
       by-body at (bytes v) = (λ e f k. in-none k, λ h. refl)
       by-body at (listed password fs) = named_none id fs (list_at at password)
 
-      there : (x : Reading Message) → read_of s ≡ x → asked_of id x ≡ Absent → Lacks s id
-      there (got m) r e = (m, (stands_read m).1 r, (by-body (body_at m) m.body).0 e)
-      there (refused r) q e = absent-refused (sym e)
+      there : (x : Reading Message) → read_of s ≡ x → asked_of id x ≡ Ok None → Lacks s id
+      there (got m) r e = (m, (stands_read m).1 r, (by-body (body_at m) m.body).0 cc)
+      there (refused r) q e = never cc
 
   -- A refusal is that of reading: F10.
-  pub refused-exactly : (id : ℕ) (r : Refusal) → (field_answer id s ≡ field-refused r) ↔ (read_of s ≡ refused r)
+  pub refused-exactly : (id : ℕ) (r : Refusal) → (field_answer id s ≡ Err r) ↔ (read_of s ≡ refused r)
   unfolding field_answer asked_of
   refused-exactly id r = (there (read_of s) refl, λ e. rw e)
     where
-      there : (x : Reading Message) → read_of s ≡ x → asked_of id x ≡ field-refused r → read_of s ≡ refused r
-      there (got m) q e = absurd (never-refused id (listed_message (got m)) r e)
+      there : (x : Reading Message) → read_of s ≡ x → asked_of id x ≡ Err r → read_of s ≡ refused r
+      there (got m) q e = never cc
       there (refused f) q e = q ∙ cc
 
   -- The part of the message from .. to is the field's value, whatever its id.
@@ -302,19 +281,19 @@ module _ (s : List ℕ) (b : Bytes s) where
           → (value ≡ handed_bytes s other (field_answer id s)) × (r ≡ handed_place p q (field_answer id s))
       held (k, f, l, st, i, v, d) = rw ((value-exactly id l).1 (k, f, st, i)) (v ∙ sym (found_part k f l st), d)
 
-      free : ((l : Span) → StandsBy s id l → ⊥) → value ≡ other → r ≡ q → (x : FieldAnswer) → field_answer id s ≡ x
+      free : ((l : Span) → StandsBy s id l → ⊥) → value ≡ other → r ≡ q → (x : Result (Option Span) Refusal) → field_answer id s ≡ x
           → (value ≡ handed_bytes s other (field_answer id s)) × (r ≡ handed_place p q (field_answer id s))
-      free n e d Absent at = rw at (e, d)
-      free n e d (Value l) at = absurd (n l ((value-exactly id l).0 at))
-      free n e d (field-refused f) at = rw at (e, d)
+      free n e d (Ok None) at = rw at (e, d)
+      free n e d (Ok (Some l)) at = absurd (n l ((value-exactly id l).0 at))
+      free n e d (Err f) at = rw at (e, d)
 
-      back : (x : FieldAnswer) → field_answer id s ≡ x → value ≡ handed_bytes s other (field_answer id s) → r ≡ handed_place p q (field_answer id s)
+      back : (x : Result (Option Span) Refusal) → field_answer id s ≡ x → value ≡ handed_bytes s other (field_answer id s) → r ≡ handed_place p q (field_answer id s)
           → Handed s p other q id value r
-      back Absent at e d = inr (λ l st. not-absent (sym at ∙ (value-exactly id l).1 st), rw at at e, rw at at d)
-      back (Value l) at e d =
+      back (Ok None) at e d = inr (λ l st. let there = (value-exactly id l).1 st in never cc, rw at at e, rw at at d)
+      back (Ok (Some l)) at e d =
           let (k, f, st, i) = (value-exactly id l).0 at in
           inl (k, f, l, st, i, (rw at at e) ∙ found_part k f l st, rw at at d)
-      back (field-refused f) at e d = inr (λ l st. not-refused (sym at ∙ (value-exactly id l).1 st), rw at at e, rw at at d)
+      back (Err f) at e d = inr (λ l st. let there = (value-exactly id l).1 st in never cc, rw at at e, rw at at d)
 
 -- ---- where the parts lie
 -- of two fields of one list, one stands behind the other
@@ -378,7 +357,7 @@ module _ (s : List ℕ) (b : Bytes s) where
 
   -- A part lies in the body, behind the password.
   behind-start : (k : ℕ) (f : Field) (p : Span) → Stands s k f p → (m : Message) → Is s m → (x : Body) → m.body ≡ x
-      → ((password_in (body_at m) x).to < p.from) × (header_size m.long < p.from)
+      → ((q : Span) → password_in (body_at m) x ≡ Some q → q.to < p.from) × (header_size m.long < p.from)
   unfolding Stands body_fields list_bytes password_in
   behind-start k f p (m', before, behind, front, is', x, n, w, from, to) m is (bytes v) e =
       absurd (no_field before f behind (sym (ap body_fields (sym (ap (λ (y : Message). y.body) (same-message m m' is is')) ∙ e)) ∙ x))
@@ -397,11 +376,13 @@ module _ (s : List ℕ) (b : Bytes s) where
         length-append (list_bytes before) (field_bytes f ++ list_bytes behind),
         length-append (field_bytes f) (list_bytes behind),
       ) in
-      (password-to (header_size m.long) password fs p.from far, omega arith)
+      (λ q there. password-to (header_size m.long) password fs p.from far q there, omega arith)
     where
-      password-to : (at : ℕ) (w : List ℕ) (gs : List Field) (end : ℕ) → at + length w < end → (password_in at (listed w gs)).to < end
-      password-to at [] gs end h = omega arith
-      password-to at (d ∷ w) gs end h = omega arith
+      password-to : (at : ℕ) (w : List ℕ) (gs : List Field) (end : ℕ) → at + length w < end → (q : Span) → password_in at (listed w gs) ≡ Some q
+          → q.to < end
+      password-to at [] gs end h q e = never cc
+      password-to at (d ∷ w) gs end h q e =
+          let same : record { from = at; to = at + length (d ∷ w) } ≡ q = cc in omega (arith, ap (λ (x : Span). x.to) same)
 
   pub in_body : (m : Message) (id : ℕ) (p : Span) → Is s m → StandsBy s id p
       → (header_size m.long < p.from) × (p.from ≤ p.to) × (p.to ≤ length s)
@@ -413,7 +394,7 @@ module _ (s : List ℕ) (b : Bytes s) where
         omega (arith, ap length w, length-append front (field_value f ++ list_bytes behind), length-append (field_value f) (list_bytes behind), length-append front (field_value f)),
       )
 
-  pub behind-password : (id : ℕ) (p : Span) → StandsBy s id p → (password_span (read_of s)).to < p.from
+  pub behind-password : (id : ℕ) (p : Span) → StandsBy s id p → (q : Span) → password_span (read_of s) ≡ Some q → q.to < p.from
   unfolding StandsBy Stands password_span
   behind-password id p (k, f, st, i) =
       let is = st.4 in rw ((stands_read s b st.0).0 is) (behind-start k f p st st.0 is st.0.body refl).0

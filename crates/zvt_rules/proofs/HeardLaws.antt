@@ -7,20 +7,13 @@ use Prim.Native.Nat.{ℕ, zero, suc, ◌+◌, ◌-◌, ◌<◌}
 use native.Mathlib.Omega.{arith}
 use lib.ListN.{length, get_or, drop}
 use lib.Seq.{take-append_seam}
+use Rattle.std.proofs.Common.{Err, None, Ok, Option, Result, Some}
 use Rattle.basics.proofs.Tests.{never}
 use Rattle.zvt_rules.specs.declared.Refusal.{Refusal}
 use Rattle.zvt_rules.specs.declared.Span.{Span}
-use Rattle.zvt_rules.specs.declared.FieldAnswer.{FieldAnswer}
-use Rattle.zvt_rules.specs.declared.FieldAnswer.TheVariants.{Absent, Value, Refused as field-refused}
-use Rattle.zvt_rules.specs.declared.HeaderAnswer.{HeaderAnswer}
-use Rattle.zvt_rules.specs.declared.HeaderAnswer.TheVariants.{Header as header-got, Refused as header_refused}
-use Rattle.zvt_rules.specs.declared.ReadAnswer.TheVariants.{Refused}
-use Rattle.zvt_rules.specs.declared.ToldCode.TheVariants.{Code}
 use Rattle.zvt_rules.specs.declared.ToldBody.{ToldBody}
-use Rattle.zvt_rules.specs.declared.ToldAnswer.{ToldAnswer}
-use Rattle.zvt_rules.specs.declared.ToldAnswer.TheVariants.{Told, Refused as body_refused}
-use Rattle.zvt_rules.specs.declared.HearAnswer.{HearAnswer}
-use Rattle.zvt_rules.specs.declared.HearAnswer.TheVariants.{Heard, Refused as unheard}
+use Rattle.zvt_rules.specs.declared.Header.{Header}
+use Rattle.zvt_rules.specs.declared.Heard.{Heard}
 use Rattle.basics.specs.Lists.{part}
 use Rattle.zvt_rules.specs.Reading.{Reading, got, refused}
 use Rattle.zvt_rules.specs.Fields.{Field}
@@ -30,16 +23,16 @@ use Rattle.basics.specs.believed.Lists.{Bytes}
 use Rattle.zvt_rules.specs.believed.Values.{Is}
 use Rattle.zvt_rules.specs.Values.{status_in, status_fields, status_of}
 use Rattle.zvt_rules.specs.Answers.{header_in, as_header_answer, header_answer, as_read_answer, read_answer}
-use Rattle.zvt_rules.specs.Listed.{asked_of, field_answer, nowhere, span_of, spans_of, password_in, password_span, places_answer}
+use Rattle.zvt_rules.specs.Listed.{asked_of, field_answer, span_of, spans_of, password_in, password_span, places_answer}
 use Rattle.zvt_rules.specs.Heard.{first_byte, told_in, told_answer, as_hear_answer, hear_answer}
 use Rattle.zvt_rules.proofs.Readings.{got_same, got-not-refused}
 use Rattle.zvt_rules.specs.believed.Found.{StandsBy}
-use Rattle.zvt_rules.proofs.Found.{stands_read, value-exactly, behind-password}
+use Rattle.zvt_rules.proofs.Found.{stands_read, value-exactly}
 
 -- ---- what a desk asks: the header as it is answered alone
-unfoldable pub heard_by : ToldAnswer → HeaderAnswer → HearAnswer
-heard_by told (header-got h) = Heard (record { class = h.class; instruction = h.instruction; start = h.start; length = h.length; told = told })
-heard_by told (header_refused r) = unheard r
+unfoldable pub heard_by : Result ToldBody Refusal → Result Header Refusal → Result Heard Refusal
+heard_by told (Ok h) = Ok (record { class = h.class; instruction = h.instruction; start = h.start; length = h.length; told = told })
+heard_by told (Err r) = Err r
 
 pub header-heard : (s : List ℕ) → hear_answer s ≡ heard_by (told_answer (read_of s)) (header_answer s)
 unfolding hear_answer as_hear_answer heard_by header_answer as_header_answer header_in
@@ -50,36 +43,36 @@ header-heard s = go (whole_header s)
     go (refused f) = refl
 
 -- and of the body its refusal, its status, and the first byte of plain bytes
-pub body-refused-exactly : (s : List ℕ) (r : Refusal) → (told_answer (read_of s) ≡ body_refused r) ↔ (read_answer s ≡ Refused r)
+pub body-refused-exactly : (s : List ℕ) (r : Refusal) → (told_answer (read_of s) ≡ Err r) ↔ (read_answer s ≡ Err r)
 unfolding told_answer read_answer as_read_answer
 body-refused-exactly s r = go (read_of s)
   where
-    go : (x : Reading Message) → (told_answer x ≡ body_refused r) ↔ (as_read_answer x ≡ Refused r)
+    go : (x : Reading Message) → (told_answer x ≡ Err r) ↔ (as_read_answer x ≡ Err r)
     go (got m) = (λ e. never cc, λ e. never cc)
     go (refused f) = (λ e. cc, λ e. cc)
 
-told-by : (s : List ℕ) (t : ToldBody) → told_answer (read_of s) ≡ Told t → (m : Message) × (read_of s ≡ got m) × (told_in m ≡ t)
+told-by : (s : List ℕ) (t : ToldBody) → told_answer (read_of s) ≡ Ok t → (m : Message) × (read_of s ≡ got m) × (told_in m ≡ t)
 unfolding told_answer
 told-by s t e = go (read_of s) refl e
   where
-    go : (x : Reading Message) → read_of s ≡ x → told_answer x ≡ Told t → (m : Message) × (read_of s ≡ got m) × (told_in m ≡ t)
+    go : (x : Reading Message) → read_of s ≡ x → told_answer x ≡ Ok t → (m : Message) × (read_of s ≡ got m) × (told_in m ≡ t)
     go (got m) q h = (m, q, cc)
     go (refused f) q h = never cc
 
-begins : (x : Body) (c : ℕ) → first_byte x ≡ Code c → (w : List ℕ) × (x ≡ bytes (c ∷ w))
+begins : (x : Body) (c : ℕ) → first_byte x ≡ Some c → (w : List ℕ) × (x ≡ bytes (c ∷ w))
 unfolding first_byte
 begins (bytes []) c e = never cc
 begins (bytes (b ∷ w)) c e = (w, cc)
 begins (listed password fs) c e = never cc
 
-module _ (s : List ℕ) (t : ToldBody) (e : told_answer (read_of s) ≡ Told t) where
+module _ (s : List ℕ) (t : ToldBody) (e : told_answer (read_of s) ≡ Ok t) where
   pub status-heard : t.status ≡ status_of s
   unfolding told_in status_of
   status-heard =
       let (m, q, k) = told-by s t e in
       sym (ap (λ (x : ToldBody). x.status) k) ∙ ap (λ (x : Reading Message). status_in (status_fields x)) (sym q)
 
-  pub first-heard : Bytes s → (c : ℕ) → (t.first ≡ Code c) ↔ ((m : Message) × (w : List ℕ) × Is s m × (m.body ≡ bytes (c ∷ w)))
+  pub first-heard : Bytes s → (c : ℕ) → (t.first ≡ Some c) ↔ ((m : Message) × (w : List ℕ) × Is s m × (m.body ≡ bytes (c ∷ w)))
   unfolding told_in first_byte told_answer
   first-heard b c = (
     λ h.
@@ -92,48 +85,47 @@ module _ (s : List ℕ) (t : ToldBody) (e : told_answer (read_of s) ≡ Told t) 
   )
 
 -- ---- what a tape asks: each place is that of the field with its id, and the password lies at its own
-named-spans : (r : Reading Message) (ids : List ℕ) (j : ℕ) → j < length ids → get_or (spans_of r ids) j nowhere ≡ span_of (asked_of (get_or ids j 0) r)
+named-spans : (r : Reading Message) (ids : List ℕ) (j : ℕ) → j < length ids → get_or (spans_of r ids) j None ≡ span_of (asked_of (get_or ids j 0) r)
 unfolding spans_of
 named-spans r [] j h = absurd (omega arith)
 named-spans r (id ∷ ids) zero h = refl
 named-spans r (id ∷ ids) (suc j) h = named-spans r ids j (omega arith)
 
-pub place-named : (ids s : List ℕ) (j : ℕ) → j < length ids → get_or (places_answer ids s).fields j nowhere ≡ span_of (field_answer (get_or ids j 0) s)
+pub place-named : (ids s : List ℕ) (j : ℕ) → j < length ids → get_or (places_answer ids s).fields j None ≡ span_of (field_answer (get_or ids j 0) s)
 unfolding places_answer field_answer
 place-named ids s = named-spans (read_of s) ids
 
--- no field's value ends at 0: nowhere is where there is no such field
-pub nowhere-exactly : (id : ℕ) (s : List ℕ) → Bytes s
-    → (span_of (field_answer id s) ≡ record { from = 0; to = 0 }) ↔ ((p : Span) → StandsBy s id p → ⊥)
+-- a field has no place exactly where there is no such field
+pub nowhere-exactly : (id : ℕ) (s : List ℕ) → Bytes s → (span_of (field_answer id s) ≡ None) ↔ ((p : Span) → StandsBy s id p → ⊥)
 unfolding span_of
-nowhere-exactly id s b = (λ e p st. some p st (ap span_of (sym ((value-exactly s b id p).1 st)) ∙ e), λ n. go (field_answer id s) refl n)
+nowhere-exactly id s b = (
+  λ e p st. let there = ap span_of ((value-exactly s b id p).1 st) in never cc,
+  λ n. go (field_answer id s) refl n,
+)
   where
-    some : (p : Span) → StandsBy s id p → p ≡ record { from = 0; to = 0 } → ⊥
-    some p st e = omega (arith, behind-password s b id p st, ap (λ (q : Span). q.from) e)
-
-    go : (x : FieldAnswer) → field_answer id s ≡ x → ((p : Span) → StandsBy s id p → ⊥) → span_of (field_answer id s) ≡ record { from = 0; to = 0 }
-    go Absent e n = ap span_of e
-    go (Value p) e n = absurd (n p ((value-exactly s b id p).0 e))
-    go (field-refused r) e n = ap span_of e
+    go : (x : Result (Option Span) Refusal) → field_answer id s ≡ x → ((p : Span) → StandsBy s id p → ⊥) → span_of (field_answer id s) ≡ None
+    go (Ok None) e n = ap span_of e
+    go (Ok (Some p)) e n = absurd (n p ((value-exactly s b id p).0 e))
+    go (Err r) e n = ap span_of e
 
 password-none : (at : ℕ) (x : Body)
-    → (password_in at x ≡ record { from = 0; to = 0 }) ↔ ((password : List ℕ) (fs : List Field) → x ≡ listed password fs → password ≡ [])
+    → (password_in at x ≡ None) ↔ ((password : List ℕ) (fs : List Field) → x ≡ listed password fs → password ≡ [])
 unfolding password_in
 password-none at (bytes s) = (λ e w fs q. never cc, λ h. refl)
 password-none at (listed [] fs) = (λ e w gs q. cc, λ h. refl)
 password-none at (listed (b ∷ w) fs) = (
-  λ e. absurd (omega (arith, ap (λ (p : Span). p.to) e)),
+  λ e. never cc,
   λ h. absurd (let q = h (b ∷ w) fs refl in never cc),
 )
 
 pub no-password-exactly : (ids s : List ℕ) → Bytes s
-    → ((places_answer ids s).password ≡ record { from = 0; to = 0 })
+    → ((places_answer ids s).password ≡ None)
     ↔ ((m : Message) (password : List ℕ) (fs : List Field) → Is s m → m.body ≡ listed password fs → password ≡ [])
 unfolding places_answer password_span
 no-password-exactly ids s b = go (read_of s) refl
   where
     go : (x : Reading Message) → read_of s ≡ x
-        → (password_span x ≡ record { from = 0; to = 0 })
+        → (password_span x ≡ None)
         ↔ ((m : Message) (password : List ℕ) (fs : List Field) → Is s m → m.body ≡ listed password fs → password ≡ [])
     go (got m) e = (
       λ q n w fs is f.
@@ -148,25 +140,22 @@ unfolding length_bytes
 behind false c i v w = refl
 behind true c i v w = refl
 
-front : (at : ℕ) (password rest s : List ℕ) (fs : List Field) → drop at s ≡ password ++ rest
-    → let p = password_in at (listed password fs) in part p.from p.to s ≡ password
-unfolding password_in
-front at [] rest s fs e = refl
-front at (b ∷ password) rest s fs e =
-    let size : at + length (b ∷ password) - at ≡ length (b ∷ password) = omega arith in
-    rw (size, e) (take-append_seam (b ∷ password) rest)
+part-there : (at : ℕ) (password rest s : List ℕ) → drop at s ≡ password ++ rest → part at (at + length password) s ≡ password
+part-there at password rest s e =
+    let size : at + length password - at ≡ length password = omega arith in
+    rw (size, e) (take-append_seam password rest)
 
-pub password-part : (ids s : List ℕ) (m : Message) (password : List ℕ) (fs : List Field) → Bytes s → Is s m → m.body ≡ listed password fs
-    → let p = (places_answer ids s).password in part p.from p.to s ≡ password
-unfolding places_answer password_span message_bytes body_bytes
-password-part ids s m password fs b is q =
+-- a password lies at the start of the body
+pub password-place : (ids s : List ℕ) (m : Message) (password : List ℕ) (fs : List Field) → Bytes s → Is s m → m.body ≡ listed password fs
+    → (password ≡ [] → ⊥)
+    → (p : Span) × ((places_answer ids s).password ≡ Some p) × (part p.from p.to s ≡ password) × (p.from ≡ header_size m.long)
+unfolding places_answer password_span password_in message_bytes body_bytes
+password-place ids s m [] fs b is q n = absurd (n refl)
+password-place ids s m (d ∷ password) fs b is q n =
     let at = header_size m.long in
-    let w : drop at s ≡ password ++ list_bytes fs = rw (← is.0, q) (behind m.long m.class m.instruction _ (password ++ list_bytes fs)) in
-    rw ((stands_read s b m).0 is, q) (front at password (list_bytes fs) s fs w)
-
--- at the start of the body
-pub password-from : (ids s : List ℕ) (m : Message) (password : List ℕ) (fs : List Field) → Bytes s → Is s m → m.body ≡ listed password fs
-    → (password ≡ [] → ⊥) → (places_answer ids s).password.from ≡ header_size m.long
-unfolding places_answer password_span password_in
-password-from ids s m [] fs b is q n = absurd (n refl)
-password-from ids s m (d ∷ password) fs b is q n = rw ((stands_read s b m).0 is, q)
+    let w : drop at s ≡ (d ∷ password) ++ list_bytes fs = rw (← is.0, q) (behind m.long m.class m.instruction _ ((d ∷ password) ++ list_bytes fs)) in (
+      record { from = at; to = at + length (d ∷ password) },
+      rw ((stands_read s b m).0 is, q),
+      part-there at (d ∷ password) (list_bytes fs) s w,
+      refl,
+    )

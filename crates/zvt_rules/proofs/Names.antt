@@ -9,9 +9,9 @@ use lib.ListN.{length, get_or}
 use lib.Seq.{take-append_seam, drop-append_seam}
 use lib.Dec.{eqb}
 use borrow.Author.Tests.{eqb-true, eqb-false, ne_eqb}
+use Rattle.std.proofs.Common.{Err, None, Ok, Option, Result, Some}
 use Rattle.zvt_rules.specs.declared.Span.{Span}
-use Rattle.zvt_rules.specs.declared.FieldAnswer.{FieldAnswer}
-use Rattle.zvt_rules.specs.declared.FieldAnswer.TheVariants.{Absent, Value, Refused as field-refused}
+use Rattle.zvt_rules.specs.declared.Refusal.{Refusal}
 use Rattle.basics.specs.Lists.{part}
 use Rattle.zvt_rules.specs.Reading.{Reading, got, refused}
 use Rattle.zvt_rules.specs.Fields.{Field, field_id}
@@ -101,12 +101,12 @@ module _ (s : List ℕ) (b : Bytes s) where
         rw (w, ← begins) (name-stands front (field_value f) (list_bytes behind) name up),
       )
 
-  holds-found : (m : Message) (a e : ℕ) → read_of s ≡ got m → is_status m ≡ true → (x : FieldAnswer) → asked_of 0x8B (got m) ≡ x
+  holds-found : (m : Message) (a e : ℕ) → read_of s ≡ got m → is_status m ≡ true → (x : Result (Option Span) Refusal) → asked_of 0x8B (got m) ≡ x
       → name_in s x ≡ between a e → (name : List ℕ) × Holds s name a × (a + length name ≡ e)
   unfolding name_in Holds StandsBy message_bytes field_answer
-  holds-found m a e r t Absent q h = absurd (not_own h)
-  holds-found m a e r t (field-refused f) q h = absurd (not_own h)
-  holds-found m a e r t (Value l) q h =
+  holds-found m a e r t (Ok None) q h = absurd (not_own h)
+  holds-found m a e r t (Err f) q h = absurd (not_own h)
+  holds-found m a e r t (Ok (Some l)) q h =
       let (k, f, st, i) = (value-exactly s b 0x8B l).0 (rw r q) in
       let name = up_to_zero (field_value f) in
       let (some, from, to) = sized-at l.from (length name) a e (rw (found_part s b k f l st) at h) in

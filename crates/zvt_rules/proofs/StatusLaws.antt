@@ -9,11 +9,9 @@ use native.Mathlib.Omega.{arith}
 use lib.ListN.{length, get_or}
 use lib.Dec.{eqb}
 use borrow.Author.Tests.{eqb-true, eqb-false, eq-eqb, ne_eqb}
+use Rattle.std.proofs.Common.{Some}
 use Rattle.zvt_rules.specs.declared.Format.{Format}
 use Rattle.zvt_rules.specs.declared.Format.TheVariants.{Unknown, Fixed, Digits, Container}
-use Rattle.zvt_rules.specs.declared.ToldCode.TheVariants.{Code}
-use Rattle.zvt_rules.specs.declared.ToldAmount.TheVariants.{Amount}
-use Rattle.zvt_rules.specs.declared.ToldReceipt.TheVariants.{Receipt}
 use Rattle.basics.specs.Lists.{among}
 use Rattle.zvt_rules.specs.Reading.{Reading, got, refused}
 use Rattle.zvt_rules.specs.Fields.{format_of, holds_digits, Field, plain, container, field_id}
@@ -195,12 +193,12 @@ one_byte (b ∷ (c ∷ s)) e = absurd (omega arith)
 Numbered : Found → ℕ → Type 0
 Numbered x n = (value : List ℕ) × (x ≡ found value) × (number_of value ≡ n)
 
-amount-from : (x : Found) (n : ℕ) → (amount_of x ≡ Amount n) ↔ Numbered x n
+amount-from : (x : Found) (n : ℕ) → (amount_of x ≡ Some n) ↔ Numbered x n
 unfolding amount_of Numbered
 amount-from missing n = (λ e. never cc, λ k. not_found k.1)
 amount-from (found value) n = (λ e. (value, refl, cc), λ k. let e = k.1 in let f = k.2 in cc)
 
-receipt-from : (x : Found) (n : ℕ) → (receipt_of x ≡ Receipt n) ↔ Numbered x n
+receipt-from : (x : Found) (n : ℕ) → (receipt_of x ≡ Some n) ↔ Numbered x n
 unfolding receipt_of Numbered
 receipt-from missing n = (λ e. never cc, λ k. not_found k.1)
 receipt-from (found value) n = (λ e. (value, refl, cc), λ k. let e = k.1 in let f = k.2 in cc)
@@ -216,21 +214,21 @@ module _ (s : List ℕ) (b : Bytes s) where
     λ k. (k.0, (in-status s id k.0 b h).1 k.1, ((spells-exactly k.0 n).0 k.2).1),
   )
 
-  pub code-exactly : (c : ℕ) → ((status_of s).code ≡ Code c) ↔ Tells s 0x27 (c ∷ [])
+  pub code-exactly : (c : ℕ) → ((status_of s).code ≡ Some c) ↔ Tells s 0x27 (c ∷ [])
   unfolding status_of status_in code_in code_of FieldOk SizeOk format_of among
   code-exactly c = (to (value_in 0x27 (status_fields (read_of s))) refl, λ k. rw ((in-status s 0x27 (c ∷ []) b (λ e. omega arith)).1 k))
     where
-      to : (x : Found) → value_in 0x27 (status_fields (read_of s)) ≡ x → code_of x ≡ Code c → Tells s 0x27 (c ∷ [])
+      to : (x : Found) → value_in 0x27 (status_fields (read_of s)) ≡ x → code_of x ≡ Some c → Tells s 0x27 (c ∷ [])
       to missing e h = never cc
       to (found value) e h =
           let k = (in-status s 0x27 value b (λ e. omega arith)).0 e in
           let first : get_or value 0 0 ≡ c = cc in
           rw (one_byte value (told-ok s 0x27 value k).0, first) at k
 
-  pub amount-exactly : (n : ℕ) → ((status_of s).amount ≡ Amount n) ↔ TellsNumber s 0x04 n
+  pub amount-exactly : (n : ℕ) → ((status_of s).amount ≡ Some n) ↔ TellsNumber s 0x04 n
   unfolding status_of status_in amount_in among
   amount-exactly n = Iff.trans (amount-from _ n) (digits-told 0x04 n (λ e. omega arith) refl)
 
-  pub receipt-exactly : (n : ℕ) → ((status_of s).receipt ≡ Receipt n) ↔ TellsNumber s 0x87 n
+  pub receipt-exactly : (n : ℕ) → ((status_of s).receipt ≡ Some n) ↔ TellsNumber s 0x87 n
   unfolding status_of status_in receipt_in among
   receipt-exactly n = Iff.trans (receipt-from _ n) (digits-told 0x87 n (λ e. omega arith) refl)

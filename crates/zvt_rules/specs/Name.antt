@@ -1,13 +1,13 @@
 -- The card name for a receipt. Definitions only.
-use Rattle.std.specs.Prelude.{ℕ, ◌+◌, List, [], ◌∷◌, length, eqb}
+use Rattle.std.specs.Prelude.{ℕ, ◌+◌, List, [], ◌∷◌, length, eqb, Err, None, Ok, Option, Result, Some}
 use Rattle.basics.specs.Choice.{pick}
 use Rattle.basics.specs.Lists.{part}
 use Rattle.zvt_rules.specs.Reading.{Reading, got, refused}
 use Rattle.zvt_rules.specs.Message.{Message, read_of}
-use Rattle.zvt_rules.specs.declared.FieldAnswer.{FieldAnswer}
-use Rattle.zvt_rules.specs.declared.FieldAnswer.TheVariants.{Absent, Value, Refused}
 use Rattle.zvt_rules.specs.Values.{is_status}
 use Rattle.zvt_rules.specs.Listed.{asked_of}
+use Rattle.zvt_rules.specs.declared.Span.{Span}
+use Rattle.zvt_rules.specs.declared.Refusal.{Refusal}
 
 -- M13: "up to its first zero byte, or all of it where there is none"
 unfoldable pub up_to_zero : List ℕ → List ℕ
@@ -23,10 +23,10 @@ pub data NameAt : Type 0 where
 unfoldable pub sized_name : ℕ → ℕ → NameAt
 sized_name a k = pick (eqb k 0) own (between a (a + k))
 
-unfoldable pub name_in : List ℕ → FieldAnswer → NameAt
-name_in s Absent = own
-name_in s (Value p) = sized_name p.from (length (up_to_zero (part p.from p.to s)))
-name_in s (Refused r) = own
+unfoldable pub name_in : List ℕ → Result (Option Span) Refusal → NameAt
+name_in s (Ok None) = own
+name_in s (Ok (Some p)) = sized_name p.from (length (up_to_zero (part p.from p.to s)))
+name_in s (Err r) = own
 
 -- M14: "Where the bytes are no accepted 04 0F message". M13: "the value of field 8B of a status information"
 unfoldable pub name_of : List ℕ → Reading Message → NameAt

@@ -1,8 +1,7 @@
 -- What a reading gives: the thing read, or why it is refused. Definitions only.
-use Rattle.std.specs.Prelude.{ℕ, Bool, true, false, List}
+use Rattle.std.specs.Prelude.{ℕ, Bool, true, false, List, None, Some}
 use Rattle.basics.specs.Buffers.{front}
 use Rattle.zvt_rules.specs.declared.Refusal.{Refusal}
-use Rattle.zvt_rules.specs.declared.Place.TheVariants.{Nowhere, At}
 
 pub data Reading (A : Type 0) : Type 0 where
   got : A → Reading A
@@ -10,11 +9,11 @@ pub data Reading (A : Type 0) : Type 0 where
 
 -- R46: "Every refusal of a body names a place, counted from 0 at the message's start": a number, and that place
 abbrev pub fault_at : ℕ → ℕ → Refusal
-fault_at number at = record { number = number; place = At at }
+fault_at number at = record { number = number; place = Some at }
 
 -- R46: "No other refusal names one"
 abbrev pub unplaced : ℕ → Refusal
-unplaced number = record { number = number; place = Nowhere }
+unplaced number = record { number = number; place = None }
 
 -- refused where the test holds, else as what follows says
 unfoldable pub unless : {A : Type 0} → Bool → Refusal → Reading A → Reading A

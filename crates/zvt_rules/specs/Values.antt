@@ -1,15 +1,9 @@
 -- What the desk needs of a status information. Definitions only.
-use Rattle.std.specs.Prelude.{ℕ, Bool, ◌&&◌, List, [], ◌∷◌, get_or, eqb}
+use Rattle.std.specs.Prelude.{ℕ, Bool, ◌&&◌, List, [], ◌∷◌, get_or, eqb, None, Option, Some}
 use Rattle.basics.specs.Choice.{pick}
 use Rattle.zvt_rules.specs.Reading.{Reading, got, refused}
 use Rattle.zvt_rules.specs.Fields.{Field, field_id}
 use Rattle.zvt_rules.specs.Message.{Body, bytes, listed, Message, read_of}
-use Rattle.zvt_rules.specs.declared.ToldCode.{ToldCode}
-use Rattle.zvt_rules.specs.declared.ToldCode.TheVariants.{Missing as no_code, Code}
-use Rattle.zvt_rules.specs.declared.ToldAmount.{ToldAmount}
-use Rattle.zvt_rules.specs.declared.ToldAmount.TheVariants.{Missing as no-amount, Amount}
-use Rattle.zvt_rules.specs.declared.ToldReceipt.{ToldReceipt}
-use Rattle.zvt_rules.specs.declared.ToldReceipt.TheVariants.{Missing as no-receipt, Receipt}
 use Rattle.zvt_rules.specs.declared.Status.{Status}
 use Rattle.zvt_rules.specs.Digits.{number_of}
 use Rattle.zvt_rules.specs.believed.Writing.{field_value}
@@ -27,26 +21,26 @@ unfoldable pub value_in : ℕ → List Field → Found
 value_in id [] = missing
 value_in id (f ∷ fs) = pick (eqb (field_id f) id) (found (field_value f)) (value_in id fs)
 
-unfoldable pub code_of : Found → ToldCode
-code_of missing = no_code
-code_of (found value) = Code (get_or value 0 0)
+unfoldable pub code_of : Found → Option ℕ
+code_of missing = None
+code_of (found value) = Some (get_or value 0 0)
 
-unfoldable pub amount_of : Found → ToldAmount
-amount_of missing = no-amount
-amount_of (found value) = Amount (number_of value)
+unfoldable pub amount_of : Found → Option ℕ
+amount_of missing = None
+amount_of (found value) = Some (number_of value)
 
-unfoldable pub receipt_of : Found → ToldReceipt
-receipt_of missing = no-receipt
-receipt_of (found value) = Receipt (number_of value)
+unfoldable pub receipt_of : Found → Option ℕ
+receipt_of missing = None
+receipt_of (found value) = Some (number_of value)
 
 -- P20: "code (27), amount (04) and receipt (87)"
-unfoldable pub code_in : List Field → ToldCode
+unfoldable pub code_in : List Field → Option ℕ
 code_in fs = code_of (value_in 0x27 fs)
 
-unfoldable pub amount_in : List Field → ToldAmount
+unfoldable pub amount_in : List Field → Option ℕ
 amount_in fs = amount_of (value_in 0x04 fs)
 
-unfoldable pub receipt_in : List Field → ToldReceipt
+unfoldable pub receipt_in : List Field → Option ℕ
 receipt_in fs = receipt_of (value_in 0x87 fs)
 
 unfoldable pub status_in : List Field → Status

@@ -6,18 +6,12 @@
 ghost use Rattle.std.specs.Prelude.{◌≡◌};
 ghost use Rattle.zvt_rules.specs.Reading.{unplaced};
 
-// A place in a message, counted from 0 at its start, or none: place 0 is a place.
-#[derive(Clone, Copy)]
-pub enum Place {
-    Nowhere,
-    At(usize),
-}
-
-// R31: "A refusal answers its number and, where it names one (R46), its place, and nothing else."
-#[derive(Clone, Copy)]
+// R31: "A refusal answers its number and, where it names one (R46), its place, and nothing else." A place in a message is counted from 0
+// at its start. The number is a number: the second writing says it so, and spent fuel has one that no refusal has (`never-spent`).
+#[derive(Clone, Copy, PartialEq, Eq)]
 pub struct Refusal {
     pub number: u8,
-    pub place: Place,
+    pub place: Option<usize>,
 }
 
 impl Refusal {
@@ -96,7 +90,7 @@ impl Refusal {
     {
         Refusal {
             number,
-            place: Place::Nowhere,
+            place: None,
         }
     }
 }
@@ -120,28 +114,10 @@ pub enum Layout {
 
 // What a status information tells. P20: "code (27), amount (04) and receipt (87)"
 #[derive(Clone, Copy)]
-pub enum ToldCode {
-    Missing,
-    Code(u8),
-}
-
-#[derive(Clone, Copy)]
-pub enum ToldAmount {
-    Missing,
-    Amount(u64),
-}
-
-#[derive(Clone, Copy)]
-pub enum ToldReceipt {
-    Missing,
-    Receipt(u16),
-}
-
-#[derive(Clone, Copy)]
 pub struct Status {
-    pub code: ToldCode,
-    pub amount: ToldAmount,
-    pub receipt: ToldReceipt,
+    pub code: Option<u8>,
+    pub amount: Option<u64>,
+    pub receipt: Option<u16>,
 }
 
 // The pair of class and instruction, where the body starts and how long it is.
@@ -175,37 +151,11 @@ impl Outline {
     pub const LEVELS: u8 = 4;
 }
 
-#[derive(Clone, Copy)]
-pub enum HeaderAnswer {
-    Header(Header),
-    Refused(Refusal),
-}
-
-#[derive(Clone, Copy)]
-pub enum ReadAnswer {
-    Accepted(Outline),
-    Refused(Refusal),
-}
-
-// The first message, and where the next begins.
-#[derive(Clone, Copy)]
-pub enum FirstAnswer {
-    Accepted(Outline, usize),
-    Refused(Refusal),
-}
-
-// The same with the number of its fields, whose ids were written down.
+// The message that bytes begin with and where the next begins, or its refusal; and the number of its fields, whose ids were written down.
 #[derive(Clone, Copy)]
 pub struct FirstRead {
-    pub answer: FirstAnswer,
+    pub answer: Result<(Outline, usize), Refusal>,
     pub count: usize,
-}
-
-// How many bytes were written.
-#[derive(Clone, Copy)]
-pub enum ShortenAnswer {
-    Written(usize),
-    Refused(Refusal),
 }
 
 // Where a value lies in a message, from and to.
@@ -223,46 +173,26 @@ pub struct Listed {
     pub to: usize,
 }
 
-// What a message answers that is asked for a field: where its value lies (F6), that its list has no such field (F9), or its refusal (F10).
-#[derive(Clone, Copy)]
-pub enum FieldAnswer {
-    Absent,
-    Value(Span),
-    Refused(Refusal),
-}
-
-// Where a message's password lies, and the values of the fields with four ids; what is not there lies from 0 to 0.
+// Where a message's password lies, if it has one, and the values of the fields with four ids, if they are there.
 #[derive(Clone, Copy)]
 pub struct Places {
-    pub password: Span,
-    pub fields: [Span; 4],
+    pub password: Option<Span>,
+    pub fields: [Option<Span>; 4],
 }
 
 // What a message tells a desk: the first byte of a plain body, and what a status information tells.
 #[derive(Clone, Copy)]
 pub struct ToldBody {
-    pub first: ToldCode,
+    pub first: Option<u8>,
     pub status: Status,
 }
 
-#[derive(Clone, Copy)]
-pub enum ToldAnswer {
-    Told(ToldBody),
-    Refused(Refusal),
-}
-
-// A header, and what the body behind it tells.
+// A header, and what the body behind it tells, or its refusal.
 #[derive(Clone, Copy)]
 pub struct Heard {
     pub class: u8,
     pub instruction: u8,
     pub start: usize,
     pub length: usize,
-    pub told: ToldAnswer,
-}
-
-#[derive(Clone, Copy)]
-pub enum HearAnswer {
-    Heard(Heard),
-    Refused(Refusal),
+    pub told: Result<ToldBody, Refusal>,
 }

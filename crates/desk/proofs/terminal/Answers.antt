@@ -1,25 +1,25 @@
 -- `desk::terminal` meets its contract. Assumes nothing.
+use native.Mathlib.Omega.{arith}
 use mathlib.Core.Path.{◌≡◌, refl, sym, ap, ◌∙◌}
 use Prim.Native.Nat.{◌≤◌}
 use lib.ListN.{length}
+use Rattle.std.proofs.Common.{Ok}
 use Rattle.zvt_rules.specs.Reading.{unplaced}
-use Rattle.desk_rules.specs.declared.Reply.TheVariants.{Written}
 use Rattle.desk_rules.specs.Course.{answered, heard, message, lane_of, needs_line, NumbersFit, moves, writes}
 use Rattle.desk_rules.specs.Desk.{lane_at, accept, decide}
 use Rattle.desk_rules.specs.Memory.{view, moved_desk, refused_answer}
 use Rattle.desk_rules.proofs.Calls.{Passes}
 use Rattle.desk_rules.proofs.Memory.{taken-line}
-use Rattle.desk.proofs.DeskLaws.{replied-is}
-use Rattle.desk.proofs.CallLaws.{passes-other, no_lane, not-moved, no_room, goes_on, refused_as, taken_as, written}
+use Rattle.desk.proofs.CallLaws.{passes-ok, copied-front, no_lane, not-moved, no_room, goes_on, refused_as, taken_as, written}
 use Rattle.zvt.proofs.Slices.{bytes-known}
 use Rattle.desk.proofs.terminal.Goals as goal
-use Rattle.desk.proofs.terminal.Goals.{In_default}
+use Rattle.desk.proofs.terminal.Goals.{In-Ok}
 
-passes : (c : In_default) → Passes (heard (lane_at c.args.desk.lanes c.args.lane) c.args.s.now)
-passes c = rw c.heard-m.ensures at (passes-other c.heard-m.result c.in_default.not-Refused)
+passes : (c : In-Ok) → Passes (heard (lane_at c.args.desk.lanes c.args.lane) c.args.s.now)
+passes c = rw (sym c.in-Ok.ensures) (passes-ok c.in-Ok.m)
 
 -- with room for the reply the message is accepted
-accepts : (c : In_default) → let a = c.args in length (answered (lane_at a.desk.lanes a.lane).phase) ≤ length a.out.now
+accepts : (c : In-Ok) → let a = c.args in length (answered (lane_at a.desk.lanes a.lane).phase) ≤ length a.out.now
     → decide (view a.desk) (message a.lane a.s.now) (length a.out.now) ≡ accept
 unfolding lane_of needs_line moves writes
 accepts c fits = goes_on c.args.desk (message c.args.lane c.args.s.now) _ c.if-lane-ge-COUNT.false (passes c) refl fits
@@ -32,39 +32,42 @@ returns-then-lane-ge-COUNT c =
     let r = refused_as a.desk c.requires call (bytes-known _ c.type_inv.s) a.out.now _ (unplaced 12) (no_lane a.desk call _ c.if-lane-ge-COUNT.true) c.refused.ensures in
     record { answer = r.0; lent = r.1.0; valid = r.1.1 }
 
-pub returns-in-Refused : goal.returns-in-Refused
+pub returns-in-Err : goal.returns-in-Err
 unfolding lane_of moves NumbersFit refused_answer
-returns-in-Refused c =
+returns-in-Err c =
     let a = c.args in
     let call = message a.lane a.s.now in
-    let e = not-moved a.desk call _ c.if-lane-ge-COUNT.false _ (sym c.heard-m.ensures ∙ c.in-Refused.is) in
+    let e = not-moved a.desk call _ c.if-lane-ge-COUNT.false _ (sym c.in-Err.ensures) in
     let r = refused_as a.desk c.requires call (bytes-known _ c.type_inv.s) a.out.now _ _ e refl in
     record { answer = r.0; lent = r.1.0; valid = r.1.1 }
 
-pub returns-then-out-size : goal.returns-then-out-size
+pub returns-then-out-reply : goal.returns-then-out-reply
 unfolding lane_of needs_line moves writes NumbersFit
-returns-then-out-size c =
+returns-then-out-reply c =
     let a = c.args in
     let call = message a.lane a.s.now in
-    let p = passes (goal.at.returns-then-out-size c).In_default in
-    let e = no_room a.desk call _ c.if-lane-ge-COUNT.false p refl (rw c.reply_size-size.ensures at c.if-out-size.true) in
-    let r = refused_as a.desk c.requires call (bytes-known _ c.type_inv.s) a.out.now _ (unplaced 11) e c.refused-then-out-size.ensures in
+    let p = passes (goal.at.returns-then-out-reply c).In-Ok in
+    let e = no_room a.desk call _ c.if-lane-ge-COUNT.false p refl (rw (ap length c.reply-reply.ensures) at c.if-out-reply.true) in
+    let r = refused_as a.desk c.requires call (bytes-known _ c.type_inv.s) a.out.now _ (unplaced 11) e c.refused-then-out-reply.ensures in
     record { answer = r.0; lent = r.1.0; valid = r.1.1 }
 
-pub moved-d-requires : goal.moved-d-requires
+pub moved-requires : goal.moved-requires
 unfolding lane_of moves
-moved-d-requires c =
+moved-requires c =
     let a = c.args in
     let v = c.requires in
-    let t = taken-line a.desk (message a.lane a.s.now) _ v (accepts (goal.at.moved-d-requires c).In_default (rw c.reply_size-size.ensures at c.if-out-size.false)) in
-    (record { lane = c.if-lane-ge-COUNT.false; lanes = v.lanes; lines = v.lines }, rw c.heard-m.ensures t)
+    let t = taken-line a.desk (message a.lane a.s.now) _ v (accepts (goal.at.moved-requires c).In-Ok (rw (ap length c.reply-reply.ensures) at c.if-out-reply.false)) in
+    (record { lane = c.if-lane-ge-COUNT.false; lanes = v.lanes; lines = v.lines }, rw c.in-Ok.ensures t)
 
 pub returns : goal.returns
 unfolding lane_of moves writes NumbersFit
 returns c =
     let a = c.args in
-    let r = taken_as a.desk c.requires (message a.lane a.s.now) (bytes-known _ c.type_inv.s) a.out.now (record { reply = Written c.reply_size-size.result; desk = c.moved-d.result }) _
-    (accepts (goal.at.returns c).In_default (rw c.reply_size-size.ensures at c.if-out-size.false))
-    (written c.reply_size-size.ensures (c.moved-d.ensures ∙ ap (moved_desk a.desk a.lane) c.heard-m.ensures))
-    (c.put_reply.ensures ∙ rw c.reply_size-size.ensures (replied-is _ a.out.now)) in
+    let k = c.copy-size.ensures in
+    let fits = rw (ap length c.reply-reply.ensures) at c.if-out-reply.false in
+    let size : c.copy-size.result ≡ length c.reply-reply.result.now = omega arith in
+    let r = taken_as a.desk c.requires (message a.lane a.s.now) (bytes-known _ c.type_inv.s) a.out.now (record { reply = Ok c.copy-size.result; desk = c.moved.result }) _
+    (accepts (goal.at.returns c).In-Ok fits)
+    (written (size ∙ ap length c.reply-reply.ensures) (c.moved.ensures ∙ ap (moved_desk a.desk a.lane) c.in-Ok.ensures))
+    (copied-front _ _ _ _ _ c.reply-reply.ensures fits k.size k.bytes) in
     record { answer = r.0; lent = r.1.0; valid = r.1.1 }

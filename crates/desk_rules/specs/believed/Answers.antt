@@ -1,5 +1,5 @@
 -- What a call of the desk writes and leaves, and what closing and the questions to a desk answer. Definitions only.
-use Rattle.std.specs.Prelude.{◌≡◌, ◌⊎◌, List, [], ◌∷◌, ◌++◌, ℕ, ◌≤◌, ◌<◌, length, drop, replicate}
+use Rattle.std.specs.Prelude.{◌≡◌, ◌⊎◌, List, [], ◌∷◌, ◌++◌, ℕ, ◌≤◌, ◌<◌, length, drop, replicate, Err, None, Ok, Option, Result, Some}
 use Rattle.zvt_rules.specs.declared.Refusal.{Refusal}
 use Rattle.zvt_rules.specs.declared.Status.{Status}
 use Rattle.zvt_rules.specs.Reading.{got, unplaced}
@@ -15,11 +15,6 @@ use Rattle.desk_rules.specs.declared.Line.{Line}
 use Rattle.desk_rules.specs.declared.Opening.{Opening}
 use Rattle.desk_rules.specs.declared.Desk.{Desk}
 use Rattle.desk_rules.specs.declared.Answer.{Answer}
-use Rattle.desk_rules.specs.declared.Reply.TheVariants.{Written, Refused}
-use Rattle.desk_rules.specs.declared.LineAnswer.{LineAnswer}
-use Rattle.desk_rules.specs.declared.LineAnswer.TheVariants.{End, Line as line-got}
-use Rattle.desk_rules.specs.declared.LaneAnswer.{LaneAnswer}
-use Rattle.desk_rules.specs.declared.LaneAnswer.TheVariants.{Refused as lane-refused, Lane as lane-got}
 use Rattle.desk_rules.specs.Course.{Call, opening, message, lost}
 use Rattle.desk_rules.specs.Desk.{State, refuse, accept}
 use Rattle.desk_rules.specs.Memory.{view}
@@ -80,13 +75,13 @@ pub record Leaves (s : State) (c : Call) (t : State) : Type 0 where
 -- R31: "A refusal answers its number and, where it names one (R46), its place, and nothing else." R32: "A refusal leaves the desk and all
 -- lent buffers as they were."
 abbrev pub refusing : Desk → Refusal → Answer
-refusing d r = record { reply = Refused r; desk = d }
+refusing d r = record { reply = Err r; desk = d }
 
 -- R33: "Success leaves the bytes of a lent buffer behind those written as they were."
 pub data Answers (d : Desk) (c : Call) (out : List ℕ) : Answer → List ℕ → Type 0 where
   refusal : {r : Refusal} → Row (view d) c (length out) (refuse r) → Answers d c out (refusing d r) out
   success : {w : List ℕ} {e : Desk} → Row (view d) c (length out) accept → Writes (view d) c w → Leaves (view d) c (view e)
-      → Answers d c out (record { reply = Written (length w); desk = e }) (w ++ drop (length w) out)
+      → Answers d c out (record { reply = Ok (length w); desk = e }) (w ++ drop (length w) out)
 
 -- ---- closing. R19: "a payment is open at closing". P36: "Closing leaves an empty book, and writes nothing." P37: "A desk is fresh, with
 -- idle lanes and an empty book"
@@ -96,14 +91,14 @@ blank = record { lane = 0; kind = Sale; asked = 0; settled = 0; receipt = 0; out
 pub data Closes (d : Desk) : Answer → Type 0 where
   open_payment : {i : ℕ} → i < 8 → (phase_at (view d) i ≡ Idle → ⊥) → Closes d (refusing d (unplaced 19))
   closed : ((i : ℕ) → i < 8 → phase_at (view d) i ≡ Idle)
-      → Closes d (record { reply = Written 0; desk = record { lanes = replicate 8 idle; book = record { lines = replicate 64 blank; count = 0 } } })
+      → Closes d (record { reply = Ok 0; desk = record { lanes = replicate 8 idle; book = record { lines = replicate 64 blank; count = 0 } } })
 
 -- ---- questions. R36: "A question about a lane: 12."
-pub data ShowsLane (d : Desk) (i : ℕ) : LaneAnswer → Type 0 where
-  no_lane : 8 ≤ i → ShowsLane d i (lane-refused (unplaced 12))
-  lane : i < 8 → ShowsLane d i (lane-got (lane_in (view d) i))
+pub data ShowsLane (d : Desk) (i : ℕ) : Result Lane Refusal → Type 0 where
+  no_lane : 8 ≤ i → ShowsLane d i (Err (unplaced 12))
+  lane : i < 8 → ShowsLane d i (Ok (lane_in (view d) i))
 
 -- the line with so many before it
-pub data ShowsLine (d : Desk) (k : ℕ) : LineAnswer → Type 0 where
-  no_line : length (view d).lines ≤ k → ShowsLine d k End
-  line : (before after : List Line) {l : Line} → (view d).lines ≡ before ++ (l ∷ after) → length before ≡ k → ShowsLine d k (line-got l)
+pub data ShowsLine (d : Desk) (k : ℕ) : Option Line → Type 0 where
+  no_line : length (view d).lines ≤ k → ShowsLine d k None
+  line : (before after : List Line) {l : Line} → (view d).lines ≡ before ++ (l ∷ after) → length before ≡ k → ShowsLine d k (Some l)

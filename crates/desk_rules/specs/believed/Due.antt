@@ -1,15 +1,12 @@
 -- The line that is due for a payment, the lane while it is open, and the turnover: facts of the payment's own calls and of the lines
 -- before it. Definitions only.
-use Rattle.std.specs.Prelude.{◌≡◌, ◌⊎◌, Bool, List, [], ◌∷◌, ◌++◌, map, ℕ, ◌+◌, get_or}
+use Rattle.std.specs.Prelude.{◌≡◌, ◌⊎◌, Bool, List, [], ◌∷◌, ◌++◌, map, ℕ, ◌+◌, get_or, None, Some}
 use Rattle.zvt_rules.specs.Reading.{got}
 use Rattle.zvt_rules.specs.Fields.{Field}
 use Rattle.zvt_rules.specs.Message.{Body, bytes, read_of}
 use Rattle.zvt_rules.specs.Values.{missing, found, value_in, body_fields}
 use Rattle.zvt_rules.specs.Digits.{number_of}
 use Rattle.zvt_rules.specs.declared.Status.{Status}
-use Rattle.zvt_rules.specs.declared.ToldCode.TheVariants.{Missing as no_code, Code}
-use Rattle.zvt_rules.specs.declared.ToldAmount.TheVariants.{Missing as no-amount, Amount}
-use Rattle.zvt_rules.specs.declared.ToldReceipt.TheVariants.{Missing as no-receipt, Receipt}
 use Rattle.desk_rules.specs.declared.Kind.{Kind}
 use Rattle.desk_rules.specs.declared.Kind.TheVariants.{Sale, Refund, Reversal}
 use Rattle.desk_rules.specs.declared.Outcome.{Outcome}
@@ -21,7 +18,7 @@ use Rattle.desk_rules.specs.declared.Line.{Line}
 use Rattle.desk_rules.specs.declared.Opening.{Opening}
 use Rattle.desk_rules.specs.declared.Opening.TheVariants.{Sale as sale, Refund as refund, Reversal as reversal}
 use Rattle.desk_rules.specs.Course.{Call, opening, message, lost}
-use Rattle.desk_rules.specs.believed.LastSale.{None, Last, Named}
+use Rattle.desk_rules.specs.believed.LastSale.{NoneOf, Last, Named}
 
 -- ---- what the terminal told
 
@@ -40,7 +37,7 @@ pub record Report (s : List ℕ) : Type 0 where
 -- P20: it "becomes the remembered status, all of it .. and nothing of an earlier one": the fields of the last report, or no fields
 -- where there was none
 pub data Remembered (messages : List (List ℕ)) : List Field → Type 0 where
-  nothing : None Report messages → Remembered messages []
+  nothing : NoneOf Report messages → Remembered messages []
   report : {s : List ℕ} → (r : Last Report messages s) → Remembered messages (body_fields r.holds.body)
 
 -- what a field of the remembered status says or, where it has none, another
@@ -112,7 +109,7 @@ pub record Open (i : ℕ) (before : List Line) (calls : List Call) (kind : Kind)
     : Type 0 where
   pub first : Opening
   pub in_order : calls ≡ opening i first ∷ map (message i) told
-  pub still_open : None (λ s. Ending (message i s)) told
+  pub still_open : NoneOf (λ s. Ending (message i s)) told
   pub asks : Asks i before first kind asked named
   pub remembered : Remembered told status
 
@@ -137,14 +134,14 @@ pub data PhaseIs : List (List ℕ) → Phase → Type 0 where
 
 -- P20: "code (27), amount (04) and receipt (87)"
 pub record StatusIs (status : List Field) (s : Status) : Type 0 where
-  pub code : Told status 0x27 (λ value. Code (get_or value 0 0)) no_code s.code
-  pub amount : Told status 0x04 (λ value. Amount (number_of value)) no-amount s.amount
-  pub receipt : Told status 0x87 (λ value. Receipt (number_of value)) no-receipt s.receipt
+  pub code : Told status 0x27 (λ value. Some (get_or value 0 0)) None s.code
+  pub amount : Told status 0x04 (λ value. Some (number_of value)) None s.amount
+  pub receipt : Told status 0x87 (λ value. Some (number_of value)) None s.receipt
 
 -- lane i after those lines, by the calls of its open payment. P29: where there is none, "the lane is idle then and remembers nothing"
 pub data LaneIs (i : ℕ) (before : List Line) : List Call → Lane → Type 0 where
   idle : LaneIs i before []
-      (record { phase = Idle; kind = Sale; asked = 0; named = 0; status = record { code = no_code; amount = no-amount; receipt = no-receipt } })
+      (record { phase = Idle; kind = Sale; asked = 0; named = 0; status = record { code = None; amount = None; receipt = None } })
   busy : {calls : List Call} {l : Lane} {told : List (List ℕ)} {status : List Field}
       → Open i before calls l.kind l.asked l.named told status → PhaseIs told l.phase → StatusIs status l.status
       → LaneIs i before calls l

@@ -6,16 +6,16 @@ use Rattle.desk_rules.specs.declared.Outcome.TheVariants.{Approved}
 use Rattle.desk_rules.specs.declared.Line.{Line}
 
 -- of a list: none of which P holds, and the last of which P holds
-unfoldable pub None : {A : Type 0} → (A → Type 0) → List A → Type 0
-None P [] = Unit {0}
-None P (x ∷ xs) = (P x → ⊥) × None P xs
+unfoldable pub NoneOf : {A : Type 0} → (A → Type 0) → List A → Type 0
+NoneOf P [] = Unit {0}
+NoneOf P (x ∷ xs) = (P x → ⊥) × NoneOf P xs
 
 pub record Last {A : Type 0} (P : A → Type 0) (xs : List A) (x : A) : Type 0 where
   pub before : List A
   pub after : List A
   pub all : xs ≡ before ++ (x ∷ after)
   pub holds : P x
-  pub later : None P after
+  pub later : NoneOf P after
 
 -- "the approved sale and reversal lines of its lane with that receipt"
 abbrev pub Concerned : ℕ → ℕ → Line → Type 0

@@ -1,11 +1,8 @@
 -- When a call of the desk is refused, with which number and at which place, in the order of the rules; and what the command of an opening
 -- says to whoever reads it. Definitions only.
-use Rattle.std.specs.Prelude.{◌≡◌, false, ◌⊎◌, List, [], ◌∷◌, ℕ, ◌+◌, ◌*◌, ◌≤◌, ◌<◌, length, get_or}
+use Rattle.std.specs.Prelude.{◌≡◌, false, ◌⊎◌, List, [], ◌∷◌, ℕ, ◌+◌, ◌*◌, ◌≤◌, ◌<◌, length, get_or, None}
 use Rattle.zvt_rules.specs.declared.Refusal.{Refusal}
 use Rattle.zvt_rules.specs.declared.Status.{Status}
-use Rattle.zvt_rules.specs.declared.ToldCode.TheVariants.{Missing as no_code}
-use Rattle.zvt_rules.specs.declared.ToldAmount.TheVariants.{Missing as no-amount}
-use Rattle.zvt_rules.specs.declared.ToldReceipt.TheVariants.{Missing as no-receipt}
 use Rattle.zvt_rules.specs.Reading.{Reading, got, refused, fault_at, unplaced}
 use Rattle.zvt_rules.specs.Fields.{Field, plain}
 use Rattle.zvt_rules.specs.Message.{Heading, whole_header, bytes, listed, Message, read_of}
@@ -42,7 +39,7 @@ Refuses x r = x ≡ refused r
 
 -- P29: "the lane is idle then and remembers nothing"
 abbrev pub nothing : Status
-nothing = record { code = no_code; amount = no-amount; receipt = no-receipt }
+nothing = record { code = None; amount = None; receipt = None }
 
 abbrev pub idle : Lane
 idle = record { phase = Idle; kind = Sale; asked = 0; named = 0; status = nothing }

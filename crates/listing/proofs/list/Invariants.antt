@@ -9,10 +9,10 @@ use Rattle.zvt_rules.specs.Listing.{listing}
 use Rattle.listing.specs.Lines.{lines_of}
 use Rattle.listing.proofs.list.Given as goal
 
-abbrev pub invariant-loop-end : goal.invariant-loop-end
-invariant-loop-end l =
-    (l.from ≤ length l.s) × (l.count ≤ l.from) × ((l.from ≡ 0) ⊎ (length l.s ≤ 65536)) × (length l.out ≡ length l.initial.out)
+abbrev pub invariant-loop-size : goal.invariant-loop-size
+invariant-loop-size l =
+    (l.from ≤ length l.s) × (l.count ≤ l.from) × ((l.from ≡ 0) ⊎ (length l.s ≤ 65536))
     × (add_all (lines_of l.count (drop l.from l.s)) (text l.to l.out) ≡ add_all (listing l.s) (text 0 l.initial.out))
 
-abbrev pub decreases-loop-end : goal.decreases-loop-end
-decreases-loop-end l = length l.s - l.from
+abbrev pub decreases-loop-size : goal.decreases-loop-size
+decreases-loop-size l = length l.s - l.from

@@ -1,12 +1,7 @@
--- The lines of a script. The loop's invariant: from lies in the script, the desk is valid, and the buffers keep their lengths. Assumes nothing.
-use Rattle.std.proofs.Common.{◌≡◌, ◌-◌, ◌≤◌, length}
+-- The lines of a script. The loop's invariant: the lines go on and come to an end, and the desk is valid. Assumes nothing.
 use Rattle.tape_rules.specs.Recording.{ValidTaped}
 use Rattle.script.proofs.play_in.Given as goal
 
-abbrev pub invariant-loop-from : goal.invariant-loop-from
-invariant-loop-from l =
-    (l.from ≤ length l.script) × (ValidTaped l.turn.taped) × (length l.file ≡ length l.initial.file) × (length l.room ≡ length l.initial.room) × (length l.added ≡ length l.initial.added)
-    × (length l.text ≡ length l.initial.text)
-
-abbrev pub decreases-loop-from : goal.decreases-loop-from
-decreases-loop-from l = length l.script - l.from
+abbrev pub invariant-loop-s : goal.invariant-loop-s
+invariant-loop-s l =
+    let lines = goal.iterator-loop-s in lines.can_next l.s-iterator × lines.is_finite l.s-iterator × ValidTaped l.turn.taped

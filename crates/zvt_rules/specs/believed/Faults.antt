@@ -1,7 +1,6 @@
 -- What stands in a message at the place that a refusal of its body names. Definitions only.
-use Rattle.std.specs.Prelude.{◌≡◌, ◌⊎◌, List, ℕ, ◌<◌, ◌≤◌, length, get_or}
+use Rattle.std.specs.Prelude.{◌≡◌, ◌⊎◌, List, ℕ, ◌<◌, ◌≤◌, length, get_or, Some}
 use Rattle.zvt_rules.specs.declared.Refusal.{Refusal}
-use Rattle.zvt_rules.specs.declared.Place.TheVariants.{At}
 use Rattle.zvt_rules.specs.declared.Format.TheVariants.{Unknown}
 use Rattle.zvt_rules.specs.Fields.{format_of}
 use Rattle.zvt_rules.specs.believed.Rows.{Undecimal}
@@ -21,5 +20,5 @@ pub data WrongByte (b : ℕ) : ℕ → Type 0 where
 -- R46: "in the message, or directly behind it": s is the message. The place is that of such a byte of s; or, for 1 alone, R48: "the first
 -- byte behind the nearest body, container or run"
 pub data Names (s : List ℕ) : Refusal → Type 0 where
-  byte : {n p : ℕ} → p < length s → WrongByte (get_or s p 0) n → Names s (record { number = n; place = At p })
-  behind : {p : ℕ} → p ≤ length s → Names s (record { number = 1; place = At p })
+  byte : {n p : ℕ} → p < length s → WrongByte (get_or s p 0) n → Names s (record { number = n; place = Some p })
+  behind : {p : ℕ} → p ≤ length s → Names s (record { number = 1; place = Some p })

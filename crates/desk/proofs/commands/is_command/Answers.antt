@@ -7,11 +7,10 @@ use native.Mathlib.Omega.{arith}
 use lib.ListN.{length, take, length-append}
 use lib.Seq.{take_at}
 use Rattle.basics.specs.Buffers.{front}
-use Rattle.basics.proofs.Tests.{same_test}
 use Rattle.desk_rules.specs.declared.Opening.{Opening}
 use Rattle.desk_rules.specs.Openings.{command_bytes, command_size, same}
 use Rattle.desk_rules.proofs.Commands.{command-size, size-most}
-use Rattle.desk_rules.proofs.Recognised.{same-exactly}
+use Rattle.desk.proofs.DeskLaws.{same-pointwise}
 use Rattle.desk.proofs.commands.is_command.Goals as goal
 
 at-start : (o : Opening) (size : ℕ) (b out : List ℕ) → size ≡ command_size o → b ≡ front (command_bytes o) out
@@ -24,5 +23,6 @@ put_command-requires c = let o = c.args.opening in omega (arith, command-size o,
 
 pub returns : goal.returns
 returns c =
-    same_test c.same.ensures (same-exactly _ _)
-    ∙ ap (same _) (at-start _ _ _ _ c.command_size-size.ensures c.put_command.ensures).1
+    c.eq.ensures
+    ∙ same-pointwise _ _
+    ∙ ap (same _) (at-start _ _ _ _ c.command_size.ensures c.put_command.ensures).1

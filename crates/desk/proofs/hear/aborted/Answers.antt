@@ -1,11 +1,12 @@
 -- `desk::hear::aborted` meets its contract. Assumes nothing.
+use Rattle.std.proofs.Common.{rules}
 use Rattle.desk_rules.specs.Course.{aborted_by}
 use Rattle.desk.proofs.hear.aborted.Goals as goal
 
-pub returns-in-Missing : goal.returns-in-Missing
+pub returns-in_err-code : goal.returns-in_err-code
 unfolding aborted_by
-returns-in-Missing c = rw c.in-Missing.is
+returns-in_err-code c = search rules
 
-pub returns-in-Code : goal.returns-in-Code
+pub returns : goal.returns
 unfolding aborted_by
-returns-in-Code c = rw c.in-Code.is
+returns c = search rules

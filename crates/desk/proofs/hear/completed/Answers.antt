@@ -1,16 +1,16 @@
 -- `desk::hear::completed` meets its contract. Assumes nothing.
-use borrow.Author.Tests.{ne_eqb}
+use Rattle.std.proofs.Common.{rules}
 use Rattle.desk_rules.specs.Course.{completed_by}
 use Rattle.desk.proofs.hear.completed.Goals as goal
 
-pub returns-then-c-ne0 : goal.returns-then-c-ne0
+pub returns-in-None : goal.returns-in-None
 unfolding completed_by
-returns-then-c-ne0 c = rw (c.in-Code.is, ne_eqb _ _ c.if-c-ne0.true)
+returns-in-None c = search rules
 
-pub returns-in-Missing : goal.returns-in-Missing
+pub returns-in-Some-eq0 : goal.returns-in-Some-eq0
 unfolding completed_by
-returns-in-Missing c = rw c.in-Missing.is
+returns-in-Some-eq0 c = search rules
 
-pub returns-else-c-ne0 : goal.returns-else-c-ne0
+pub returns-in-Some : goal.returns-in-Some
 unfolding completed_by
-returns-else-c-ne0 c = rw (c.settled_as.ensures, c.in-Code.is, c.if-c-ne0.false)
+returns-in-Some c = search rules

@@ -1,24 +1,20 @@
 -- `desk::hear::moved_by` meets its contract. Assumes nothing.
-use mathlib.Core.Path.{◌∙◌}
+use Rattle.std.proofs.Common.{rules}
 use Rattle.desk.specs.Hear.{moved_for}
 use Rattle.desk.proofs.hear.moved_by.Goals as goal
 
 pub returns-in-Completion : goal.returns-in-Completion
 unfolding moved_for
-returns-in-Completion c = rw (c.completed.ensures, c.in-Completion.is)
+returns-in-Completion c = search rules
 
 pub returns-in-Abort : goal.returns-in-Abort
 unfolding moved_for
-returns-in-Abort c = rw (c.aborted.ensures, c.in-Abort.is)
+returns-in-Abort c = search rules
 
 pub returns-in-Report : goal.returns-in-Report
 unfolding moved_for
-returns-in-Report c = rw (c.reported.ensures, c.in-Report.is)
+returns-in-Report c = search rules
 
 pub returns-in-Passing : goal.returns-in-Passing
 unfolding moved_for
-returns-in-Passing c = rw c.in-Passing.is
-
-pub returns-in-NotAllowed : goal.returns-in-NotAllowed
-unfolding moved_for
-returns-in-NotAllowed c = c.refused.ensures ∙ rw c.in-NotAllowed.is
+returns-in-Passing c = search rules

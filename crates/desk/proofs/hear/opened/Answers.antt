@@ -1,24 +1,20 @@
 -- `desk::hear::opened` meets its contract. Assumes nothing.
-use Rattle.std.proofs.Common.{sym, ◌∙◌}
+use Rattle.std.proofs.Common.{rules}
 use Rattle.desk_rules.specs.Course.{opened_by}
 use Rattle.desk.proofs.hear.opened.Goals as goal
 
-pub returns-then-not-is_idle : goal.returns-then-not-is_idle
+pub returns-then-ne : goal.returns-then-ne
 unfolding opened_by
-returns-then-not-is_idle c = c.refused.ensures ∙ rw (sym c.is_idle.ensures ∙ c.if-not-is_idle.true)
+returns-then-ne c = search rules
 
 pub returns-then-not-within_limits : goal.returns-then-not-within_limits
 unfolding opened_by
-returns-then-not-within_limits c =
-    c.refused-then-not-within_limits.ensures
-    ∙ rw (sym c.is_idle.ensures ∙ c.if-not-is_idle.false, sym c.within_limits.ensures ∙ c.if-not-within_limits.true)
+returns-then-not-within_limits c = search rules
 
 pub returns-then-not-stands : goal.returns-then-not-stands
 unfolding opened_by
-returns-then-not-stands c =
-    rw (c.refused-then-not-stands.ensures, c.missing_number.ensures, sym c.is_idle.ensures ∙ c.if-not-is_idle.false, sym c.within_limits.ensures ∙ c.if-not-within_limits.false, ← c.refers_to-reference.ensures, sym c.stands.ensures ∙ c.if-not-stands.true)
+returns-then-not-stands c = search rules
 
 pub returns : goal.returns
 unfolding opened_by
-returns c =
-    rw (c.opened_lane.ensures, sym c.is_idle.ensures ∙ c.if-not-is_idle.false, sym c.within_limits.ensures ∙ c.if-not-within_limits.false, ← c.refers_to-reference.ensures, sym c.stands.ensures ∙ c.if-not-stands.false)
+returns c = search rules

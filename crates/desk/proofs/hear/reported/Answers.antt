@@ -1,14 +1,13 @@
 -- `desk::hear::reported` meets its contract. Assumes nothing.
-use mathlib.Core.Path.{sym, ap, ◌∙◌}
-use Rattle.desk_rules.specs.declared.Moved.TheVariants.{Becomes}
+use Rattle.std.proofs.Common.{rules}
 use Rattle.desk_rules.specs.Course.{reported_by}
 use Rattle.desk.specs.Hear.{reported_as}
-use Rattle.desk.proofs.HearLaws.{reported-code}
 use Rattle.desk.proofs.hear.reported.Goals as goal
 
-pub returns-in-Missing : goal.returns-in-Missing
+pub returns-in-None : goal.returns-in-None
 unfolding reported_as reported_by
-returns-in-Missing c = rw c.in-Missing.is
+returns-in-None c = search rules
 
-pub returns-in-Code : goal.returns-in-Code
-returns-in-Code c = ap Becomes c.reported.ensures ∙ sym (reported-code _ _ _ c.in-Code.is)
+pub returns-in-Some : goal.returns-in-Some
+unfolding reported_as reported_by
+returns-in-Some c = search rules

@@ -1,24 +1,16 @@
 -- `desk::hear::settled_as` meets its contract. Assumes nothing.
-use mathlib.Core.Path.{sym, ◌∙◌}
-use borrow.Author.Tests.{eq-eqb, ne_eqb}
+use Rattle.std.proofs.Common.{rules}
 use Rattle.desk_rules.specs.Course.{settled_as}
 use Rattle.desk.proofs.hear.settled_as.Goals as goal
 
+pub returns-in_default : goal.returns-in_default
+unfolding settled_as
+returns-in_default c = search rules
+
 pub returns-then-amount-asked : goal.returns-then-amount-asked
 unfolding settled_as
-returns-then-amount-asked c =
-    rw (c.in-Amount.is, sym c.is_reversal.ensures ∙ c.if-is_reversal.true, ne_eqb _ _ c.if-amount-asked.true)
+returns-then-amount-asked c = search rules
 
-pub returns-in-Missing : goal.returns-in-Missing
+pub returns : goal.returns
 unfolding settled_as
-returns-in-Missing c = rw c.in-Missing.is
-
-pub returns-else-amount-asked : goal.returns-else-amount-asked
-unfolding settled_as
-returns-else-amount-asked c =
-    rw (c.in-Amount.is, sym c.is_reversal.ensures ∙ c.if-is_reversal.true, eq-eqb _ _ c.if-amount-asked.false)
-
-pub returns-else-is_reversal : goal.returns-else-is_reversal
-unfolding settled_as
-returns-else-is_reversal c =
-    rw (c.in-Amount.is, sym c.is_reversal.ensures ∙ c.if-is_reversal.false)
+returns c = search rules

@@ -5,34 +5,38 @@ use mathlib.Core.List.{List}
 use Prim.Native.Nat.{ℕ}
 use native.Mathlib.Omega.{arith}
 use lib.ListN.{take}
-use Rattle.desk_rules.specs.declared.Reply.{Reply}
+use Rattle.std.proofs.Common.{Result, rules}
 use Rattle.printing.specs.Answers.{size_of, changed_behind, ok_text, reply_text}
 use Rattle.printing.proofs.Prints.{printed, roomier, alike, take-upto}
 use Rattle.printing.proofs.Lengths.{ok-long}
 use Rattle.printing.proofs.answers.reply.Goals as goal
+use Rattle.zvt_rules.specs.declared.Refusal.{Refusal}
 
 -- what the test of the room says
-judged : (r : Reply) (lent : List ℕ) {n : ℕ} {behind is : Bool} → n ≡ size_of r → behind ≡ changed_behind n lent → behind ≡ is
+judged : (r : Result ℕ Refusal) (lent : List ℕ) {n : ℕ} {behind is : Bool} → n ≡ size_of r → behind ≡ changed_behind n lent → behind ≡ is
     → changed_behind (size_of r) lent ≡ is
 judged r lent size test is = ap (λ (n : ℕ). changed_behind n lent) (sym size) ∙ (sym test ∙ is)
 
 pub returns-then-changed : goal.returns-then-changed
 unfolding reply_text
 returns-then-changed c =
-    rw (judged c.args.r c.args.lent.now c.size_of.ensures c.changed.ensures c.if-changed.true)
+    let size : c.unwrap_or.result ≡ size_of c.args.r = search rules in
+    rw (judged c.args.r c.args.lent.now size c.changed.ensures c.if-changed.true)
     (printed _ _ _ (omega arith) c.add_all.ensures)
 
-pub returns-in-Written : goal.returns-in-Written
+pub returns-in-Ok : goal.returns-in-Ok
 unfolding reply_text
-returns-in-Written c =
+returns-in-Ok c =
+    let size : c.unwrap_or.result ≡ size_of c.args.r = search rules in
     let lent = c.args.lent.now in
-    let n = c.in-Written.size in
+    let n = c.in-Ok.size in
     let part = ap (λ (k : ℕ). take k lent) c.upto-end.ensures.least ∙ take-upto n lent in
-    rw (judged c.args.r lent c.size_of.ensures c.changed.ensures c.if-changed.false, c.in-Written.is)
+    rw (judged c.args.r lent size c.changed.ensures c.if-changed.false, c.in-Ok.is)
     (printed _ _ _ (ok-long n lent) (alike _ _ _ (ap ok_text part) c.written.ensures))
 
-pub returns-in-Refused : goal.returns-in-Refused
+pub returns-in-Err : goal.returns-in-Err
 unfolding reply_text
-returns-in-Refused c =
-    rw (judged c.args.r c.args.lent.now c.size_of.ensures c.changed.ensures c.if-changed.false, c.in-Refused.is)
+returns-in-Err c =
+    let size : c.unwrap_or.result ≡ size_of c.args.r = search rules in
+    rw (judged c.args.r c.args.lent.now size c.changed.ensures c.if-changed.false, c.in-Err.is)
     (roomier (omega arith) c.refused.ensures)

@@ -3,5 +3,5 @@ use native.Mathlib.Omega.{arith}
 use Rattle.printing.proofs.Lengths.{number-long}
 use Rattle.printing.proofs.desks.add_amount.Goals as goal
 
-pub returns-in-Amount-clause-long : goal.returns-in-Amount-clause-long
-returns-in-Amount-clause-long c = rw c.in-Amount.is (number-long c.in-Amount.n (omega arith))
+pub returns-in-Some-clause-long : goal.returns-in-Some-clause-long
+returns-in-Some-clause-long c = rw c.in-Some.is (number-long c.in-Some.n (omega arith))

@@ -3,5 +3,5 @@ use native.Mathlib.Omega.{arith}
 use Rattle.printing.proofs.Lengths.{short-long}
 use Rattle.printing.proofs.desks.add_receipt.Goals as goal
 
-pub returns-in-Receipt-clause-long : goal.returns-in-Receipt-clause-long
-returns-in-Receipt-clause-long c = rw c.in-Receipt.is (short-long c.in-Receipt.n (omega arith))
+pub returns-in-Some-clause-long : goal.returns-in-Some-clause-long
+returns-in-Some-clause-long c = rw c.in-Some.is (short-long c.in-Some.n (omega arith))

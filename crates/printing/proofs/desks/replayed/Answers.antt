@@ -7,20 +7,20 @@ use Rattle.printing.proofs.Prints.{printed}
 use Rattle.printing.proofs.Lengths.{whole_long, stopped-long}
 use Rattle.printing.proofs.desks.replayed.Goals as goal
 
-pub returns-in-Whole : goal.returns-in-Whole
+pub returns-in-Ok : goal.returns-in-Ok
 unfolding replayed_text
-returns-in-Whole c =
+returns-in-Ok c =
     let ls = lines_text (lines_of_desk c.args.desk) in
-    rw c.in-Whole.is
+    rw c.in-Ok.is
     (printed _ _ _ (whole_long ls c.args.place c.add_lines-to.ensures.long (omega arith))
     (both _ _ _ c.add_lines-to.ensures.added
     (both _ _ _ c.add_all-to.ensures (both _ _ _ c.add_number-to.ensures c.add_all.ensures))))
 
-pub returns-in-Refused : goal.returns-in-Refused
+pub returns-in-Err : goal.returns-in-Err
 unfolding replayed_text
-returns-in-Refused c =
+returns-in-Err c =
     let ls = lines_text (lines_of_desk c.args.desk) in
-    rw c.in-Refused.is
-    (printed _ _ _ (stopped-long ls c.args.place c.in-Refused.f c.add_lines-to.ensures.long (omega arith) (omega arith))
+    rw c.in-Err.is
+    (printed _ _ _ (stopped-long ls c.args.place c.in-Err.f c.add_lines-to.ensures.long (omega arith) (omega arith))
     (both _ _ _ c.add_lines-to.ensures.added
     (both _ _ _ c.add_all-to.ensures (both _ _ _ c.add_number-to.ensures c.counted.ensures))))

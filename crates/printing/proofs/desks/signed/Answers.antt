@@ -7,19 +7,20 @@ use Rattle.basics.specs.Text.{decimal_text}
 use Rattle.buffers.proofs.TextLaws.{both}
 use Rattle.printing.proofs.Prints.{printed, alike}
 use Rattle.printing.proofs.Signed.{signed_below, signed-other, signed-long}
+use Rattle.printing.proofs.desks.signed.Goals.{then-n-lt0, else-n-lt0}
 use Rattle.printing.proofs.desks.signed.Goals as goal
-
-pub returns-then-n-lt0 : goal.returns-then-n-lt0
-returns-then-n-lt0 c =
-    let same = c.magnitude.ensures ∙ ap nat_abs (to_z-of_z w64 c.args.n c.ranges.n) in
-    let digits = alike _ _ _ (ap decimal_text same) c.add_decimal-to.ensures in
-    printed 64 _ _ (signed-long _ c.ranges.n)
-    (rw (signed_below c.args.n c.ranges.n c.if-n-lt0.true)
-    (both _ _ _ c.add-minus.ensures (both _ _ _ digits c.add.ensures)))
 
 pub returns : goal.returns
 returns c =
-    let same = c.magnitude-2.ensures ∙ ap nat_abs (to_z-of_z w64 c.args.n c.ranges.n) in
-    let digits = alike _ _ _ (ap decimal_text same) c.add_decimal-to-2.ensures in
-    printed 64 _ _ (signed-long _ c.ranges.n)
-    (rw (signed-other c.args.n c.ranges.n c.if-n-lt0.false) (both _ _ _ digits c.add-2.ensures))
+    let n = c.args.n in
+    let value = c.unsigned_abs.ensures.value ∙ ap nat_abs (to_z-of_z w64 n c.ranges.n) in
+    let digits = alike _ _ _ (ap decimal_text value) c.add_decimal-to.ensures in
+    elim c.if-n-lt0.branch [
+      | then-n-lt0 w ↦
+          let sign = rw (← w.sign-is, ← w.out-is) at w.add-sign.ensures in
+          printed 64 _ _ (signed-long _ c.ranges.n)
+          (rw (signed_below n c.ranges.n w.if-n-lt0.true) (both _ _ _ sign (both _ _ _ digits c.add.ensures)))
+      | else-n-lt0 w ↦
+          printed 64 _ _ (signed-long _ c.ranges.n)
+          (rw (signed-other n c.ranges.n w.if-n-lt0.false) (both _ _ _ (rw (w.sign-is, w.out-is) at digits) c.add.ensures))
+    ]

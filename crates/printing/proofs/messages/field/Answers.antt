@@ -8,20 +8,20 @@ use Rattle.printing.proofs.Prints.{printed, roomier, alike, handed-value}
 use Rattle.printing.proofs.Lengths.{value-long}
 use Rattle.printing.proofs.messages.field.Goals as goal
 
-pub returns-in-Refused : goal.returns-in-Refused
+pub returns-in-Err : goal.returns-in-Err
 unfolding field_text field_by
-returns-in-Refused c = rw (sym c.in-Refused.ensures) (roomier (omega arith) c.refused.ensures)
+returns-in-Err c = rw (sym c.in-Err.ensures) (roomier (omega arith) c.refused.ensures)
 
-pub returns-in-Absent : goal.returns-in-Absent
+pub returns-in-None : goal.returns-in-None
 unfolding field_text field_by
-returns-in-Absent c = rw (sym c.in-Absent.ensures) (printed _ _ _ (omega arith) c.add_all.ensures)
+returns-in-None c = rw (sym (rw c.in-None.is at c.in-Ok.ensures)) (printed _ _ _ (omega arith) c.add_all.ensures)
 
-pub returns-in-Value : goal.returns-in-Value
+pub returns-in-Some : goal.returns-in-Some
 unfolding field_text field_by
-returns-in-Value c =
-    let value = sym c.in-Value.ensures in
+returns-in-Some c =
+    let value = sym (rw c.in-Some.is at c.in-Ok.ensures) in
     let s = c.args.s.now in
     let digits = alike _ _ _ (ap bytes_text (c.field_bytes.ensures.bytes ∙ handed-value _ s _ _ value)) c.add_bytes-to.ensures in
     rw value
-    (printed _ _ _ (value-long s c.in-Value.v (omega arith))
+    (printed _ _ _ (value-long s c.in-Some.v (omega arith))
     (both _ _ _ c.add_decimal-to.ensures (both _ _ _ c.add-to.ensures (both _ _ _ digits c.add.ensures))))

@@ -8,15 +8,15 @@ use Rattle.printing.proofs.Prints.{printed}
 use Rattle.printing.proofs.Lengths.{header-long}
 use Rattle.printing.proofs.messages.header.Goals as goal
 
-pub returns-in-Refused : goal.returns-in-Refused
+pub returns-in-Err : goal.returns-in-Err
 unfolding header_text header_by
-returns-in-Refused c = rw (sym c.in-Refused.ensures) c.refused.ensures
+returns-in-Err c = rw (sym c.in-Err.ensures) c.refused.ensures
 
-pub returns-in-Header : goal.returns-in-Header
+pub returns-in-Ok : goal.returns-in-Ok
 unfolding header_text header_by hex_text
-returns-in-Header c =
-    rw (sym c.in-Header.ensures)
-    (printed _ _ _ (header-long c.in-Header.h (omega arith) (omega arith))
+returns-in-Ok c =
+    rw (sym c.in-Ok.ensures)
+    (printed _ _ _ (header-long c.in-Ok.h (omega arith) (omega arith))
     (both _ _ _ c.add_hex-to.ensures
-    (both _ _ _ c.add_hex-to-in-Header.ensures
+    (both _ _ _ c.add_hex-to-in-Ok.ensures
     (both _ _ _ c.add_all-to.ensures (both _ _ _ c.add_number-to.ensures c.counted.ensures)))))

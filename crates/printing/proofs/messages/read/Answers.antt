@@ -5,17 +5,16 @@ use Rattle.buffers.proofs.TextLaws.{both}
 use Rattle.printing.specs.Messages.{read_text, read_by}
 use Rattle.printing.proofs.Prints.{printed, roomier}
 use Rattle.printing.proofs.Lengths.{read-long}
-use Rattle.zvt.proofs.Slices.{bytes-known}
 use Rattle.printing.proofs.messages.read.Goals as goal
 
-pub returns-in-Refused : goal.returns-in-Refused
+pub returns-in-Err : goal.returns-in-Err
 unfolding read_text read_by
-returns-in-Refused c = rw (sym c.in-Refused.ensures) (roomier (omega arith) c.refused.ensures)
+returns-in-Err c = rw (sym c.in-Err.ensures) (roomier (omega arith) c.refused.ensures)
 
-pub returns-in-Accepted : goal.returns-in-Accepted
+pub returns-in-Ok : goal.returns-in-Ok
 unfolding read_text read_by
-returns-in-Accepted c =
+returns-in-Ok c =
     let s = c.args.s.now in
-    rw (sym c.in-Accepted.ensures)
-    (printed _ _ _ (read-long c.in-Accepted.m s (bytes-known s c.type_inv.s) (omega arith) (omega arith))
-    (both _ _ _ c.message-to.ensures c.add.ensures))
+    rw (sym c.in-Ok.ensures)
+    (printed _ _ _ (read-long c.in-Ok.m s c.message-to.ensures.long)
+    (both _ _ _ c.message-to.ensures.added c.add.ensures))

@@ -1,21 +1,16 @@
--- `shapes::shape_of`: the row of the word. Assumes nothing.
-use mathlib.Core.Path.{sym, ◌∙◌}
-use mathlib.Core.List.{[]}
-use Rattle.words.specs.Shapes.{script_rows, case_rows, shape_in, shape_of}
-use Rattle.words.specs.Split.{behind, words_of}
-use Rattle.words.proofs.ShapeLaws.{known, unknown}
+-- `shapes::shape_of`: a word of a script, or a further word. Assumes nothing.
+use Rattle.std.proofs.Common.{◌∙◌, sym}
+use Rattle.words.specs.Shapes.{shape_in as shape_among}
+use Rattle.words.proofs.ShapeLaws.{script_first, cases_alone}
 use Rattle.words.proofs.shapes.shape_of.Goals as goal
 
-pub returns-then-k-lt16 : goal.returns-then-k-lt16
-unfolding words_of behind shape_of
-returns-then-k-lt16 c = known script_rows _ _ _ c.nth-k.ensures c.if-k-lt16.true
+pub returns-in-Some : goal.returns-in-Some
+returns-in-Some c = rw (script_first, sym c.shape_in.ensures ∙ c.in-Some.is)
 
 pub returns-then-further : goal.returns-then-further
-unfolding words_of behind shape_of
 returns-then-further c =
-    rw c.if-further.true (c.case_shape.ensures ∙ sym (unknown script_rows case_rows _ _ c.nth-k.ensures c.if-k-lt16.false))
+    rw (script_first, sym c.shape_in.ensures ∙ c.in_default.is, c.if-further.true, cases_alone, sym c.shape_in-then-further.ensures) c.unwrap_or.ensures
 
 pub returns : goal.returns
-unfolding words_of behind shape_of shape_in
-returns c =
-    rw c.if-further.false (sym (unknown script_rows [] _ _ c.nth-k.ensures c.if-k-lt16.false))
+unfolding shape_among
+returns c = rw (script_first, sym c.shape_in.ensures ∙ c.in_default.is, c.if-further.false)

@@ -6,15 +6,15 @@ use Rattle.zvt_rules.specs.Digits.{number_of}
 use Rattle.zvt_rules.proofs.DigitLaws.{number_step, number-end, small-step}
 use Rattle.zvt.proofs.digits.number.Goals as goal
 
-pub loop-i-init : goal.loop-i-init
+pub loop-b-init : goal.loop-b-init
 unfolding number_of
-loop-i-init c = (omega arith, refl, omega arith)
+loop-b-init c = (omega arith, refl, omega arith)
 
-pub loop-i-preserved : goal.loop-i-preserved
-loop-i-preserved c =
-    let l = c.loop-i in
+pub loop-b-preserved : goal.loop-b-preserved
+loop-b-preserved c =
+    let l = c.loop-b in
     let s = c.args.s.now in
-    (omega arith, sym (number_step s l.i l.v (omega arith)) ∙ l.invariant.1, small-step l.i l.v (get_or s l.i 0) (omega (arith, c.type_inv.s l.i)) l.invariant.2)
+    rw c.from.ensures (omega arith, sym (number_step s l.b-index l.v (omega arith)) ∙ l.invariant.1, small-step l.b-index l.v (get_or s l.b-index 0) (omega (arith, c.type_inv.s l.b-index)) l.invariant.2)
 
 pub returns : goal.returns
-returns c = let l = c.loop-i in let s = c.args.s.now in sym (number-end s l.i l.v (omega arith)) ∙ l.invariant.1
+returns c = let l = c.loop-b in let s = c.args.s.now in sym (number-end s l.b-index l.v (omega arith)) ∙ l.invariant.1

@@ -18,4 +18,4 @@ two-small (a ∷ (b ∷ (c ∷ s))) h l = absurd (omega arith)
 pub overflow_cast-result : goal.overflow_cast-result
 overflow_cast-result c =
     let s = c.args.s.now in
-    omega (arith, c.number-n.ensures, two-small s (bytes-known s c.type_inv.s) c.requires)
+    omega (arith, c.number.ensures, two-small s (bytes-known s c.type_inv.s) c.requires)

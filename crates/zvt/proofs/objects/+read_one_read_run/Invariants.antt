@@ -7,16 +7,16 @@ use Rattle.zvt.proofs.RunLaws.{run_from}
 use Rattle.zvt.proofs.objects.+read_one_read_run.Given as goal
 
 abbrev pub decreases-read_one : goal.decreases-read_one
-decreases-read_one l = length l.s.now * 2
+decreases-read_one l = length l.p.bytes.now * 2
 
 abbrev pub decreases-read_run : goal.decreases-read_run
-decreases-read_run l = length l.s.now * 2 + 1
+decreases-read_run l = length l.p.bytes.now * 2 + 1
 
 abbrev pub invariant-read_run-loop-i : goal.invariant-read_run-loop-i
 invariant-read_run-loop-i l =
-    (l.i ≤ length l.s)
+    (l.i ≤ length l.p.bytes.now)
     × (l.spare ≤ l.i)
-    × (run_answer l.left l.n l.at l.s ≡ run_from l.left l.at l.s l.objects l.i l.spare)
+    × (run_answer l.left l.n l.p.at l.p.bytes.now ≡ run_from l.left l.p.at l.p.bytes.now l.objects l.i l.spare)
 
 abbrev pub decreases-read_run-loop-i : goal.decreases-read_run-loop-i
-decreases-read_run-loop-i l = length l.s - l.i
+decreases-read_run-loop-i l = length l.p.bytes.now - l.i

@@ -1,6 +1,7 @@
 -- `zvt::told::first_in` meets its contract. Assumes nothing.
 use mathlib.Core.Path.{sym, ◌∙◌}
 use Rattle.zvt.proofs.ToldLaws.{first-none, first_plain, first-list, first-secured}
+use Rattle.std.proofs.Common.{⊎_elim}
 use Rattle.zvt.proofs.told.first_in.Goals as goal
 
 pub returns-then-s-at : goal.returns-then-s-at
@@ -12,8 +13,5 @@ returns-in-Plain c =
 
 pub returns-in-List : goal.returns-in-List
 returns-in-List c =
-    first-list _ _ c.requires (sym c.layout_of.ensures ∙ c.in-List.is)
-
-pub returns-in-Secured : goal.returns-in-Secured
-returns-in-Secured c =
-    first-secured _ _ c.requires (sym c.layout_of.ensures ∙ c.in-Secured.is)
+    ⊎_elim (λ e. first-list _ _ c.requires (sym c.layout_of.ensures ∙ e))
+    (λ e. first-secured _ _ c.requires (sym c.layout_of.ensures ∙ e)) c.in-List.is

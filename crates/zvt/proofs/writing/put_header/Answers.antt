@@ -5,6 +5,7 @@ use Prim.Native.Nat.{ℕ, ◌/◌, ◌%◌, ◌<◌, ◌≤◌}
 use native.Mathlib.Nat.{mod-eq_of_lt}
 use native.Mathlib.Omega.{arith}
 use borrow.Author.Tests.{lt-leb, le-leb}
+use Rattle.std.proofs.Common.{ap, ◌∙◌, List, get_or}
 use Rattle.zvt_rules.specs.believed.Writing.{length_bytes}
 use Rattle.zvt.specs.WritingSteps.{header_bytes}
 use Rattle.zvt.proofs.Back.{fits-as, put_as}
@@ -27,7 +28,10 @@ put-requires c =
 pub returns-then-v-lt255 : goal.returns-then-v-lt255
 returns-then-v-lt255 c =
     let a = c.args in
-    put_as (short-is a.class a.instruction a.v c.if-v-lt255.true) c.put.ensures
+    put_as
+    (ap (λ (b : List ℕ). a.class ∷ (a.instruction ∷ (get_or b 0 0 ∷ []))) c.to_le_bytes.ensures
+    ∙ short-is a.class a.instruction a.v c.if-v-lt255.true)
+    c.put.ensures
 
 pub put-requires-2 : goal.put-requires-2
 put-requires-2 c =
@@ -37,4 +41,7 @@ put-requires-2 c =
 pub returns : goal.returns
 returns c =
     let a = c.args in
-    put_as (long-is a.class a.instruction a.v c.if-v-lt255.false c.requires.0) c.put-2.ensures
+    put_as
+    (ap (λ (b : List ℕ). a.class ∷ (a.instruction ∷ (0xFF ∷ (get_or b 0 0 ∷ (get_or b 1 0 ∷ []))))) c.to_le_bytes.ensures
+    ∙ long-is a.class a.instruction a.v c.if-v-lt255.false c.requires.0)
+    c.put-2.ensures

@@ -5,6 +5,7 @@ use Prim.Native.Nat.{ℕ, ◌/◌, ◌%◌, ◌<◌, ◌≤◌}
 use native.Mathlib.Nat.{mod-eq_of_lt}
 use native.Mathlib.Omega.{arith}
 use borrow.Author.Tests.{lt-ltb, le-ltb}
+use Rattle.std.proofs.Common.{ap, ◌∙◌, List, get_or}
 use Rattle.zvt_rules.specs.believed.Writing.{len_bytes}
 use Rattle.zvt_rules.specs.Shortest.{form_for}
 use Rattle.zvt.proofs.Back.{fits-as, put_as}
@@ -31,7 +32,7 @@ put-requires c =
 
 pub returns-then-v-lt128 : goal.returns-then-v-lt128
 returns-then-v-lt128 c =
-    put_as (bare-is c.args.v c.if-v-lt128.true) c.put.ensures
+    put_as (ap (λ (b : List ℕ). get_or b 1 0 ∷ []) c.to_be_bytes.ensures ∙ bare-is c.args.v c.if-v-lt128.true) c.put.ensures
 
 pub put-requires-then-v-lt256 : goal.put-requires-then-v-lt256
 put-requires-then-v-lt256 c =
@@ -39,7 +40,8 @@ put-requires-then-v-lt256 c =
 
 pub returns-then-v-lt256 : goal.returns-then-v-lt256
 returns-then-v-lt256 c =
-    put_as (one-is c.args.v c.if-v-lt128.false c.if-v-lt256.true) c.put-then-v-lt256.ensures
+    put_as (ap (λ (b : List ℕ). 0x81 ∷ (get_or b 1 0 ∷ [])) c.to_be_bytes.ensures ∙ one-is c.args.v c.if-v-lt128.false c.if-v-lt256.true)
+    c.put-then-v-lt256.ensures
 
 pub put-requires-2 : goal.put-requires-2
 put-requires-2 c =
@@ -47,4 +49,7 @@ put-requires-2 c =
 
 pub returns : goal.returns
 returns c =
-    put_as (two_is c.args.v c.if-v-lt256.false c.requires.0) c.put-2.ensures
+    put_as
+    (ap (λ (b : List ℕ). 0x82 ∷ (get_or b 0 0 ∷ (get_or b 1 0 ∷ []))) c.to_be_bytes.ensures
+    ∙ two_is c.args.v c.if-v-lt256.false c.requires.0)
+    c.put-2.ensures
