@@ -56,6 +56,7 @@ pub(crate) fn put_command(opening: Opening, out: &mut [u8])
 }
 
 // What such bytes would open, by their instruction: the number stands where that command has it.
+#[tactic(auto, unfolding(desk_rules::specs::Openings::supposed, desk_rules::specs::Openings::window))]
 fn supposed_in(b: [u8; Opening::MOST_COMMAND]) -> Opening
     ensures { result ≡ supposed b }
 {

@@ -25,6 +25,7 @@ fn refused(number: u8) -> Result<Moved, Refusal>
 }
 
 // An opening that refers to that line: 13, 16, and the number for a line that is not there.
+#[tactic(auto, unfolding(desk_rules::specs::Course::opened_by))]
 pub(crate) fn opened(l: Lane, opening: Opening, line: Line) -> Result<Moved, Refusal>
     ensures { result ≡ opened_by l opening line }
 {
@@ -42,6 +43,7 @@ pub(crate) fn opened(l: Lane, opening: Opening, line: Line) -> Result<Moved, Ref
 }
 
 // The receipt named for a reversal, else the one told, else 0.
+#[tactic(auto, unfolding(desk_rules::specs::Lanes::receipt_by))]
 pub(crate) fn receipt_by(kind: Kind, named: u16, told: Option<u16>) -> u16
     ensures { result ≡ receipt_by kind named told }
 {
@@ -52,6 +54,7 @@ pub(crate) fn receipt_by(kind: Kind, named: u16, told: Option<u16>) -> u16
 }
 
 // The line at the end of a lane's payment.
+#[tactic(auto, unfolding(desk_rules::specs::Lanes::line_at))]
 pub(crate) fn ending_line(lane: u8, l: Lane, outcome: Outcome, settled: u64, code: u8) -> Line
     ensures { result ≡ line_at lane l outcome settled code }
 {
@@ -67,6 +70,7 @@ pub(crate) fn ending_line(lane: u8, l: Lane, outcome: Outcome, settled: u64, cod
 }
 
 // Code 00: approved for the amount told. Unclear where none was told, and for a reversal at another amount than it asked for.
+#[tactic(auto, unfolding(desk_rules::specs::Course::settled_as))]
 fn settled_as(kind: Kind, asked: u64, told: Option<u64>) -> Moved
     ensures { Ok result ≡ settled_as kind asked told }
 {
@@ -80,6 +84,7 @@ fn settled_as(kind: Kind, asked: u64, told: Option<u64>) -> Moved
 }
 
 // 06 0F: the remembered code decides.
+#[tactic(auto, unfolding(desk_rules::specs::Course::completed_by))]
 fn completed(l: Lane) -> Moved
     ensures { Ok result ≡ completed_by l l.status.code }
 {
@@ -91,6 +96,7 @@ fn completed(l: Lane) -> Moved
 }
 
 // 06 1E: the first body byte is the code. An empty body ends where it starts.
+#[tactic(auto, unfolding(desk_rules::specs::Course::aborted_by))]
 fn aborted(start: usize, first: Option<u8>) -> Result<Moved, Refusal>
     ensures { result ≡ aborted_by start first }
 {
@@ -102,6 +108,7 @@ fn aborted(start: usize, first: Option<u8>) -> Result<Moved, Refusal>
 }
 
 // 04 0F: with a code it replaces the remembered status.
+#[tactic(auto, unfolding(crate::specs::Hear::reported_as, desk_rules::specs::Course::reported_by))]
 fn reported(l: Lane, status: Status) -> Moved
     ensures { Ok result ≡ reported_as l status }
 {
@@ -112,6 +119,7 @@ fn reported(l: Lane, status: Status) -> Moved
 }
 
 // What a message that was read does to a running lane, by what its pair says.
+#[tactic(auto, unfolding(crate::specs::Hear::moved_for))]
 fn moved_by(l: Lane, said: Said, start: usize, t: ToldBody) -> Result<Moved, Refusal>
     ensures { result ≡ moved_for said l start t }
 {
@@ -136,6 +144,7 @@ fn said_by(class: u8, instruction: u8) -> Option<Said>
     }
 }
 
+#[tactic(auto, unfolding(crate::specs::Hear::waiting_moved, desk_rules::specs::Course::heard_waiting, crate::specs::Hear::header_by))]
 fn heard_waiting(l: Lane, h: Heard) -> Result<Moved, Refusal>
     ensures { result ≡ waiting_moved l h }
 {
@@ -146,6 +155,7 @@ fn heard_waiting(l: Lane, h: Heard) -> Result<Moved, Refusal>
     }
 }
 
+#[tactic(auto, unfolding(crate::specs::Hear::running_moved, crate::specs::Hear::running_for, crate::specs::Hear::after_told))]
 fn heard_running(l: Lane, h: Heard) -> Result<Moved, Refusal>
     ensures { result ≡ running_moved l h }
 {
@@ -167,6 +177,7 @@ pub(crate) fn heard(l: Lane, s: &[u8]) -> Result<Moved, Refusal>
 }
 
 // A running lane's message is answered with 80 00 00, a waiting one's with nothing.
+#[tactic(auto, unfolding(desk_rules::specs::Course::answered))]
 pub(crate) fn reply(phase: Phase) -> &'static [u8]
     ensures { result.now ≡ answered phase }
 {

@@ -25,6 +25,7 @@ use questions::{booked, command_size, gains, kind_of, losses, refers_to, within_
 use zvt_rules::Refusal;
 
 // Refused with a number that names no place.
+#[tactic(auto, unfolding(desk_rules::specs::Memory::refused_answer))]
 fn refused(desk: Desk, number: u8) -> Answer
     ensures { result ≡ refused_answer desk (unplaced number) }
 {
@@ -44,7 +45,7 @@ pub fn open(desk: Desk, lane: u8, opening: Opening, out: &mut [u8]) -> Answer
     if Lane::COUNT <= lane {
         return refused(desk, Refusal::NO_SUCH_LANE);
     }
-    let l = desk.lanes[lane as usize];
+    let l = desk.lanes[usize::from(lane)];
     let line = last_line(desk.book, lane, refers_to(opening));
     let m = match hear::opened(l, opening, line) {
         Ok(m) => m,
@@ -87,7 +88,7 @@ pub fn terminal(desk: Desk, lane: u8, s: &[u8], out: &mut [u8]) -> Answer
     if Lane::COUNT <= lane {
         return refused(desk, Refusal::NO_SUCH_LANE);
     }
-    let l = desk.lanes[lane as usize];
+    let l = desk.lanes[usize::from(lane)];
     let m = match hear::heard(l, s) {
         Ok(m) => m,
         Err(r) => {
@@ -125,7 +126,7 @@ pub fn link_lost(desk: Desk, lane: u8) -> Answer
     if Lane::COUNT <= lane {
         return refused(desk, Refusal::NO_SUCH_LANE);
     }
-    if desk.lanes[lane as usize].phase == Phase::Idle {
+    if desk.lanes[usize::from(lane)].phase == Phase::Idle {
         return refused(desk, Refusal::LANE_IDLE);
     }
     Answer {
@@ -159,6 +160,7 @@ pub fn net(desk: Desk) -> i64
 }
 
 // Line number k of the book, counted from 0.
+#[tactic(auto, unfolding(desk_rules::specs::Memory::line_answer))]
 pub fn line_at(desk: Desk, k: usize) -> Option<Line>
     requires { Valid desk }
     ensures { result ≡ line_answer k (lines_of_desk desk) }
@@ -167,12 +169,13 @@ pub fn line_at(desk: Desk, k: usize) -> Option<Line>
 }
 
 // A lane as it stands.
+#[tactic(auto, unfolding(desk_rules::specs::Memory::lane_answer))]
 pub fn lane_at(desk: Desk, lane: u8) -> Result<Lane, Refusal>
     requires { Valid desk }
     ensures { result ≡ lane_answer lane desk.lanes }
 {
     desk.lanes
-        .get(lane as usize)
+        .get(usize::from(lane))
         .copied()
         .ok_or(Refusal::unplaced(Refusal::NO_SUCH_LANE))
 }

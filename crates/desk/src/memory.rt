@@ -67,11 +67,12 @@ pub(crate) fn all_idle(d: Desk) -> bool
 }
 
 // The lane's payment ends, with that line if it is booked, and the lane is idle.
+#[tactic(auto, unfolding(desk_rules::specs::Memory::ended_desk))]
 pub(crate) fn ended(mut d: Desk, lane: u8, line: Line) -> Desk
     requires { Sized d lane × BookedFits d line }
     ensures { result ≡ ended_desk d lane line }
 {
-    let at = lane as usize;
+    let at = usize::from(lane);
     d.lanes[at] = Lane::idle();
     if booked(line.kind) {
         d.book = with_line(d.book, line);
@@ -84,7 +85,7 @@ pub(crate) fn moved(mut d: Desk, lane: u8, m: Moved) -> Desk
     requires { Sized d lane × LineFits d lane m }
     ensures { result ≡ moved_desk d lane (Ok m) }
 {
-    let at = lane as usize;
+    let at = usize::from(lane);
     match m {
         Moved::Stays => d,
         Moved::Becomes(l) => {

@@ -115,6 +115,7 @@ fn is_sold(line: Line) -> bool
 }
 
 // A line of that lane that the reference looks at.
+#[tactic(auto, unfolding(desk_rules::specs::Openings::concerns))]
 pub(crate) fn concerns(line: Line, lane: u8, reference: Option<u16>) -> bool
     ensures { result ≡ concerns lane reference line }
 {

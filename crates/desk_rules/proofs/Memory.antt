@@ -22,7 +22,7 @@ use Rattle.desk_rules.specs.declared.Book.{Book}
 use Rattle.desk_rules.specs.declared.Desk.{Desk}
 use Rattle.desk_rules.specs.declared.Answer.{Answer}
 use Rattle.desk_rules.specs.Numbers.{lane_count, book_lines}
-use Rattle.desk_rules.specs.Kinds.{booked, is_idle}
+use Rattle.desk_rules.specs.Kinds.{booked}
 use Rattle.desk_rules.specs.Lanes.{blank_line, idle_lane, line_at, line_taken}
 use Rattle.desk_rules.specs.Course.{Call, lane_of, needs_line, NumbersFit, moves, writes}
 use Rattle.desk_rules.specs.Runs.{one_opened}
@@ -49,12 +49,6 @@ replicate-all P (suc n) d p zero = p
 replicate-all P (suc n) d p (suc k) = replicate-all P n d p k
 
 -- ---- the lines that are kept for lanes
-
-pub line-taken-most : (l : Lane) → line_taken l ≤ 1
-unfolding line_taken
-line-taken-most l =
-    pick-test (λ (n : ℕ). n ≤ 1) (is_idle l.phase) (λ _. omega arith)
-    (λ _. pick-test (λ (n : ℕ). n ≤ 1) (booked l.kind) (λ _. omega arith) (λ _. omega arith))
 
 line-taken-in : (ls : List Lane) (i : ℕ) → line_taken (get_or ls i idle_lane) ≤ lines_taken ls
 unfolding lines_taken line_taken

@@ -91,7 +91,7 @@ fn refused_line(count: u64, number: u8, at: usize, out: &mut [u8]) -> usize
 {
     let mut to = add_end(count, at, out);
     to = add_all(b" refused ", to, out);
-    add_decimal(number as u64, to, out)
+    add_decimal(u64::from(number), to, out)
 }
 
 // The line of the message that the rest of an input begins with, after count messages, or the last line: where its text ends, and, where
@@ -101,7 +101,7 @@ fn next_line(rest: &[u8], count: u32, at: usize, out: &mut [u8]) -> (usize, Opti
     ensures next { result.1 ≡ (next_of count rest.now).1 }
     ensures within { Within rest.now result.1 }
 {
-    let listed = count as u64;
+    let listed = u64::from(count);
     if LIMIT < rest.len() {
         return (refused_line(listed, Refusal::TOO_LONG, at, out), None);
     }

@@ -30,7 +30,7 @@ pub fn refused(r: Refusal, out: &mut [u8]) -> usize
 {
     let place = r.place;
     let mut to = add_all(b"refused", 0, out);
-    to = add_number(r.number as u64, to, out);
+    to = add_number(u64::from(r.number), to, out);
     match place {
         None => add(b'\n', to, out),
         Some(p) => counted(b" at", p as u64, to, out),

@@ -61,11 +61,11 @@ fn add_line(number: u64, l: Line, at: usize, out: &mut [u8]) -> usize
     ensures long { length (line_text number l) ≤ 76 }
 {
     let mut to = add_decimal(number, at, out);
-    to = add_number(l.lane as u64, to, out);
+    to = add_number(u64::from(l.lane), to, out);
     to = add_word(kind_text(l.kind), to, out);
     to = add_number(l.asked, to, out);
     to = add_number(l.settled, to, out);
-    to = add_number(l.receipt as u64, to, out);
+    to = add_number(u64::from(l.receipt), to, out);
     add_ending(l.outcome, l.code, to, out)
 }
 
@@ -102,7 +102,7 @@ pub fn replayed(desk: Desk, place: usize, ending: Result<(), Refusal>, out: &mut
     to = add_number(place as u64, to, out);
     match ending {
         Ok(()) => add_all(b" ok\n", to, out),
-        Err(f) => counted(b" refused", f.number as u64, to, out),
+        Err(f) => counted(b" refused", u64::from(f.number), to, out),
     }
 }
 
@@ -133,7 +133,7 @@ fn add_receipt(r: Option<u16>, at: usize, out: &mut [u8]) -> usize
 {
     match r {
         None => add_all(b" -", at, out),
-        Some(n) => add_number(n as u64, at, out),
+        Some(n) => add_number(u64::from(n), at, out),
     }
 }
 
@@ -163,7 +163,7 @@ fn add_payment(l: Lane, at: usize, out: &mut [u8]) -> usize
 {
     let mut to = add_word(kind_text(l.kind), at, out);
     to = add_number(l.asked, to, out);
-    add_number(l.named as u64, to, out)
+    add_number(u64::from(l.named), to, out)
 }
 
 // A lane, with its number.
@@ -172,7 +172,7 @@ fn add_lane(lane: u8, l: Lane, at: usize, out: &mut [u8]) -> usize
     ensures added { text result out.new ≡ add_all (lane_text lane l) (text at out.old) }
     ensures long { length (lane_text lane l) ≤ 76 }
 {
-    let mut to = add_decimal(lane as u64, at, out);
+    let mut to = add_decimal(u64::from(lane), at, out);
     match l.phase {
         Phase::Idle => add_all(b" idle\n", to, out),
         Phase::Waiting => {

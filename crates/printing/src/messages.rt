@@ -21,7 +21,7 @@ fn message(s: &[u8], m: Outline, out: &mut [u8]) -> usize
     let mut to = add_hex(m.class, 0, out);
     to = add_hex(m.instruction, to, out);
     to = listing::add_size(m, to, out);
-    to = add_number(m.objects as u64, to, out);
+    to = add_number(u64::from(m.objects), to, out);
     listing::add_ids(s, to, out)
 }
 

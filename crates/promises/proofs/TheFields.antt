@@ -100,11 +100,8 @@ module _ (s : List ℕ) (b : Bytes s) where
 
     -- The password is no field: it lies before every part, and no part is at the message's start.
     pub behind-password : (ids : List ℕ) → (0 < p.from) × ((q : Span) → (places_answer ids s).password ≡ Some q → q.to < p.from)
-    unfolding places_answer StandsBy Stands
-    behind-password ids =
-        let (k, f, st, i) = stands in
-        let front = found.in_body s b st.0 id p st.4 stands in
-        (omega (arith, front.0), found.behind-password s b id p stands)
+    unfolding places_answer
+    behind-password ids = found.behind-password s b id p stands
 
     -- Two questions about one message give parts that do not overlap: an id stands between them at least.
     pub parts-apart : (other : ℕ) (q : Span) → (id ≡ other → ⊥) → field_answer other s ≡ Ok (Some q)
@@ -136,10 +133,11 @@ module _ (s : List ℕ) (b : Bytes s) where
     pub no-place-found : (get_or (places_answer ids s).fields j None ≡ None) ↔ ((p : Span) → StandsBy s (get_or ids j 0) p → ⊥)
     no-place-found = rw (heard.place-named ids s j h) (heard.nowhere-exactly (get_or ids j 0) s b)
 
-  -- The password is placed where it lies, at the start of the body,
+  -- The password is placed where it lies, at the start of the body, and nowhere if it is empty,
   pub password-found : (ids : List ℕ) (m : Message) (password : List ℕ) (fs : List Field) → Is s m → m.body ≡ listed password fs
-      → (password ≡ [] → ⊥)
-      → (p : Span) × ((places_answer ids s).password ≡ Some p) × (part p.from p.to s ≡ password) × (p.from ≡ header_size m.long)
+      → (password ≡ [] → (places_answer ids s).password ≡ None)
+      × ((password ≡ [] → ⊥)
+      → (p : Span) × ((places_answer ids s).password ≡ Some p) × (part p.from p.to s ≡ password) × (p.from ≡ header_size m.long))
   password-found ids m password fs is q = heard.password-place ids s m password fs b is q
 
   -- and has no place exactly where the message has none.

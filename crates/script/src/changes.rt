@@ -36,7 +36,7 @@ fn add_range(first: u8, last: u8, v: Result<(), u8>, at: usize, out: &mut [u8]) 
         Ok(()) => add_all(b":ok", to, out),
         Err(n) => {
             let end = add(b':', to, out);
-            add_decimal(n as u64, end, out)
+            add_decimal(u64::from(n), end, out)
         }
     }
 }
@@ -88,7 +88,7 @@ fn seen_of(due: Block, s: &mut [u8]) -> u64
         let at = i / OF_BYTE;
         let was = s[at];
         s[at] = changed(was, (i % OF_BYTE) as u8);
-        seen += is_seen(due, s) as u64;
+        seen += u64::from(is_seen(due, s));
         s[at] = was;
     }
     seen

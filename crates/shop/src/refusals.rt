@@ -46,7 +46,7 @@ fn say_meaning(number: u8) {
 // A refusal: its number, the place in the message where it names one, and what it means.
 pub fn tell(r: Refusal) {
     say(b"shop: refused ");
-    io::print_decimal(STDERR_FILENO, r.number as u64);
+    io::print_decimal(STDERR_FILENO, u64::from(r.number));
     if let Some(p) = r.place {
         say(b" at ");
         io::print_decimal(STDERR_FILENO, p as u64);

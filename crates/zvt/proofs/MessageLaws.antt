@@ -27,7 +27,6 @@ use Rattle.zvt_rules.proofs.MessageShort.{body-shorter, body-exactly}
 use Rattle.zvt_rules.specs.declared.Places.{Places}
 use Rattle.zvt_rules.specs.Listed.{listed_message, named_listed, asked_of, span_of, spans_of, password_in, password_span}
 use Rattle.zvt_rules.specs.declared.Header.{Header}
-use Rattle.zvt_rules.specs.declared.Outline.{Outline}
 use Rattle.zvt.specs.declared.objects.Tally.{Tally}
 use Rattle.zvt_rules.specs.Answers.{header_in, outline_of}
 use Rattle.zvt.specs.HeaderSteps.{in_code}
@@ -38,10 +37,6 @@ use Rattle.zvt.proofs.HeaderLaws.{as-got, as-stopped}
 use Rattle.zvt.proofs.RunLaws.{part-got, part-stopped}
 
 -- ---- whether every length was shortest
-abbrev pub described_as : Header → Tally → Bool → Outline
-described_as h t shortest =
-    record { class = h.class; instruction = h.instruction; start = h.start; length = h.length; objects = t.objects; shortest = shortest }
-
 -- a body takes no byte fewer exactly where it is shortest
 spare-short : (l : Layout) (b : Body) → LayoutOk l b → eqb (spare_body b) 0 ≡ is_short_body b
 unfolding spare_body

@@ -33,9 +33,6 @@ use Rattle.zvt.specs.ValueSteps.{Sized, value_at, status_pair}
 use Rattle.zvt.proofs.AskingLaws.{value-lies}
 
 -- ---- a value by its place
-pub sized-length : (k : ℕ) (p : Span) (s : List ℕ) → Sized k (Some p) s → length (part p.from p.to s) ≡ k
-sized-length k p s h = let (inside, size) = h p refl in omega (arith, size, part_length s p.from p.to (omega arith) inside)
-
 -- of a field of a fixed size
 abbrev pub Placed : ℕ → Option Span → List ℕ → Found → Bool → Type 0
 Placed k place s v digits =

@@ -66,6 +66,7 @@ pub(crate) fn read_body(p: Part, layout: Layout, ids: [u8; 4]) -> Result<Located
 }
 
 // The body that a header of s announces, and where its password and the values of the four fields asked for lie.
+#[tactic(auto, using(crate::proofs::BodyLaws::announced))]
 pub(crate) fn body_in(s: &[u8], h: Header, ids: [u8; 4]) -> Result<Located<Places>, Refusal>
     requires { (h.start ≤ 5) × (h.length ≤ most_body) × (h.start + h.length ≤ length s.now) }
     ensures { result ≡ body_found ids h s.now }
@@ -81,6 +82,7 @@ pub(crate) fn body_in(s: &[u8], h: Header, ids: [u8; 4]) -> Result<Located<Place
 }
 
 // A message by its header and the tally of its body.
+#[tactic(auto, unfolding(crate::specs::BodySteps::described))]
 pub(crate) fn outline_of(h: Header, t: Tally) -> Outline
     ensures { result ≡ described h t }
 {

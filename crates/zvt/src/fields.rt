@@ -141,7 +141,7 @@ pub(crate) fn read_list(p: Part, ids: [u8; 4]) -> Result<Located<[Option<Span>; 
     // Each field has its own size: no iterator steps so.
     while i < p.bytes.len() {
         let id = p.bytes[i];
-        let mark = id as usize;
+        let mark = usize::from(id);
         let rest = p.behind(i);
         let field = read_field(rest, objects, seen[mark])?;
         let t = field.tally;

@@ -53,7 +53,7 @@ pub(crate) fn holds_digits(id: u8) -> bool
 pub(crate) fn layout_of(class: u8, instruction: u8) -> Layout
     ensures { result ≡ layout_of class instruction }
 {
-    let pair = class as usize * 256 + instruction as usize;
+    let pair = usize::from(class) * 256 + usize::from(instruction);
     match pair {
         0x0601 | 0x040F | 0x060F | 0x06D3 => Layout::List,
         0x0621 | 0x0630 | 0x0631 | 0x0650 => Layout::Secured,

@@ -26,6 +26,7 @@ fn first_in(s: &[u8], m: Outline) -> Option<u8>
     }
 }
 
+#[tactic(auto, using(crate::proofs::ToldLaws::told_is))]
 fn told_in(s: &[u8], m: Outline, fields: [Option<Span>; 4]) -> ToldBody
     requires { Was s.now m × FoundIn status_ids fields s.now }
     ensures { Tells result s.now }

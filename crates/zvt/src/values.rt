@@ -15,6 +15,7 @@ fn code_at(s: &[u8], place: Option<Span>) -> Option<u8>
     Some(s[at])
 }
 
+#[tactic(auto, unfolding(zvt_rules::specs::Values::amount_of))]
 fn amount_at(s: &[u8], place: Option<Span>) -> Option<u64>
     requires { Sized 6 place s.now }
     ensures { result ≡ amount_of (value_at place s.now) }
@@ -23,6 +24,7 @@ fn amount_at(s: &[u8], place: Option<Span>) -> Option<u64>
     Some(number(&s[from..to]))
 }
 
+#[tactic(auto, unfolding(zvt_rules::specs::Values::receipt_of))]
 fn receipt_at(s: &[u8], place: Option<Span>) -> Option<u16>
     requires { SizedDigits 2 place s.now }
     ensures { result ≡ receipt_of (value_at place s.now) }

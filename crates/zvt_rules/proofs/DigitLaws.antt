@@ -79,9 +79,6 @@ pub number-below : (s : List ℕ) → Decimals s → number_of s < 100 ^ length 
 unfolding number_of
 number-below s h = omega (arith, number-from 0 s h)
 
-pub number_fits : (k : ℕ) (s : List ℕ) (n : ℕ) → Decimals s → length s ≡ k → n ≡ number_of s → n < 100 ^ k
-number_fits k s n d l e = rw (e, ← l) (number-below s d)
-
 -- ---- one byte after the other: the first i bytes gave v
 pub number_step : (s : List ℕ) (i v : ℕ) → i < length s
     → decimal_from v (drop i s) ≡ decimal_from (v * 100 + (get_or s i 0 / 16 * 10 + get_or s i 0 % 16)) (drop (i + 1) s)

@@ -394,10 +394,12 @@ module _ (s : List ℕ) (b : Bytes s) where
         omega (arith, ap length w, length-append front (field_value f ++ list_bytes behind), length-append (field_value f) (list_bytes behind), length-append front (field_value f)),
       )
 
-  pub behind-password : (id : ℕ) (p : Span) → StandsBy s id p → (q : Span) → password_span (read_of s) ≡ Some q → q.to < p.from
+  pub behind-password : (id : ℕ) (p : Span) → StandsBy s id p → (0 < p.from) × ((q : Span) → password_span (read_of s) ≡ Some q → q.to < p.from)
   unfolding StandsBy Stands password_span
   behind-password id p (k, f, st, i) =
-      let is = st.4 in rw ((stands_read s b st.0).0 is) (behind-start k f p st st.0 is st.0.body refl).0
+      let is = st.4 in
+      let front = in_body st.0 id p is (k, f, st, i) in
+      (omega (arith, front.0), rw ((stands_read s b st.0).0 is) (behind-start k f p st st.0 is st.0.body refl).0)
 
 -- ---- the ids of a list, in their order
 ids-split : (fs : List Field) (at k : ℕ) → k < length (ids_listed (listed_from at fs))

@@ -145,17 +145,21 @@ part-there at password rest s e =
     let size : at + length password - at ≡ length password = omega arith in
     rw (size, e) (take-append_seam password rest)
 
--- a password lies at the start of the body
+-- a password lies at the start of the body, and none lies nowhere
 pub password-place : (ids s : List ℕ) (m : Message) (password : List ℕ) (fs : List Field) → Bytes s → Is s m → m.body ≡ listed password fs
-    → (password ≡ [] → ⊥)
-    → (p : Span) × ((places_answer ids s).password ≡ Some p) × (part p.from p.to s ≡ password) × (p.from ≡ header_size m.long)
+    → (password ≡ [] → (places_answer ids s).password ≡ None)
+    × ((password ≡ [] → ⊥)
+    → (p : Span) × ((places_answer ids s).password ≡ Some p) × (part p.from p.to s ≡ password) × (p.from ≡ header_size m.long))
 unfolding places_answer password_span password_in message_bytes body_bytes
-password-place ids s m [] fs b is q n = absurd (n refl)
-password-place ids s m (d ∷ password) fs b is q n =
+password-place ids s m [] fs b is q = (λ e. rw ((stands_read s b m).0 is, q) refl, λ n. absurd (n refl))
+password-place ids s m (d ∷ password) fs b is q =
     let at = header_size m.long in
     let w : drop at s ≡ (d ∷ password) ++ list_bytes fs = rw (← is.0, q) (behind m.long m.class m.instruction _ ((d ∷ password) ++ list_bytes fs)) in (
-      record { from = at; to = at + length (d ∷ password) },
-      rw ((stands_read s b m).0 is, q),
-      part-there at (d ∷ password) (list_bytes fs) s w,
-      refl,
+      λ e. never cc,
+      λ n. (
+        record { from = at; to = at + length (d ∷ password) },
+        rw ((stands_read s b m).0 is, q),
+        part-there at (d ∷ password) (list_bytes fs) s w,
+        refl,
+      ),
     )

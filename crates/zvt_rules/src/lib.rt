@@ -8,7 +8,7 @@ ghost use Rattle.zvt_rules.specs.Reading.{unplaced};
 
 // R31: "A refusal answers its number and, where it names one (R46), its place, and nothing else." A place in a message is counted from 0
 // at its start. The number is a number: the second writing says it so, and spent fuel has one that no refusal has (`never-spent`).
-#[derive(Clone, Copy, PartialEq, Eq)]
+#[derive(Clone, Copy)]
 pub struct Refusal {
     pub number: u8,
     pub place: Option<usize>,

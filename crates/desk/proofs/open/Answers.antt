@@ -34,7 +34,7 @@ moves-to d lane o r line m e f g =
     sym (g ∙ ap (opened_by (lane_at d.lanes lane) o) found)
 
 lane-moves : (c : In-Ok) → move_of c.args.desk (opening c.args.lane c.args.opening) ≡ Ok c.in-Ok.m
-lane-moves c = moves-to c.args.desk c.args.lane c.args.opening _ _ _ c.refers_to.ensures c.last_line-line.ensures c.in-Ok.ensures
+lane-moves c = moves-to c.args.desk c.args.lane c.args.opening _ _ _ c.refers_to.ensures c.last_line-line.ensures (rw c.from.ensures at c.in-Ok.ensures)
 
 passes : (c : In-Ok) → Passes (move_of c.args.desk (opening c.args.lane c.args.opening))
 passes c = rw (lane-moves c) (passes-ok c.in-Ok.m)
@@ -63,7 +63,7 @@ unfolding lane_of NumbersFit refused_answer
 returns-in-Err c =
     let a = c.args in
     let call = opening a.lane a.opening in
-    let m = moves-to a.desk a.lane a.opening _ _ _ c.refers_to.ensures c.last_line-line.ensures c.in-Err.ensures in
+    let m = moves-to a.desk a.lane a.opening _ _ _ c.refers_to.ensures c.last_line-line.ensures (rw c.from.ensures at c.in-Err.ensures) in
     let r = refused_as a.desk c.requires call tt a.out.now _ _ (not-moved a.desk call _ c.if-lane-ge-COUNT.false _ m) refl in
     record { answer = r.0; lent = r.1.0; valid = r.1.1 }
 

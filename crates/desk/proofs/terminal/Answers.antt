@@ -15,8 +15,11 @@ use Rattle.zvt.proofs.Slices.{bytes-known}
 use Rattle.desk.proofs.terminal.Goals as goal
 use Rattle.desk.proofs.terminal.Goals.{In-Ok}
 
+heard-as : (c : In-Ok) → heard (lane_at c.args.desk.lanes c.args.lane) c.args.s.now ≡ Ok c.in-Ok.m
+heard-as c = sym (rw c.from.ensures at c.in-Ok.ensures)
+
 passes : (c : In-Ok) → Passes (heard (lane_at c.args.desk.lanes c.args.lane) c.args.s.now)
-passes c = rw (sym c.in-Ok.ensures) (passes-ok c.in-Ok.m)
+passes c = rw (heard-as c) (passes-ok c.in-Ok.m)
 
 -- with room for the reply the message is accepted
 accepts : (c : In-Ok) → let a = c.args in length (answered (lane_at a.desk.lanes a.lane).phase) ≤ length a.out.now
@@ -37,7 +40,7 @@ unfolding lane_of moves NumbersFit refused_answer
 returns-in-Err c =
     let a = c.args in
     let call = message a.lane a.s.now in
-    let e = not-moved a.desk call _ c.if-lane-ge-COUNT.false _ (sym c.in-Err.ensures) in
+    let e = not-moved a.desk call _ c.if-lane-ge-COUNT.false _ (sym (rw c.from.ensures at c.in-Err.ensures)) in
     let r = refused_as a.desk c.requires call (bytes-known _ c.type_inv.s) a.out.now _ _ e refl in
     record { answer = r.0; lent = r.1.0; valid = r.1.1 }
 
@@ -47,7 +50,7 @@ returns-then-out-reply c =
     let a = c.args in
     let call = message a.lane a.s.now in
     let p = passes (goal.at.returns-then-out-reply c).In-Ok in
-    let e = no_room a.desk call _ c.if-lane-ge-COUNT.false p refl (rw (ap length c.reply-reply.ensures) at c.if-out-reply.true) in
+    let e = no_room a.desk call _ c.if-lane-ge-COUNT.false p refl (rw (ap length c.reply-reply.ensures, c.from.ensures) at c.if-out-reply.true) in
     let r = refused_as a.desk c.requires call (bytes-known _ c.type_inv.s) a.out.now _ (unplaced 11) e c.refused-then-out-reply.ensures in
     record { answer = r.0; lent = r.1.0; valid = r.1.1 }
 
@@ -56,18 +59,21 @@ unfolding lane_of moves
 moved-requires c =
     let a = c.args in
     let v = c.requires in
-    let t = taken-line a.desk (message a.lane a.s.now) _ v (accepts (goal.at.moved-requires c).In-Ok (rw (ap length c.reply-reply.ensures) at c.if-out-reply.false)) in
-    (record { lane = c.if-lane-ge-COUNT.false; lanes = v.lanes; lines = v.lines }, rw c.in-Ok.ensures t)
+    let heard-ok = (goal.at.moved-requires c).In-Ok in
+    let t = taken-line a.desk (message a.lane a.s.now) _ v (accepts heard-ok (rw (ap length c.reply-reply.ensures, c.from.ensures) at c.if-out-reply.false)) in
+    (record { lane = c.if-lane-ge-COUNT.false; lanes = v.lanes; lines = v.lines }, rw (heard-as heard-ok) at t)
 
 pub returns : goal.returns
 unfolding lane_of moves writes NumbersFit
 returns c =
     let a = c.args in
     let k = c.copy-size.ensures in
-    let fits = rw (ap length c.reply-reply.ensures) at c.if-out-reply.false in
+    let heard-ok = (goal.at.returns c).In-Ok in
+    let said = rw c.from.ensures at c.reply-reply.ensures in
+    let fits = rw (ap length said) at c.if-out-reply.false in
     let size : c.copy-size.result ≡ length c.reply-reply.result.now = omega arith in
     let r = taken_as a.desk c.requires (message a.lane a.s.now) (bytes-known _ c.type_inv.s) a.out.now (record { reply = Ok c.copy-size.result; desk = c.moved.result }) _
-    (accepts (goal.at.returns c).In-Ok fits)
-    (written (size ∙ ap length c.reply-reply.ensures) (c.moved.ensures ∙ ap (moved_desk a.desk a.lane) c.in-Ok.ensures))
-    (copied-front _ _ _ _ _ c.reply-reply.ensures fits k.size k.bytes) in
+    (accepts heard-ok fits)
+    (written (size ∙ ap length said) (c.moved.ensures ∙ ap (moved_desk a.desk a.lane) (sym (heard-as heard-ok))))
+    (copied-front _ _ _ _ _ said fits k.size k.bytes) in
     record { answer = r.0; lent = r.1.0; valid = r.1.1 }

@@ -26,7 +26,7 @@ returns-in-Ok c =
     let ids = ids-told rest _ c.read_first-first.ensures.lent.0 c.read_first-first.ensures.lent.1 in
     rw (next-message rest known _ _ message c.args.count (omega arith) (λ k. omega arith))
     record {
-      line = rw ids at c.message_line-end.ensures;
+      line = rw (ids, c.from-listed.ensures) at c.message_line-end.ensures;
       next = search rules;
       within = (next-some-bytes rest known _ _ message, next-within rest known _ _ message, omega arith);
     }

@@ -6,4 +6,4 @@ use Rattle.listing.proofs.refused_line.Goals as goal
 pub returns : goal.returns
 unfolding refused_text
 returns c =
-    both _ _ _ c.add_end-to.ensures (both _ _ _ c.add_all-to.ensures c.add_decimal.ensures)
+    both _ _ _ c.add_end-to.ensures (both _ _ _ c.add_all-to.ensures (rw c.from.ensures at c.add_decimal.ensures))

@@ -69,12 +69,6 @@ returns-then-size-eq0 c =
     (name-empty _ (bytes g) (status g) _ f _ (named (goal.at.returns-then-size-eq0 c).After-find-size) c.if-size-eq0.true) in
     record { bytes = h.0; place = h.1 }
 
-pub overflow_add-to : goal.overflow_add-to
-overflow_add-to c = let h = inside (goal.at.overflow_add-to c).After-find-size in omega arith
-
-pub slice_bounds-result-end : goal.slice_bounds-result-end
-slice_bounds-result-end c = let h = inside (goal.at.slice_bounds-result-end c).After-find-size in omega arith
-
 pub returns-in-Ok-None : goal.returns-in-Ok-None
 returns-in-Ok-None c =
     let a = c.args in

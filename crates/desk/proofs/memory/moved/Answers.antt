@@ -8,7 +8,7 @@ pub ended-requires : goal.ended-requires
 ended-requires c =
     let e = c.in-Ends in (
       c.requires.0,
-      λ b. booked-fits c.args.d c.args.lane e.outcome e.settled e.code (rw e.is at c.requires.1) (rw c.ending_line-line.ensures at b),
+      λ b. booked-fits c.args.d c.args.lane e.outcome e.settled e.code (rw e.is at c.requires.1) (rw (c.ending_line-line.ensures, c.from-at.ensures) at b),
     )
 
 pub returns-in-Stays : goal.returns-in-Stays

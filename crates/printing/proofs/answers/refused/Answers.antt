@@ -11,11 +11,11 @@ unfolding refused_text
 returns-in-None c =
     rw c.in-None.is
     (printed 64 _ _ (refused-long _ (omega arith))
-    (both _ _ _ c.add_all-to.ensures (both _ _ _ c.add_number-to.ensures c.add.ensures)))
+    (both _ _ _ c.add_all-to.ensures (both _ _ _ (rw c.from.ensures at c.add_number-to.ensures) c.add.ensures)))
 
 pub returns-in-Some : goal.returns-in-Some
 unfolding refused_text
 returns-in-Some c =
     rw c.in-Some.is
     (printed 64 _ _ (refused-at-long _ _ (omega arith) (omega arith))
-    (both _ _ _ c.add_all-to.ensures (both _ _ _ c.add_number-to.ensures c.counted.ensures)))
+    (both _ _ _ c.add_all-to.ensures (both _ _ _ (rw c.from.ensures at c.add_number-to.ensures) c.counted.ensures)))

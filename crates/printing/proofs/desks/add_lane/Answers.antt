@@ -14,7 +14,7 @@ unfolding lane_text
 returns-in-Idle c =
     rw c.in-Idle.is
     record {
-      added = both _ _ _ c.add_decimal-to.ensures c.add_all.ensures;
+      added = both _ _ _ (rw c.from.ensures at c.add_decimal-to.ensures) c.add_all.ensures;
       long = idle-long c.args.lane c.args.l c.requires;
     }
 
@@ -25,7 +25,7 @@ returns-in-Waiting c =
     rw c.in-Waiting.is
     record {
       added =
-          both _ _ _ c.add_decimal-to.ensures
+          both _ _ _ (rw c.from.ensures at c.add_decimal-to.ensures)
           (both _ _ _ c.add_all-to.ensures (payment l _ _ c.add_payment-to.ensures.added c.add.ensures));
       long = waiting-long c.args.lane l c.requires c.add_payment-to.ensures.long;
     }
@@ -39,7 +39,7 @@ returns-in-Running c =
     rw c.in-Running.is
     record {
       added =
-          both _ _ _ c.add_decimal-to.ensures
+          both _ _ _ (rw c.from.ensures at c.add_decimal-to.ensures)
           (both _ _ _ c.add_all-to-in-Running.ensures
           (payment l _ _ c.add_payment-to-in-Running.ensures.added
           (both _ _ _ c.add-to.ensures (alike _ _ _ (ap status_text c.remembered.ensures) c.add_status.ensures.added))));

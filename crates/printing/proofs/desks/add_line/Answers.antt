@@ -12,9 +12,9 @@ returns c =
     record {
       added =
           both _ _ _ c.add_decimal-to.ensures
-          (both _ _ _ c.add_number-to.ensures
+          (both _ _ _ (rw c.from.ensures at c.add_number-to.ensures)
           (both _ _ _ (rw c.kind_text.ensures at c.add_word-to.ensures)
           (both _ _ _ c.add_number-to-2.ensures
-          (both _ _ _ c.add_number-to-3.ensures (both _ _ _ c.add_number-to-4.ensures c.add_ending.ensures)))));
+          (both _ _ _ c.add_number-to-3.ensures (both _ _ _ (rw c.from-2.ensures at c.add_number-to-4.ensures) c.add_ending.ensures)))));
       long = line-long c.args.number l c.requires (omega arith) (omega arith) (omega arith) (omega arith);
     }

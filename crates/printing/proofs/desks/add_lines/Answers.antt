@@ -1,5 +1,4 @@
 -- `desks::add_lines` meets its contract. Assumes nothing.
-use mathlib.Core.Path.{refl}
 use Prim.Native.Nat.{◌+◌}
 use native.Mathlib.Omega.{arith}
 use Rattle.desk_rules.specs.Lanes.{blank_line}
@@ -7,9 +6,6 @@ use Rattle.desk_rules.specs.Memory.{lines_of_desk}
 use Rattle.printing.specs.Desks.{line_text}
 use Rattle.printing.proofs.Listed.{tells, told, numbered_next, numbered-none}
 use Rattle.printing.proofs.desks.add_lines.Goals as goal
-
-pub loop-k-init : goal.loop-k-init
-loop-k-init c = record { still = refl; size = omega arith }
 
 pub loop-k-preserved : goal.loop-k-preserved
 loop-k-preserved c =

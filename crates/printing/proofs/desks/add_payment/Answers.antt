@@ -8,6 +8,6 @@ pub returns : goal.returns
 returns c =
     let l = c.args.l in
     record {
-      added = both _ _ _ (rw c.kind_text.ensures at c.add_word-to.ensures) (both _ _ _ c.add_number-to.ensures c.add_number.ensures);
+      added = both _ _ _ (rw c.kind_text.ensures at c.add_word-to.ensures) (both _ _ _ c.add_number-to.ensures (rw c.from.ensures at c.add_number.ensures));
       long = payment-long l (omega arith) (omega arith);
     }

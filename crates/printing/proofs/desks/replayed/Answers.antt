@@ -23,4 +23,4 @@ returns-in-Err c =
     rw c.in-Err.is
     (printed _ _ _ (stopped-long ls c.args.place c.in-Err.f c.add_lines-to.ensures.long (omega arith) (omega arith))
     (both _ _ _ c.add_lines-to.ensures.added
-    (both _ _ _ c.add_all-to.ensures (both _ _ _ c.add_number-to.ensures c.counted.ensures))))
+    (both _ _ _ c.add_all-to.ensures (both _ _ _ c.add_number-to.ensures (rw c.from.ensures at c.counted.ensures)))))

@@ -14,6 +14,6 @@ returns c =
       added =
           both _ _ _ c.add_hex-to.ensures
           (both _ _ _ c.add_hex-to-2.ensures
-          (both _ _ _ c.add_size-to.ensures (both _ _ _ c.add_number-to.ensures c.add_ids.ensures)));
+          (both _ _ _ c.add_size-to.ensures (both _ _ _ (rw c.from.ensures at c.add_number-to.ensures) c.add_ids.ensures)));
       long = outline-long c.args.m c.args.s.now (bytes-known _ c.type_inv.s) (omega arith) (omega arith);
     }

@@ -16,13 +16,13 @@ goes c =
     let l = c.loop-i in
     list-goes-on c.args.p.at c.args.p.bytes.now l.invariant.2 l.objects l.i l.spare _ (l.invariant.3.1 _ (c.args.p.are_bytes l.i))
     c.loop-i-test.true (part-bytes c.args.p) _
-    (field-read _ _ _ _ _ (of-part (field_located _ _) c.behind-rest.ensures c.in_ok-field.ensures)).0
+    (field-read _ _ _ _ _ (of-part (field_located _ _) c.behind-rest.ensures (rw c.from-mark.ensures at c.in_ok-field.ensures))).0
 
 lists : (c : In_ok-field)
     → (let l = c.loop-i in Listing c.args.p.at c.args.p.bytes.now l.invariant.2 l.objects l.i c.in_ok-field.field.lies c.in_ok-field.field.tally)
 lists c =
     let l = c.loop-i in
-    let (read, begins) = field-read _ _ _ _ _ (of-part (field_located _ _) c.behind-rest.ensures c.in_ok-field.ensures) in
+    let (read, begins) = field-read _ _ _ _ _ (of-part (field_located _ _) c.behind-rest.ensures (rw c.from-mark.ensures at c.in_ok-field.ensures)) in
     list-notes c.args.p.at c.args.p.bytes.now l.invariant.2 l.objects l.i _ (part-bytes c.args.p) _
     (l.invariant.3.1 _ (c.args.p.are_bytes l.i)) c.loop-i-test.true begins _ read
 
@@ -39,11 +39,11 @@ returns-in_err-field c =
     (l.invariant.4
     ∙ list-stops c.args.p.at c.args.p.bytes.now l.invariant.2 l.objects l.i l.spare _
     (l.invariant.3.1 _ (c.args.p.are_bytes l.i)) c.loop-i-test.true _
-    (field-refused _ _ _ _ _ (of-part (field_located _ _) c.behind-rest.ensures c.in_err-field.ensures)))
+    (field-refused _ _ _ _ _ (of-part (field_located _ _) c.behind-rest.ensures (rw c.from-mark.ensures at c.in_err-field.ensures))))
 
 pub overflow_add-from : goal.overflow_add-from
 overflow_add-from c =
-    let (read, begins) = field-read _ _ _ _ _ (of-part (field_located _ _) c.behind-rest.ensures c.in_ok-field.ensures) in
+    let (read, begins) = field-read _ _ _ _ _ (of-part (field_located _ _) c.behind-rest.ensures (rw c.from-mark.ensures at c.in_ok-field.ensures)) in
     let h = from-inside _ _ _ _ _ begins _ read in
     let g = goes (goal.at.overflow_add-from c).In_ok-field in
     omega arith
@@ -68,7 +68,7 @@ loop-i-preserved c =
       h.1,
       omega arith,
       _ ∷ l.invariant.2,
-      marks-more l.seen l.invariant.2 _ (c.args.p.are_bytes l.i) l.invariant.3,
+      rw c.from-mark.ensures (marks-more l.seen l.invariant.2 _ (c.args.p.are_bytes l.i) l.invariant.3),
       l.invariant.4 ∙ h.3,
       rw c.noted_all-more.ensures (noted-size _ _ _ l.invariant.5),
       rw (c.noted_all-more.ensures, c.behind-rest.ensures.at)

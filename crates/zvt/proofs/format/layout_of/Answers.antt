@@ -60,7 +60,7 @@ module _ (class instruction : ℕ) where
 
 pub returns-in-1537 : goal.returns-in-1537
 unfolding among all_in all_from any_of
-returns-in-1537 c = listed _ _ c.in-1537.is
+returns-in-1537 c = listed _ _ (rw (c.from.ensures, c.from-2.ensures) at c.in-1537.is)
 
 pub returns-in_default : goal.returns-in_default
 unfolding among all_in all_from any_of
@@ -74,7 +74,7 @@ returns-in_default-2 c =
 
 pub returns-in-1569 : goal.returns-in-1569
 unfolding among all_in all_from any_of
-returns-in-1569 c = secured _ _ (at_key (λ k. is_secured k) (0x0621 ∷ 0x0650 ∷ []) refl _ c.in-1569.is)
+returns-in-1569 c = secured _ _ (at_key (λ k. is_secured k) (0x0621 ∷ 0x0650 ∷ []) refl _ (rw (c.from.ensures, c.from-2.ensures) at c.in-1569.is))
 
 pub returns-in-1569-2 : goal.returns-in-1569-2
 unfolding among all_in all_from any_of
