@@ -1,4 +1,4 @@
-// Questions to a kind, an opening, a reference, a line and a lane: the small tables of the rules.
+// Questions to a kind, an opening, what it refers to, and a line: the small tables of the rules.
 ghost use Rattle.std.specs.Prelude.{◌≡◌, ◌^◌, ◌<◌, sum_by};
 ghost use Rattle.desk_rules.specs.Kinds.{booked};
 ghost use Rattle.desk_rules.specs.Openings.{kind_of, within_limits, refers_to, asked_by, named_by, command_size, looks_at, concerns, sold, stands, missing_no, opened_lane};

@@ -387,7 +387,7 @@ lane-exactly d i a = (λ e. subst (ShowsLane d i) e found, given)
     found : ShowsLane d i (lane_answer i d.lanes)
     found = pick-test (ShowsLane d i) (ltb i lane_count) (λ t. lane (ltb-true i 8 t)) (λ f. no_lane (ltb-false i 8 f))
 
-    given : {x : (Result Lane Refusal)} → ShowsLane d i x → lane_answer i d.lanes ≡ x
+    given : {x : Result Lane Refusal} → ShowsLane d i x → lane_answer i d.lanes ≡ x
     given (no_lane h) = rw (le-ltb i 8 h)
     given (lane h) = rw (lt-ltb i 8 h)
 
@@ -403,7 +403,7 @@ line-exactly d k a = (λ e. subst (ShowsLine d k) e found, given)
         line (take k (lines_of_desk d)) _ (split_at (lines_of_desk d) k blank_line h) (length-take-le k (lines_of_desk d) (omega arith)))
         (λ f. no_line (ltb-false k (length (lines_of_desk d)) f))
 
-    given : {x : (Option Line)} → ShowsLine d k x → line_answer k (lines_of_desk d) ≡ x
+    given : {x : Option Line} → ShowsLine d k x → line_answer k (lines_of_desk d) ≡ x
     given (no_line h) = rw (le-ltb k (length (lines_of_desk d)) h)
     given (line before after {l} e n) =
         let h : k < length (lines_of_desk d) = omega (arith, ap length e, length-append before (l ∷ after)) in

@@ -237,7 +237,7 @@ module _ {us : List TapeTurn} {e : Day} {cs : List Call} {p : List ℕ} (played 
       cut-so = by-test (eqb (n % 512) 0) (λ t. rw t (between_blocks (eqb-true (n % 512) 0 t))) (λ t. rw t (within_a_block (eqb-false (n % 512) 0 t)))
 
   -- ---- lines are only added
-  pub front-lines : {q : List ℕ} {m : ℕ} {x : (Result (Unit {0}) Refusal)} {r : Replayed} → Back us cs q m x r
+  pub front-lines : {q : List ℕ} {m : ℕ} {x : Result (Unit {0}) Refusal} {r : Replayed} → Back us cs q m x r
       → (j : ℕ) × (lines_of_desk r.desk ≡ take j (lines_of_desk e.taped.desk))
   front-lines {r = r} b =
       let before = b.before in

@@ -133,7 +133,7 @@ module _ (s : List ℕ) (b : Bytes s) where
     pub no-place-found : (get_or (places_answer ids s).fields j None ≡ None) ↔ ((p : Span) → StandsBy s (get_or ids j 0) p → ⊥)
     no-place-found = rw (heard.place-named ids s j h) (heard.nowhere-exactly (get_or ids j 0) s b)
 
-  -- The password is placed where it lies, at the start of the body, and nowhere if it is empty,
+  -- The password is placed where it lies, at the start of the body, and has no place if it is empty,
   pub password-found : (ids : List ℕ) (m : Message) (password : List ℕ) (fs : List Field) → Is s m → m.body ≡ listed password fs
       → (password ≡ [] → (places_answer ids s).password ≡ None)
       × ((password ≡ [] → ⊥)

@@ -111,10 +111,10 @@ module _ (at end : ℕ) (s : List ℕ) (b : Bytes s) (h : ListIn at end s) (n : 
   first-never r e = never (cc (first-in at end s b h (omega (arith, h.order))).read)
 
 -- ---- what stands at a place says of the whole list
-pub field-here : {at e : ℕ} {s : List ℕ} {r : (Option Listed)} {l : Listed} → StandsAt at e s r → r ≡ Some l → FieldHere at e s l
+pub field-here : {at e : ℕ} {s : List ℕ} {r : Option Listed} {l : Listed} → StandsAt at e s r → r ≡ Some l → FieldHere at e s l
 field-here {l = l} (field {l = k} h) e = let same : k ≡ l = cc in rw same at h
 field-here (none h) e = never cc
 
-pub none_here : {at e : ℕ} {s : List ℕ} {r : (Option Listed)} → StandsAt at e s r → r ≡ None → listed_in at e s ≡ []
+pub none_here : {at e : ℕ} {s : List ℕ} {r : Option Listed} → StandsAt at e s r → r ≡ None → listed_in at e s ≡ []
 none_here (field h) e = never cc
 none_here (none h) e = h

@@ -147,7 +147,7 @@ with-bounds at k s l = ap as_bounds (unless-then _ _ _ _)
 pub record Started (at k size v : ℕ) (s : List ℕ) : Type 0 where
   pub first : 1 ≤ k
   pub start : k + size ≤ length s
-  pub answer : {run : Bool} {x : (Result Bounds Refusal)} → nested (get_or s 0 0) ≡ run → x ≡ within at k (k + size) v run s → x ≡ head_answer at s
+  pub answer : {run : Bool} {x : Result Bounds Refusal} → nested (get_or s 0 0) ≡ run → x ≡ within at k (k + size) v run s → x ≡ head_answer at s
 
 module _ (at k : ℕ) (s : List ℕ) (tag : tag_answer at s ≡ Ok k) where
   past-tag : head_of at s ≡ and_then (len_of (at + k) (drop k s)) (λ l. head_with at s k l)

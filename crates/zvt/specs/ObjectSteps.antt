@@ -10,7 +10,7 @@ use Rattle.zvt.specs.declared.objects.Tally.{Tally}
 use Rattle.zvt.specs.declared.objects.Located.{Located}
 use Rattle.zvt_rules.specs.declared.Refusal.{Refusal}
 
--- a reading as each enum gives it
+-- a reading as the code answers it
 unfoldable pub as_tag : Reading ℕ → Result ℕ Refusal
 as_tag (got k) = Ok k
 as_tag (refused r) = Err r

@@ -145,7 +145,7 @@ part-there at password rest s e =
     let size : at + length password - at ≡ length password = omega arith in
     rw (size, e) (take-append_seam password rest)
 
--- a password lies at the start of the body, and none lies nowhere
+-- a password lies at the start of the body, and an empty one has no place
 pub password-place : (ids s : List ℕ) (m : Message) (password : List ℕ) (fs : List Field) → Bytes s → Is s m → m.body ≡ listed password fs
     → (password ≡ [] → (places_answer ids s).password ≡ None)
     × ((password ≡ [] → ⊥)
