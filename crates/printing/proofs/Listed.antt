@@ -7,9 +7,18 @@ use native.Mathlib.Numerals.{add-one}
 use native.Mathlib.Omega.{arith}
 use lib.ListN.{length, get_or, drop, length-append, drop_of_length-le}
 use lib.Seq.{drop-cons, take_at, drop_at}
+use lib.Dec.{ltb}
+use borrow.Author.Tests.{lt-ltb, ltb-true, ltb-false}
+use Rattle.std.proofs.Common.{Err, None, Ok, Some}
 use Rattle.basics.specs.Text.{Text, text, add_all}
 use Rattle.basics.specs.Lists.{numbered}
+use Rattle.basics.proofs.Tests.{by-test, never}
 use Rattle.buffers.proofs.TextLaws.{add_all-append}
+use Rattle.desk_rules.specs.Lanes.{blank_line, idle_lane}
+use Rattle.desk_rules.specs.Memory.{line_answer, lane_answer}
+use Rattle.desk_rules.specs.declared.Line.{Line}
+use Rattle.desk_rules.specs.declared.Lane.{Lane}
+use Rattle.zvt_rules.specs.declared.Refusal.{Refusal}
 use Rattle.printing.specs.Answers.{bytes_line}
 use Rattle.printing.specs.Desks.{blocks_text}
 
@@ -44,6 +53,37 @@ module _ {A : Type 0} (line : ℕ → A → List ℕ) (first k : ℕ) (xs : List
   pub numbered-none : length xs ≤ k → numbered line first (drop k xs) ≡ []
   unfolding numbered
   numbered-none h = rw (drop_of_length-le xs h)
+
+-- by what the desk answers of a line
+module _ (line : ℕ → Line → List ℕ) (first k : ℕ) (ls : List Line) where
+  pub line-next : (l : Line) → line_answer k ls ≡ Some l
+      → numbered line first (drop k ls) ≡ line first l ++ numbered line (first + 1) (drop (k + 1) ls)
+  unfolding line_answer
+  line-next l e =
+      by-test (ltb k (length ls))
+      (λ t.
+      let is : get_or ls k blank_line ≡ l = cc (rw t at e) in
+      numbered_next line first k ls blank_line (ltb-true k (length ls) t)
+      ∙ ap (λ (x : Line). line first x ++ numbered line (first + 1) (drop (k + 1) ls)) is)
+      (λ t. let f = rw t at e in never (cc))
+
+  pub line-none : line_answer k ls ≡ None → numbered line first (drop k ls) ≡ []
+  unfolding line_answer
+  line-none e =
+      by-test (ltb k (length ls)) (λ t. let f = rw t at e in never (cc)) (λ t. numbered-none line first k ls (ltb-false k (length ls) t))
+
+-- and of one of the eight lanes
+module _ (i : ℕ) (ls : List Lane) (h : i < 8) where
+  pub lane-next : (line : ℕ → Lane → List ℕ) (l : Lane) → length ls ≡ 8 → lane_answer i ls ≡ Ok l
+      → numbered line i (drop i ls) ≡ line i l ++ numbered line (i + 1) (drop (i + 1) ls)
+  unfolding lane_answer
+  lane-next line l eight e =
+      let is : get_or ls i idle_lane ≡ l = cc (rw (lt-ltb i 8 h) at e) in
+      numbered_next line i i ls idle_lane (omega arith) ∙ ap (λ (x : Lane). line i x ++ numbered line (i + 1) (drop (i + 1) ls)) is
+
+  pub lane-there : {X : Type 0} (r : Refusal) → lane_answer i ls ≡ Err r → X
+  unfolding lane_answer
+  lane-there r e = let f = rw (lt-ltb i 8 h) at e in never (cc)
 
 -- the blocks of bytes that begin with one
 pub blocks-next : (b s : List ℕ) → length b ≡ 512 → blocks_text (length (b ++ s) / 512) (b ++ s) ≡ bytes_line b ++ blocks_text (length s / 512) s

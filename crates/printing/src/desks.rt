@@ -76,9 +76,11 @@ fn add_lines(desk: Desk, out: &mut [u8]) -> usize
     ensures long { length (lines_text (lines_of_desk desk)) ≤ 64 * 76 }
 {
     let mut to: usize = 0;
-    let lines = &desk.book.lines[..desk.book.count];
-    for (k, l) in lines.iter().enumerate() {
-        to = add_line(k as u64 + 1, *l, to, out);
+    for k in 0..Book::LINES {
+        let Some(l) = desk::line_at(desk, k) else {
+            return to;
+        };
+        to = add_line(k as u64 + 1, l, to, out);
     }
     to
 }
@@ -195,8 +197,11 @@ pub fn lanes(desk: Desk, out: &mut [u8]) -> usize
     ensures { Printed lanes_room (lanes_text desk.lanes) result out.old out.new }
 {
     let mut to: usize = 0;
-    for (lane, l) in desk.lanes.iter().enumerate() {
-        to = add_lane(lane as u8, *l, to, out);
+    for lane in 0..Lane::COUNT {
+        let Ok(l) = desk::lane_at(desk, lane) else {
+            return to;
+        };
+        to = add_lane(lane, l, to, out);
     }
     to
 }

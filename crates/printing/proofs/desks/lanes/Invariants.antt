@@ -9,4 +9,4 @@ use Rattle.printing.proofs.desks.lanes.Given as goal
 
 abbrev pub invariant-loop-lane : goal.invariant-loop-lane
 invariant-loop-lane l =
-    let ls = l.fn.desk.lanes in Telling (lanes_text ls) l.initial.out (numbered lane_text l.lane (drop l.lane ls)) (76 * l.lane) l.to l.out
+    let ls = l.desk.lanes in Telling (lanes_text ls) l.initial.out (numbered lane_text l.lane (drop l.lane ls)) (76 * l.lane) l.to l.out
