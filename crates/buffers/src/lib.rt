@@ -53,7 +53,8 @@ pub fn add(b: u8, at: usize, out: &mut [u8]) -> usize
 pub fn add_all(v: &[u8], at: usize, out: &mut [u8]) -> usize
     ensures { text result out.new ≡ add_all v.now (text at out.old) }
 {
-    if out.len() < at {
+    // With room for a byte at least, a text of one byte is a store, and no call to copy.
+    if out.len() <= at {
         return at;
     }
     at + copy(v, &mut out[at..])
@@ -67,11 +68,11 @@ fn digit(d: u8) -> u8
 }
 
 // Two digits in capital hex.
-#[tactic(auto, unfolding(basics::specs::Text::hex_text))]
 pub fn add_hex(b: u8, at: usize, out: &mut [u8]) -> usize
     ensures { text result out.new ≡ add_all (hex_text b) (text at out.old) }
 {
-    add_all(&[digit(b / 16), digit(b % 16)], at, out)
+    let to = add(digit(b / 16), at, out);
+    add(digit(b % 16), to, out)
 }
 
 // Bytes as hex, `-` for none.

@@ -23,7 +23,8 @@ pub(crate) fn number(s: &[u8]) -> u64
 {
     let mut v: u64 = 0;
     for &b in s {
-        v = v * 100 + u64::from(b / 16 * 10 + b % 16);
+        let two = u64::from(b);
+        v = v * 100 + (two / 16 * 10 + two % 16);
     }
     v
 }

@@ -14,7 +14,7 @@ pub loop-b-preserved : goal.loop-b-preserved
 loop-b-preserved c =
     let l = c.loop-b in
     let s = c.args.s.now in
-    rw c.from.ensures (omega arith, sym (number_step s l.b-index l.v (omega arith)) ∙ l.invariant.1, small-step l.b-index l.v (get_or s l.b-index 0) (omega (arith, c.type_inv.s l.b-index)) l.invariant.2)
+    rw c.from-two.ensures (omega arith, sym (number_step s l.b-index l.v (omega arith)) ∙ l.invariant.1, small-step l.b-index l.v (get_or s l.b-index 0) (omega (arith, c.type_inv.s l.b-index)) l.invariant.2)
 
 pub returns : goal.returns
 returns c = let l = c.loop-b in let s = c.args.s.now in sym (number-end s l.b-index l.v (omega arith)) ∙ l.invariant.1
