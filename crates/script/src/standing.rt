@@ -4,10 +4,10 @@ use buffers::add_all;
 use printing::answers;
 use words::Script;
 
-// So many times the bytes s, behind the first at bytes of out.
+// So many times the bytes s, behind the first at bytes of out. After as many times as out has bytes nothing more is added.
 fn repeated(s: &[u8], times: u64, at: usize, out: &mut [u8]) -> usize {
     let mut to = at;
-    for _ in 0..times {
+    for _ in 0..times.min(out.len() as u64) {
         to = add_all(s, to, out);
     }
     to
