@@ -1,5 +1,5 @@
 -- Laws of the words of a line. Assumes nothing.
-use Rattle.std.proofs.Common.{◌≡◌, ℕ, List, [], ◌∷◌, get_or, take, refl, ap, ◌∙◌, arith}
+use Rattle.std.proofs.Common.{◌≡◌, ℕ, ◌+◌, ◌-◌, List, [], ◌∷◌, get_or, take, drop, refl, sym, ap, ◌∙◌, arith}
 use Rattle.std.specs.Prelude.{◌==◌, count_by}
 use Rattle.std.specs.List.{slice_split, onto_first}
 use Rattle.std.proofs.lemmas.List.Splits.{length-slice_split}
@@ -24,3 +24,9 @@ first_word [] = refl
 first_word (b ∷ s) =
     by-test (eqb b 32) (λ t. rw t)
     (λ t. rw t (first_of b (slice_split (λ c. c == 32) s) ∙ ap (λ (w : List ℕ). b ∷ w) (first_word s)))
+
+pub word-found : (s : List ℕ) (k from to : ℕ) → to ≡ from + index_of 32 (drop from s) → word_of 0 (drop from s) ≡ word_of k s
+    → take (to - from) (drop from s) ≡ word_of k s
+word-found s k from to e f =
+    let size : to - from ≡ index_of 32 (drop from s) = omega (arith, e) in
+    rw size (sym (first_word (drop from s)) ∙ f)
